@@ -1,6 +1,7 @@
 ghost use Rattle.std.specs.Prelude.{◌≡◌, IfOk};
 
-use crate::sequence::{Bytes, EventTypes, HandleList, Pids, Ranges};
+use crate::payload::Payload;
+use crate::sequence::{EventTypes, HandleList, Pids, Ranges};
 use std::alloc::AllocError;
 
 /// A command of a host. The fields are those of its submission queue entry; `docs/DRIVE.md` has the table.
@@ -91,15 +92,6 @@ pub enum Command {
     },
 }
 
-/// What a write carries.
-#[derive(Clone, Debug, Drop, PartialEq, Eq)]
-pub enum Payload {
-    /// Block `i` is the 32-bit number `seed + i`, low byte first, over and over.
-    Pattern(u32),
-    /// The bytes of all blocks, one after another.
-    Bytes(Bytes),
-}
-
 /// `length` blocks from `slba` on.
 #[derive(Clone, Copy, Debug, PartialEq, Eq)]
 pub struct Range {
@@ -108,6 +100,30 @@ pub struct Range {
 }
 
 impl Command {
+    ghost use Rattle.fdp_base.specs.Output.{word_of};
+
+    /// The word of the command in traces and in printed completions; `entry` for one that the drive does not serve.
+    pub fn word(&self) -> &'static str
+        ensures { result.now ≡ word_of self.now }
+    {
+        match self {
+            Command::Write { .. } => "write",
+            Command::Read { .. } => "read",
+            Command::Zero { .. } => "zero",
+            Command::Dealloc { .. } => "dealloc",
+            Command::Flush { .. } => "flush",
+            Command::Delete { .. } => "delete",
+            Command::Status { .. } => "status",
+            Command::Update { .. } => "update",
+            Command::Log { .. } => "log",
+            Command::SetFdp { .. } => "set-fdp",
+            Command::GetFdp { .. } => "get-fdp",
+            Command::SetEvents { .. } => "set-events",
+            Command::Create { .. } => "create",
+            Command::Other { .. } => "entry",
+        }
+    }
+
     /// A second copy. It fails only for want of memory.
     pub fn copied(&self) -> Result<Command, AllocError>
         ensures { IfOk result (λ copy. copy ≡ self.now) }

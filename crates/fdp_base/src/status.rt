@@ -1,6 +1,4 @@
-ghost use Rattle.std.specs.Prelude.{◌≡◌, ◌++◌, Some, codes};
-ghost use Rattle.fdp_base.specs.Text.{hex};
-
+use crate::text::hex_digit;
 use std::fmt;
 
 /// The status of a completion: status code type and status code (NVM Express Base Specification 2.1,
@@ -41,9 +39,18 @@ impl Status {
     pub const UNRECOVERED_READ_ERROR: Status = Status { sct: 2, sc: 0x81 };
 }
 
-/// One hexadecimal digit of type, a slash, two digits of code.
+/// One hexadecimal digit of the type, a slash, two of the code.
 impl fmt::Display for Status {
+    ghost use Rattle.std.specs.Prelude.{Some};
+    ghost use Rattle.fdp_base.specs.Output.{status_text};
+
+    ghost output = { λ status. Some (status_text status) };
+
+    #[tactic(auto, unfolding(crate::specs::Text::hex))]
     fn fmt<W: fmt::Write>(&self, f: &mut fmt::Formatter<W>) -> fmt::Result {
-        write!(f, "{:x}/{:02x}", self.sct, self.sc)
+        let kind = char::from(hex_digit(self.sct % 16));
+        let high = char::from(hex_digit(self.sc / 16));
+        let low = char::from(hex_digit(self.sc % 16));
+        write!(f, "{kind}/{high}{low}")
     }
 }
