@@ -1,1 +1,4 @@
+pub mod Config
+pub mod Geometry
+pub mod Placement
 pub mod Text
