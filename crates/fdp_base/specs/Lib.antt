@@ -1,3 +1,6 @@
+pub mod Config
+pub mod Geometry
+pub mod Placement
 pub mod Text
 pub mod Pattern
 pub mod Spare
