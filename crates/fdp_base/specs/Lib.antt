@@ -1,3 +1,4 @@
+pub mod Counts
 pub mod Config
 pub mod Geometry
 pub mod Placement

@@ -1,0 +1,45 @@
+use crate::bench::{Bench, TextRead};
+use std::fs::File;
+use std::io::{ErrorKind, Read};
+use std::rt::Files;
+
+/// A bench over the files of the system. It does not tell what they hold.
+#[derive(Drop)]
+pub struct BenchFile<R: Files + Drop> {
+    files: R,
+    faults: u64,
+}
+
+impl<R: Files + Drop> BenchFile<R> {
+    pub fn new(files: R) -> BenchFile<R> {
+        BenchFile { files, faults: 0 }
+    }
+}
+
+impl<R: Files + Drop> Bench for BenchFile<R> {
+    ghost use Rattle.std.specs.Prelude.{false, None};
+
+    ghost state = { λ bench. record { faults = bench.faults; told = false; text = λ _. None } };
+
+    fn faults(&self) -> u64 {
+        self.faults
+    }
+
+    fn read_text(&mut self, name: &str, into: &mut Vec<u8>, limit: u64) -> TextRead {
+        into.clear();
+        let answer = match File::open(&self.files, name) {
+            Ok(file) => match file.take(limit.saturating_add(1)).read_to_end(into) {
+                Ok(_) if into.len() as u64 > limit => TextRead::TooLong,
+                Ok(_) => TextRead::Done,
+                Err(error) if error.kind() == ErrorKind::OutOfMemory => TextRead::NoMemory,
+                Err(_) => TextRead::Failed,
+            },
+            Err(error) if error.kind() == ErrorKind::NotFound => TextRead::Missing,
+            Err(_) => TextRead::Failed,
+        };
+        if answer == TextRead::Failed {
+            self.faults = self.faults.saturating_add(1);
+        }
+        answer
+    }
+}

@@ -1,0 +1,83 @@
+ghost use Rattle.std.specs.Prelude.{◌≡◌, OnOk, OnErr};
+ghost use Rattle.std.specs.Option.{option_copied};
+ghost use Rattle.fdp_io.specs.Texts.{text_named};
+
+use crate::bench::{Bench, TextRead};
+use crate::calls::Calls;
+use std::alloc::{AllocError, Global};
+
+#[derive(Debug, Drop)]
+struct Text {
+    name: String,
+    bytes: Vec<u8>,
+}
+
+/// A bench in memory: it tells its texts, and lets chosen calls fail. A read looks through the texts in order.
+#[derive(Debug, Drop)]
+pub struct BenchMem {
+    texts: Vec<Text>,
+    calls: Calls,
+}
+
+impl BenchMem {
+    ghost use Rattle.fdp_io.specs.BenchMem.{bench_state, IsEmptyBench, AddsText};
+
+    /// A bench without texts, of which the calls with these numbers, counted from 1, fail.
+    pub fn new(alloc: Global, failing: Vec<u64>) -> BenchMem
+        ensures { IsEmptyBench (bench_state result) }
+    {
+        BenchMem {
+            texts: Vec::new(alloc),
+            calls: Calls::new(failing),
+        }
+    }
+
+    /// Adds a text. Of two with one name the first counts.
+    pub fn add(&mut self, alloc: Global, name: &str, text: &[u8]) -> Result<(), AllocError>
+        ensures ok { OnOk result (AddsText (bench_state self.old) name.now text.now (bench_state self.new)) }
+        ensures err { OnErr result (bench_state self.new ≡ bench_state self.old) }
+    {
+        let name = String::from_str(alloc, name)?;
+        let bytes = Vec::from_slice(alloc, text)?;
+        self.texts.push(Text { name, bytes })?;
+        Ok(())
+    }
+}
+
+fn find<'a>(texts: &'a [Text], name: &str) -> Option<&'a [u8]>
+    ensures { option_copied result ≡ text_named name.now texts.now }
+{
+    for text in texts {
+        if text.name.as_str() == name {
+            return Some(text.bytes.as_slice());
+        }
+    }
+    None
+}
+
+impl Bench for BenchMem {
+    ghost use Rattle.fdp_io.specs.BenchMem.{bench_state};
+
+    ghost state = { bench_state };
+
+    fn faults(&self) -> u64 {
+        self.calls.faults()
+    }
+
+    fn read_text(&mut self, name: &str, into: &mut Vec<u8>, limit: u64) -> TextRead {
+        if self.calls.begin() {
+            return TextRead::Failed;
+        }
+        let Some(text) = find(&self.texts, name) else {
+            return TextRead::Missing;
+        };
+        if text.len() as u64 > limit {
+            return TextRead::TooLong;
+        }
+        into.clear();
+        match into.extend_from_slice(text) {
+            Ok(()) => TextRead::Done,
+            Err(_) => TextRead::NoMemory,
+        }
+    }
+}

@@ -1,0 +1,52 @@
+ghost use Rattle.std.specs.Prelude.{◌≡◌, ◌≤◌, IsTrue};
+ghost use Rattle.fdp_base.specs.Counts.{Rose};
+
+/// The calls of a thing in memory, and those of them that are to fail.
+#[derive(Debug, Drop)]
+pub struct Calls {
+    made: u64,
+    faults: u64,
+    failing: Vec<u64>,
+}
+
+impl Calls {
+    ghost use Rattle.fdp_io.specs.Calls.{faults_of};
+
+    /// No call yet. The calls with the numbers of `failing`, counted from 1, will fail.
+    pub fn new(failing: Vec<u64>) -> Calls
+        ensures { faults_of result ≡ 0 }
+    {
+        Calls {
+            made: 0,
+            faults: 0,
+            failing,
+        }
+    }
+
+    pub fn faults(&self) -> u64
+        ensures { result ≡ faults_of self.now }
+    {
+        self.faults
+    }
+
+    /// Counts a fault.
+    pub fn fail(&mut self)
+        ensures rose { Rose (faults_of self.old) (faults_of self.new) }
+        ensures later { faults_of self.old ≤ faults_of self.new }
+    {
+        self.faults = self.faults.saturating_add(1);
+    }
+
+    /// Begins a call, and says whether it fails, which is then counted.
+    pub fn begin(&mut self) -> bool
+        ensures fails { IsTrue result → Rose (faults_of self.old) (faults_of self.new) }
+        ensures later { faults_of self.old ≤ faults_of self.new }
+    {
+        self.made = self.made.saturating_add(1);
+        let fails = self.failing.contains(&self.made);
+        if fails {
+            self.fail();
+        }
+        fails
+    }
+}

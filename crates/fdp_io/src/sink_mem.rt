@@ -1,0 +1,64 @@
+ghost use Rattle.std.specs.Prelude.{◌≡◌, IfOk};
+
+use crate::calls::Calls;
+use crate::sink::{Sink, SinkEnd};
+use std::alloc::{AllocError, Global};
+
+/// A sink in memory: it tells what it holds, has room for so many bytes, and lets chosen calls fail.
+#[derive(Debug, Drop)]
+pub struct SinkMem {
+    bytes: Vec<u8>,
+    room: usize,
+    calls: Calls,
+}
+
+impl SinkMem {
+    ghost use Rattle.fdp_io.specs.SinkMem.{sink_state, IsEmptySink};
+
+    /// An empty sink with room for so many bytes, of which the calls with these numbers, counted from 1, fail.
+    pub fn new(alloc: Global, room: usize, failing: Vec<u64>) -> Result<SinkMem, AllocError>
+        ensures { IfOk result (λ sink. IsEmptySink (sink_state sink)) }
+    {
+        Ok(SinkMem {
+            bytes: Vec::with_capacity(alloc, room)?,
+            room,
+            calls: Calls::new(failing),
+        })
+    }
+
+    /// What it holds.
+    pub fn bytes(&self) -> &[u8]
+        ensures { result.now ≡ (sink_state self.now).bytes }
+    {
+        self.bytes.as_slice()
+    }
+}
+
+impl Sink for SinkMem {
+    ghost use Rattle.fdp_io.specs.SinkMem.{sink_state};
+
+    ghost state = { sink_state };
+
+    fn faults(&self) -> u64 {
+        self.calls.faults()
+    }
+
+    /// Takes what fits; a full sink takes nothing, which is a failure.
+    fn write(&mut self, bytes: &[u8]) -> SinkEnd {
+        if self.calls.begin() {
+            return SinkEnd::Failed;
+        }
+        let count = bytes.len().min(self.room.saturating_sub(self.bytes.len()));
+        if count == 0 && !bytes.is_empty() {
+            self.calls.fail();
+            return SinkEnd::Failed;
+        }
+        match self.bytes.extend_from_slice(&bytes[..count]) {
+            Ok(()) => SinkEnd::Took(count),
+            Err(_) => {
+                self.calls.fail();
+                SinkEnd::Failed
+            }
+        }
+    }
+}
