@@ -1,5 +1,5 @@
 -- What each answer of a flash says.
-use Rattle.std.specs.Prelude.{◌≡◌, ◌≢◌, ◌⊎◌, ℕ, ◌+◌, ◌*◌, ◌<◌, ◌≤◌, Bool, true, false, IsTrue, List, slice_get, Some}
+use Rattle.std.specs.Prelude.{◌≡◌, ◌≢◌, ℕ, ◌<◌, ◌≤◌, Bool, true, false, IsTrue, List, slice_get, Some}
 use Rattle.fdp_base.specs.declared.entry.Spot.{Spot}
 use Rattle.fdp_flash.specs.declared.answer.Fetched.{Fetched}
 use Rattle.fdp_flash.specs.declared.answer.Fetched.TheVariants as fetched
@@ -10,7 +10,7 @@ use Rattle.fdp_flash.specs.declared.answer.Wrote.{Wrote}
 use Rattle.fdp_flash.specs.declared.answer.Wrote.TheVariants as wrote
 use Rattle.fdp_flash.specs.declared.cell.Cell.TheVariants.{Blank, Torn, Whole}
 use Rattle.fdp_flash.specs.Cells.{IsProgrammed, IsErased, ProgramMayLeave, EraseMayLeave}
-use Rattle.fdp_flash.specs.FlashState.{FlashState, Call, Ends, Reads, counted}
+use Rattle.fdp_flash.specs.FlashState.{FlashState, Ends, Reads, counted}
 use Rattle.fdp_flash.specs.Layout.{page_number, data_unit_count}
 
 -- whether a look failed

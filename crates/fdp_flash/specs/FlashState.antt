@@ -1,5 +1,5 @@
 -- What contracts see of a flash, and what each call does to it.
-use Rattle.std.specs.Prelude.{◌≡◌, ◌≢◌, ◌⊎◌, ℕ, ◌+◌, ◌-◌, ◌*◌, ◌^◌, ◌<◌, ◌≤◌, min, Bool, true, false, IsTrue, List, [], ◌∷◌, ◌++◌, length, slice_get, Some}
+use Rattle.std.specs.Prelude.{◌≡◌, ℕ, ◌+◌, ◌-◌, ◌^◌, ◌<◌, ◌≤◌, min, Bool, true, false, IsTrue, List, [], ◌∷◌, ◌++◌, length, slice_get, Some}
 use Rattle.fdp_base.specs.declared.config.Geometry.{Geometry}
 use Rattle.fdp_base.specs.declared.entry.Spot.{Spot}
 use Rattle.fdp_flash.specs.declared.answer.Operation.{Operation}
@@ -43,12 +43,13 @@ pub record Faulted (old new : FlashState) : Type 0 where
   pub rose : counted old.faults ≤ new.faults
   pub unreliable : old.reliable ≡ false
 
--- A call was made: the moment rose, and what was told of earlier moments is as it was.
+-- A call was made: the moment rose, no count fell, and what was told of earlier moments is as it was.
 pub record Begins (old new : FlashState) : Type 0 where
   pub geometry : new.geometry ≡ old.geometry
   pub moment : new.moment ≡ counted old.moment
   pub later : old.moment ≤ new.moment
   pub faults : old.faults ≤ new.faults
+  pub programs : old.programs ≤ new.programs
   pub reliable : new.reliable ≡ old.reliable
   pub told : new.told ≡ old.told
   pub tells_images : new.tells_images ≡ old.tells_images
