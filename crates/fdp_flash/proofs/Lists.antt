@@ -1,0 +1,28 @@
+-- Elements of lists by their index.
+use Rattle.std.proofs.Common.{◌≡◌, ◌≢◌, ℕ, zero, suc, ◌<◌, List, [], ◌∷◌, ◌++◌, length, slice_set, Some, arith, refl, ap}
+use Rattle.std.specs.List.{slice_get}
+
+-- the element that was written
+pub slice_get-set_same : {X : Type 0} → (xs : List X) (i : ℕ) (x : X) → i < length xs → slice_get (slice_set xs i x) i ≡ Some x
+slice_get-set_same [] i x h = absurd (omega arith)
+slice_get-set_same (y ∷ ys) zero x h = refl
+slice_get-set_same (y ∷ ys) (suc i) x h = slice_get-set_same ys i x (omega arith)
+
+-- an element that was not written
+pub slice_get-set_other : {X : Type 0} → (xs : List X) (i j : ℕ) (x : X) → j ≢ i → slice_get (slice_set xs i x) j ≡ slice_get xs j
+slice_get-set_other [] i j x h = refl
+slice_get-set_other (y ∷ ys) zero zero x h = absurd (h refl)
+slice_get-set_other (y ∷ ys) zero (suc j) x h = refl
+slice_get-set_other (y ∷ ys) (suc i) zero x h = refl
+slice_get-set_other (y ∷ ys) (suc i) (suc j) x h = slice_get-set_other ys i j x (λ e. h (ap suc e))
+
+-- an element of the first of two lists
+pub slice_get-append : {X : Type 0} → (xs ys : List X) (i : ℕ) (x : X) → slice_get xs i ≡ Some x → slice_get (xs ++ ys) i ≡ Some x
+slice_get-append [] ys i x h = cc
+slice_get-append (y ∷ xs) ys zero x h = h
+slice_get-append (y ∷ xs) ys (suc i) x h = slice_get-append xs ys i x h
+
+-- the element that was put behind a list
+pub slice_get-append_last : {X : Type 0} → (xs : List X) (x : X) → slice_get (xs ++ x ∷ []) (length xs) ≡ Some x
+slice_get-append_last [] x = refl
+slice_get-append_last (y ∷ xs) x = slice_get-append_last xs x

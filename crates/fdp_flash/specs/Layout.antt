@@ -1,0 +1,36 @@
+-- How the units and pages of a flash are numbered.
+use Rattle.std.specs.Prelude.{◌≡◌, ◌⊎◌, ℕ, ◌+◌, ◌*◌, ◌^◌, ◌<◌, ◌≤◌}
+use Rattle.fdp_base.specs.declared.config.Geometry.{Geometry}
+use Rattle.fdp_base.specs.declared.entry.Spot.{Spot}
+
+-- the units of data of all reclaim groups
+abbrev pub data_unit_count : Geometry → ℕ
+data_unit_count g = g.groups * g.units
+
+-- the units of data and those of the two system areas
+abbrev pub unit_count : Geometry → ℕ
+unit_count g = data_unit_count g + 2 * g.area_units
+
+-- the pages of all units
+abbrev pub page_count : Geometry → ℕ
+page_count g = unit_count g * g.unit_pages
+
+-- the number of the first page of a unit
+abbrev pub first_page : Geometry → ℕ → ℕ
+first_page g unit = unit * g.unit_pages
+
+-- the number of a page
+abbrev pub page_number : Geometry → Spot → ℕ
+page_number g at = first_page g at.unit + at.page
+
+-- a block of 512 or 4,096 bytes, units of 2 to 256 pages, and at most 262,144 pages in all
+pub record IsGeometry (g : Geometry) : Type 0 where
+  pub block : (g.block ≡ 512) ⊎ (g.block ≡ 4096)
+  pub least : 2 ≤ g.unit_pages
+  pub most : g.unit_pages ≤ 256
+  pub pages : page_count g ≤ 2 ^ 18
+
+-- the unit is one of the flash, and the page one of the unit
+pub record IsIn (g : Geometry) (at : Spot) : Type 0 where
+  pub unit : at.unit < unit_count g
+  pub page : at.page < g.unit_pages

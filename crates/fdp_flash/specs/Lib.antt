@@ -1,0 +1,5 @@
+pub mod Answers
+pub mod Cells
+pub mod FlashState
+pub mod Layout
+pub mod Runs

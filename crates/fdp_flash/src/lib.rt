@@ -1,0 +1,10 @@
+//! The flash of the drive: pages that are blank, torn or whole, and the calls that read, program and erase them.
+#![tactic(auto)]
+
+mod answer;
+mod cell;
+mod flash;
+
+pub use answer::{Fetched, Operation, Seen, Wrote};
+pub use cell::Cell;
+pub use flash::Flash;
