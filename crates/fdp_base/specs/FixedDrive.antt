@@ -109,11 +109,11 @@ block_of (commands.SetEvents nsid handle enable types) = []
 block_of (commands.Create size given list) = []
 block_of (commands.Other admin opcode flags feature) = []
 
--- why a command is refused: its address is past the end, then, for a write, all pages are used
-abbrev pub refusal : FixedState → Command → Option Status
-refusal s command =
+-- why a command is refused, with so many pages programmed: its address is past the end, or it writes and no page is left
+abbrev pub refusal : ℕ → Command → Option Status
+refusal programmed command =
     if nat_le FIXED_BLOCKS (address_of command) then Some statuses.LBA_OUT_OF_RANGE
-    else (if is_write command && nat_le FIXED_PAGES s.programmed then Some statuses.CAPACITY_EXCEEDED else None)
+    else (if is_write command && nat_le FIXED_PAGES programmed then Some statuses.CAPACITY_EXCEEDED else None)
 
 -- a reply without data and without a change
 abbrev pub bare : Status → Reply
@@ -142,9 +142,9 @@ IsNewMoment s moment = Contains s.media moment → ⊥
 -- the reply to a read
 abbrev pub IsReadReply : Bool → FixedState → Command → Reply → ℕ → Type 0
 IsReadReply told s command reply moment =
-    ((status : Status) × (refusal s command ≡ Some status) × (reply ≡ bare status))
-    ⊎ ((refusal s command ≡ None) × IsRead told s (address_of command) reply)
-    ⊎ ((refusal s command ≡ None) × IsNewMoment s moment × (reply ≡ bare statuses.UNRECOVERED_READ_ERROR))
+    ((status : Status) × (refusal s.programmed command ≡ Some status) × (reply ≡ bare status))
+    ⊎ ((refusal s.programmed command ≡ None) × IsRead told s (address_of command) reply)
+    ⊎ ((refusal s.programmed command ≡ None) × IsNewMoment s moment × (reply ≡ bare statuses.UNRECOVERED_READ_ERROR))
 
 -- a write is going, with this number and this command
 pub record IsGoing (s : FixedState) (number : ℕ) (command : Command) (g : Going) : Type 0 where
@@ -160,7 +160,7 @@ IsEnd s g reply moment = MatchBool g.is_placed (reply ≡ written) (IsNewMoment 
 abbrev pub IsWriteReply : FixedState → ℕ → Command → Reply → ℕ → Type 0
 IsWriteReply s number command reply moment =
     ((g : Going) × IsGoing s number command g × IsEnd s g reply moment)
-    ⊎ (((g : Going) → IsGoing s number command g → ⊥) × (status : Status) × (refusal s command ≡ Some status) × (reply ≡ bare status))
+    ⊎ (((g : Going) → IsGoing s number command g → ⊥) × (status : Status) × (refusal s.programmed command ≡ Some status) × (reply ≡ bare status))
 
 pub record IsHost (told : Bool) (s : FixedState) (queue number : ℕ) (command : Command) (reply : Reply) (moment : ℕ) : Type 0 where
   pub queue_is : queue ≡ 1
@@ -171,7 +171,7 @@ pub record IsStarted (s : FixedState) (queue : ℕ) (command : Command) (rg ruh 
   pub queue_is : queue ≡ 1
   pub served : IsServed command
   pub write : IsTrue (is_write command)
-  pub accepted : refusal s command ≡ None
+  pub accepted : refusal s.programmed command ≡ None
   pub group : rg ≡ 0
   pub handle : ruh ≡ 0
   pub valid : IsTrue pid_valid

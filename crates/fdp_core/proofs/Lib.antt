@@ -1,0 +1,4 @@
+pub mod PagesMore
+pub mod Steps
+pub mod Added
+pub mod Fresh

@@ -1,0 +1,94 @@
+-- A group as contracts see it, and what each step does.
+use Rattle.std.specs.Prelude.{◌≡◌, ℕ, zero, suc, ◌+◌, ◌≤◌, Bool, true, false, IsTrue, List, [], ◌∷◌, ◌++◌, length, Some}
+use Rattle.fdp_base.specs.declared.command.Command.{Command}
+use Rattle.fdp_base.specs.declared.entry.Entry.{Entry}
+use Rattle.fdp_base.specs.declared.entry.Entry.TheVariants as entries
+use Rattle.fdp_base.specs.Counts.{counted}
+use Rattle.fdp_base.specs.FixedDrive.{FixedState, Going, IsLegal, is_media}
+use Rattle.fdp_base.specs.Totals.{media_blocks}
+use Rattle.fdp_flash.specs.FlashState.{FlashState, Faulted}
+use Rattle.fdp_core.specs.declared.answer.Begun.{Begun}
+use Rattle.fdp_core.specs.declared.answer.Begun.TheVariants as begun
+use Rattle.fdp_core.specs.declared.answer.Done.{Done}
+use Rattle.fdp_core.specs.declared.answer.Placed.{Placed}
+use Rattle.fdp_core.specs.declared.answer.Placed.TheVariants as placed
+use Rattle.fdp_core.specs.declared.answer.Ticket.{Ticket}
+use Rattle.fdp_core.specs.Pages.{cells_of}
+
+pub record Seen (F : Type 0) : Type 0 where
+  -- the history
+  pub entries : List Entry
+  -- the steps for which there is room, and the steps that were made
+  pub spare : ℕ
+  pub spent : ℕ
+  -- whether a flash call failed
+  pub failed : Bool
+  pub flash : F
+
+-- a count after so many more
+unfoldable pub counted_more : ℕ → ℕ → ℕ
+counted_more count zero = count
+counted_more count (suc n) = counted (counted_more count n)
+
+-- the flash is the same one: no count fell
+pub record IsKept (old new : FlashState) : Type 0 where
+  pub geometry : new.geometry ≡ old.geometry
+  pub told : new.told ≡ old.told
+  pub reliable : new.reliable ≡ old.reliable
+  pub moment : old.moment ≤ new.moment
+  pub faults : old.faults ≤ new.faults
+
+-- the flash before and after calls that added these entries to the history before them: its programs are the Placed
+-- entries, and where no call failed and the cells are told they are what the history placed
+pub record Matches (old new : FlashState) (before es : List Entry) (failed : Bool) : Type 0 where
+  pub kept : IsKept old new
+  pub programs : new.programs ≡ counted_more old.programs (media_blocks es)
+  pub fault : IsTrue failed → Faulted old new
+  pub no_fault : failed ≡ false → new.faults ≡ old.faults
+  pub cells : failed ≡ false → IsTrue new.told → new.cells ≡ cells_of (before ++ es)
+
+-- a step adds these entries: the history stays legal, and the flash matches it
+pub record Adds {F : Type 0} (state : F → FlashState) (old new : Seen F) (es : List Entry) : Type 0 where
+  pub entries_are : new.entries ≡ old.entries ++ es
+  pub legal : IsLegal (state new.flash).told new.entries
+  pub spare_is : new.spare + 1 ≡ old.spare
+  pub spent_is : new.spent ≡ old.spent + 1
+  pub flash_is : Matches (state old.flash) (state new.flash) old.entries es new.failed
+
+-- A step completes a command: it adds its Host entry, behind other entries. The group has failed exactly where the
+-- reply tells of a media error.
+pub record Completes {F : Type 0} (state : F → FlashState) (old new : Seen F) (number : ℕ) (command : Command) (before : List Entry) (done : Done) : Type 0 where
+  pub step : Adds state old new (before ++ entries.Host 1 number command done.reply done.moment ∷ [])
+  pub position_is : done.position ≡ length new.entries
+  pub moment_is : done.moment ≡ (state new.flash).moment
+  pub failed_is : new.failed ≡ is_media done.reply.status
+
+-- the first step of a command completes it or, for a write, starts it
+abbrev pub Begins : {F : Type 0} → (F → FlashState) → Seen F → Seen F → ℕ → Command → Begun → Type 0
+Begins state old new number command (begun.Ended done) = Completes state old new number command [] done
+Begins state old new number command (begun.Going ticket) =
+    Adds state old new (entries.Started 1 number command 0 0 true ∷ [])
+    × (ticket ≡ record { queue = 1; number = number; position = length new.entries })
+    × (new.failed ≡ false)
+
+-- a step places the page of a write, or completes the write after its handle was shut
+abbrev pub Places : {F : Type 0} → (F → FlashState) → Seen F → Seen F → Ticket → Going → Placed → Type 0
+Places state old new ticket g (placed.More next) = ⊥
+Places state old new ticket g (placed.Ready next) =
+    ((unit page : ℕ) × Adds state old new (entries.Placed ticket.position 0 unit page ∷ []))
+    × (next ≡ ticket)
+    × (new.failed ≡ false)
+Places state old new ticket g (placed.Ended done) = Completes state old new g.number g.command (entries.Shut 0 0 ∷ []) done
+
+-- the ticket is that of the write that is going, whose page is placed or not
+pub record IsTicketOf (s : FixedState) (ticket : Ticket) (is_placed : Bool) : Type 0 where
+  pub going : Going
+  pub going_is : s.going ≡ Some going
+  pub queue_is : ticket.queue ≡ 1
+  pub number_is : going.number ≡ ticket.number
+  pub position_is : going.ticket ≡ ticket.position
+  pub placed_is : going.is_placed ≡ is_placed
+
+-- no write with this number is going
+abbrev pub IsFree : FixedState → ℕ → Type 0
+IsFree s number = (g : Going) → s.going ≡ Some g → g.number ≡ number → ⊥
