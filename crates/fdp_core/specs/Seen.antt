@@ -4,7 +4,7 @@ use Rattle.fdp_base.specs.declared.command.Command.{Command}
 use Rattle.fdp_base.specs.declared.entry.Entry.{Entry}
 use Rattle.fdp_base.specs.declared.entry.Entry.TheVariants as entries
 use Rattle.fdp_base.specs.Counts.{counted}
-use Rattle.fdp_base.specs.FixedDrive.{FixedState, Going, IsLegal, is_media}
+use Rattle.fdp_base.specs.FixedDrive.{FixedState, Going, IsLegal, is_media, state_of}
 use Rattle.fdp_base.specs.Totals.{media_blocks}
 use Rattle.fdp_flash.specs.FlashState.{FlashState, Faulted}
 use Rattle.fdp_core.specs.declared.answer.Begun.{Begun}
@@ -63,23 +63,6 @@ pub record Completes {F : Type 0} (state : F → FlashState) (old new : Seen F) 
   pub moment_is : done.moment ≡ (state new.flash).moment
   pub failed_is : new.failed ≡ is_media done.reply.status
 
--- the first step of a command completes it or, for a write, starts it
-abbrev pub Begins : {F : Type 0} → (F → FlashState) → Seen F → Seen F → ℕ → Command → Begun → Type 0
-Begins state old new number command (begun.Ended done) = Completes state old new number command [] done
-Begins state old new number command (begun.Going ticket) =
-    Adds state old new (entries.Started 1 number command 0 0 true ∷ [])
-    × (ticket ≡ record { queue = 1; number = number; position = length new.entries })
-    × (new.failed ≡ false)
-
--- a step places the page of a write, or completes the write after its handle was shut
-abbrev pub Places : {F : Type 0} → (F → FlashState) → Seen F → Seen F → Ticket → Going → Placed → Type 0
-Places state old new ticket g (placed.More next) = ⊥
-Places state old new ticket g (placed.Ready next) =
-    ((unit page : ℕ) × Adds state old new (entries.Placed ticket.position 0 unit page ∷ []))
-    × (next ≡ ticket)
-    × (new.failed ≡ false)
-Places state old new ticket g (placed.Ended done) = Completes state old new g.number g.command (entries.Shut 0 0 ∷ []) done
-
 -- the ticket is that of the write that is going, whose page is placed or not
 pub record IsTicketOf (s : FixedState) (ticket : Ticket) (is_placed : Bool) : Type 0 where
   pub going : Going
@@ -88,6 +71,33 @@ pub record IsTicketOf (s : FixedState) (ticket : Ticket) (is_placed : Bool) : Ty
   pub number_is : going.number ≡ ticket.number
   pub position_is : going.ticket ≡ ticket.position
   pub placed_is : going.is_placed ≡ is_placed
+
+-- a step starts a write: its page is still to be placed
+pub record Starts {F : Type 0} (state : F → FlashState) (old new : Seen F) (number : ℕ) (command : Command) (ticket : Ticket) : Type 0 where
+  pub step : Adds state old new (entries.Started 1 number command 0 0 true ∷ [])
+  pub ticket_is : ticket ≡ record { queue = 1; number = number; position = length new.entries }
+  pub waiting : IsTicketOf (state_of new.entries) ticket false
+  pub well : new.failed ≡ false
+
+-- a step places the page of a write
+pub record PlacesPage {F : Type 0} (state : F → FlashState) (old new : Seen F) (ticket next : Ticket) : Type 0 where
+  pub unit : ℕ
+  pub page : ℕ
+  pub step : Adds state old new (entries.Placed ticket.position 0 unit page ∷ [])
+  pub next_is : next ≡ ticket
+  pub ready : IsTicketOf (state_of new.entries) next true
+  pub well : new.failed ≡ false
+
+-- the first step of a command completes it or, for a write, starts it
+abbrev pub Begins : {F : Type 0} → (F → FlashState) → Seen F → Seen F → ℕ → Command → Begun → Type 0
+Begins state old new number command (begun.Ended done) = Completes state old new number command [] done
+Begins state old new number command (begun.Going ticket) = Starts state old new number command ticket
+
+-- a step places the page of a going write, or completes the write after its handle was shut
+abbrev pub Places : {F : Type 0} → (F → FlashState) → Seen F → Seen F → Ticket → Going → Placed → Type 0
+Places state old new ticket g (placed.More next) = ⊥
+Places state old new ticket g (placed.Ready next) = PlacesPage state old new ticket next
+Places state old new ticket g (placed.Ended done) = Completes state old new g.number g.command (entries.Shut 0 0 ∷ []) done
 
 -- no write with this number is going
 abbrev pub IsFree : FixedState → ℕ → Type 0

@@ -1,5 +1,7 @@
-use Rattle.std.proofs.Common.{◌≡◌, ◌/◌, ◌%◌, [], ◌∷◌, refl, ◌∙◌, sym, subst, false, true, Some, Option}
-use Rattle.fdp_base.specs.FixedDrive.{Going, bare, state_of}
+use Rattle.std.proofs.Common.{ap, ◌≡◌, ◌/◌, ◌%◌, [], ◌∷◌, refl, ◌∙◌, sym, subst, false, true, Some, Option}
+use Rattle.fdp_base.specs.FixedDrive.{FixedState, Going, bare, state_of}
+use Rattle.std.specs.Option.{option_map}
+use Rattle.fdp_base.proofs.FixedHistory.{state_of-push}
 use Rattle.fdp_core.specs.declared.group.Flight.{Flight}
 use Rattle.std.proofs.lemmas.Bool.{false≢true}
 use Rattle.fdp_base.specs.declared.entry.Entry.TheVariants as entries
@@ -40,16 +42,21 @@ unfolding counted_more
 returns-in-Ok g c going is_going =
     let old = c.self.inside in
     let new : Seen g.row.F.Denot = record { entries = c.push.new.self.entries; spare = c.push.new.self.spare; spent = c.push.new.self.spent; failed = old.failed; flash = c.program_flight.new.flash } in
-    let well : old.failed ≡ false = subst (λ (s : Seen g.row.F.Denot). s.failed ≡ false) (sym c.self.view_is) c.requires.sound in (
-      (
-        old.programmed / 16,
-        old.programmed % 16,
-        subst (λ (s : Seen g.row.F.Denot). Adds g.F.Flash.state s new (entries.Placed c.args.ticket.position 0 (old.programmed / 16) (old.programmed % 16) ∷ [])) c.self.view_is
-            (adds g.F.Flash.state _ new _ _ _ _ _ (invariant_of-self g c) c.push.ensures c.in-Ok.ensures.kept c.in-Ok.ensures.done.programs (λ wrong. absurd (false≢true (sym well ∙ wrong))) (λ _. c.in-Ok.ensures.done.faults)),
-      ),
-      refl,
-      well,
-    )
+    let well : old.failed ≡ false = subst (λ (s : Seen g.row.F.Denot). s.failed ≡ false) (sym c.self.view_is) c.requires.sound in
+    let ticket = c.requires.ticket in
+    let now : (state_of c.push.new.self.entries).going ≡ Some (record ticket.going { is_placed = true }) =
+        ap (λ es. (state_of es).going) c.push.ensures.entries_are
+        ∙ ap (λ (s : FixedState). s.going) (state_of-push old.log.entries (entries.Placed c.args.ticket.position 0 (old.programmed / 16) (old.programmed % 16)))
+        ∙ ap (option_map (λ (x : Going). record x { is_placed = true })) (subst (λ (s : Seen g.row.F.Denot). (state_of s.entries).going ≡ Some ticket.going) (sym c.self.view_is) ticket.going_is) in
+    record {
+      unit = old.programmed / 16;
+      page = old.programmed % 16;
+      step = subst (λ (s : Seen g.row.F.Denot). Adds g.F.Flash.state s new (entries.Placed c.args.ticket.position 0 (old.programmed / 16) (old.programmed % 16) ∷ [])) c.self.view_is
+          (adds g.F.Flash.state _ new _ _ _ _ _ (invariant_of-self g c) c.push.ensures c.in-Ok.ensures.kept c.in-Ok.ensures.done.programs (λ wrong. absurd (false≢true (sym well ∙ wrong))) (λ _. c.in-Ok.ensures.done.faults));
+      next_is = refl;
+      ready = record { going = _; going_is = now; queue_is = ticket.queue_is; number_is = ticket.number_is; position_is = ticket.position_is; placed_is = refl };
+      well = well;
+    }
 
 pub returns-in-Err : goal.returns-in-Err
 returns-in-Err g c going is_going =
