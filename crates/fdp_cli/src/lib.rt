@@ -1,13 +1,6 @@
-// A library with one function.
+//! The program over a bench and a sink: words in, a text and a status out.
 #![tactic(auto)]
 
-ghost use Rattle.std.specs.Prelude.{◌≡◌};
-ghost use Rattle.fdp_cli.specs.Echo.{echo_of};
+mod serving;
 
-// The `ensures` clause is the contract: what `echo` returns is `echo_of` of its argument, a definition
-// in `specs/Echo.antt`, which a caller's clause can cite too.
-pub fn echo(x: usize) -> usize
-    ensures { result ≡ echo_of x }
-{
-    x
-}
+pub use serving::{ServeEnd, serve};

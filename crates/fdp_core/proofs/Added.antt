@@ -45,8 +45,8 @@ adds state old new es map fl n block so longer kept programs fault no_fault = re
     programs = programs;
     fault = fault;
     no_fault = no_fault;
-    cells = λ well tells. so.cells well tells ∙ ap cells_of longer.entries_are;
   };
+  cells = so.cells;
 }
 
 -- the same entries with an equal reply and moment

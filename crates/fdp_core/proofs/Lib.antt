@@ -2,3 +2,4 @@ pub mod PagesMore
 pub mod Steps
 pub mod Added
 pub mod Fresh
+pub mod Grown

@@ -38,14 +38,17 @@ pub record IsKept (old new : FlashState) : Type 0 where
   pub moment : old.moment ≤ new.moment
   pub faults : old.faults ≤ new.faults
 
--- the flash before and after calls that added these entries to the history before them: its programs are the Placed
--- entries, and where no call failed and the cells are told they are what the history placed
-pub record Matches (old new : FlashState) (before es : List Entry) (failed : Bool) : Type 0 where
+-- the flash before and after calls that added these entries: its programs are the Placed entries, and it counted a
+-- fault exactly where the group then has failed
+pub record Matches (old new : FlashState) (es : List Entry) (failed : Bool) : Type 0 where
   pub kept : IsKept old new
   pub programs : new.programs ≡ counted_more old.programs (media_blocks es)
   pub fault : IsTrue failed → Faulted old new
   pub no_fault : failed ≡ false → new.faults ≡ old.faults
-  pub cells : failed ≡ false → IsTrue new.told → new.cells ≡ cells_of (before ++ es)
+
+-- where no call failed and the cells are told, they are what the history placed
+abbrev pub HoldsHistory : FlashState → List Entry → Bool → Type 0
+HoldsHistory flash entries failed = failed ≡ false → IsTrue flash.told → flash.cells ≡ cells_of entries
 
 -- a step adds these entries: the history stays legal, and the flash matches it
 pub record Adds {F : Type 0} (state : F → FlashState) (old new : Seen F) (es : List Entry) : Type 0 where
@@ -53,7 +56,14 @@ pub record Adds {F : Type 0} (state : F → FlashState) (old new : Seen F) (es :
   pub legal : IsLegal (state new.flash).told new.entries
   pub spare_is : new.spare + 1 ≡ old.spare
   pub spent_is : new.spent ≡ old.spent + 1
-  pub flash_is : Matches (state old.flash) (state new.flash) old.entries es new.failed
+  pub flash_is : Matches (state old.flash) (state new.flash) es new.failed
+  pub cells : HoldsHistory (state new.flash) new.entries new.failed
+
+-- steps that added these entries, or no step
+pub record Grows {F : Type 0} (state : F → FlashState) (old new : Seen F) (es : List Entry) : Type 0 where
+  pub entries_are : new.entries ≡ old.entries ++ es
+  pub legal : IsLegal (state old.flash).told old.entries → IsLegal (state new.flash).told new.entries
+  pub flash_is : Matches (state old.flash) (state new.flash) es new.failed
 
 -- A step completes a command: it adds its Host entry, behind other entries. The group has failed exactly where the
 -- reply tells of a media error.

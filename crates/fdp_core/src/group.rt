@@ -1,9 +1,8 @@
 ghost use Rattle.std.specs.Prelude.{◌≡◌, ℕ, ◌+◌, ◌*◌, ◌<◌, ◌≤◌, ◌^◌, true, false, IsTrue, List, [], ◌∷◌, ◌++◌, length, Some, replicate, OnOk, OnErr, IfOk};
 ghost use Rattle.fdp_base.specs.declared.config.TheConstants.Geometry.{FIXED};
-ghost use Rattle.fdp_base.specs.FixedDrive.{IsServed, state_of};
+ghost use Rattle.fdp_base.specs.FixedDrive.{IsLegal};
 ghost use Rattle.fdp_flash.specs.declared.cell.Cell.TheVariants.{Blank};
-ghost use Rattle.fdp_core.specs.Pages.{cells_of};
-ghost use Rattle.fdp_core.specs.Seen.{Seen};
+ghost use Rattle.fdp_core.specs.Seen.{HoldsHistory, Seen};
 
 use crate::log::Log;
 use crate::room::{Room, zeros};
@@ -108,6 +107,8 @@ impl<F: Flash> Group<F> {
     pub fn entries(&self) -> &[Entry]
         ensures entries { result.now ≡ self.now.entries }
         ensures few { length result.now ≤ 300 * self.now.spent + 1 }
+        ensures legal { IsLegal (F.state self.now.flash).told self.now.entries }
+        ensures cells { HoldsHistory (F.state self.now.flash) self.now.entries self.now.failed }
     {
         self.log.entries()
     }
@@ -123,6 +124,8 @@ impl<F: Flash> Group<F> {
     pub fn finish(self) -> (F, Vec<Entry>)
         ensures flash { result.0 ≡ self.flash }
         ensures entries { result.1.items ≡ self.entries }
+        ensures legal { IsLegal (F.state self.flash).told self.entries }
+        ensures cells { HoldsHistory (F.state self.flash) self.entries self.failed }
     {
         let Group {
             flash,

@@ -1,0 +1,62 @@
+-- Steps that follow one another.
+use Rattle.std.proofs.Common.{◌≡◌, ℕ, zero, suc, ◌+◌, ◌≤◌, Bool, true, false, List, [], ◌++◌, refl, ap, sym, ◌∙◌, subst, append_assoc, arith, IsTrue}
+use Rattle.std.proofs.lemmas.Bool.{false≢true}
+use Rattle.std.proofs.lemmas.List.{append-nil}
+use Rattle.std.proofs.lemmas.List.Sums.{sum_by-append}
+use Rattle.fdp_base.specs.declared.entry.Entry.{Entry}
+use Rattle.fdp_base.specs.Counts.{counted}
+use Rattle.fdp_base.specs.FixedDrive.{IsLegal}
+use Rattle.fdp_base.specs.Totals.{media_blocks, media_blocks_of}
+use Rattle.fdp_flash.specs.FlashState.{FlashState, Faulted}
+use Rattle.fdp_core.specs.Seen.{Adds, Grows, IsKept, Matches, Seen, counted_more}
+use Rattle.fdp_core.proofs.Added.{kept-same}
+
+counted_more-add : (p a b : ℕ) → counted_more (counted_more p a) b ≡ counted_more p (a + b)
+unfolding counted_more
+counted_more-add p a zero = let e : a ≡ a + 0 = omega arith in ap (counted_more p) e
+counted_more-add p a (suc b) = let e : suc (a + b) ≡ a + suc b = omega arith in ap counted (counted_more-add p a b) ∙ ap (counted_more p) e
+
+kept-joined : (a b c : FlashState) → IsKept a b → IsKept b c → IsKept a c
+kept-joined a b c p q = record {
+  geometry = q.geometry ∙ p.geometry;
+  told = q.told ∙ p.told;
+  reliable = q.reliable ∙ p.reliable;
+  moment = omega (arith, p.moment, q.moment);
+  faults = omega (arith, p.faults, q.faults);
+}
+
+-- no step
+pub grows-none : {F : Type 0} (state : F → FlashState) (old new : Seen F) → new.entries ≡ old.entries → new.flash ≡ old.flash → new.failed ≡ false → Grows state old new []
+unfolding counted_more
+grows-none {F} state old new entries flash well =
+    record {
+      entries_are = entries ∙ sym (append-nil old.entries);
+      legal = λ legal. subst (λ (x : F). IsLegal (state x).told new.entries) (sym flash) (subst (λ (es : List Entry). IsLegal (state old.flash).told es) (sym entries) legal);
+      flash_is = record {
+        kept = subst (λ (x : F). IsKept (state old.flash) (state x)) (sym flash) (kept-same (state old.flash));
+        programs = ap (λ (x : F). (state x).programs) flash;
+        fault = λ wrong. absurd (false≢true (sym well ∙ wrong));
+        no_fault = λ _. ap (λ (x : F). (state x).faults) flash;
+      };
+    }
+
+-- one step
+pub grows-step : {F : Type 0} (state : F → FlashState) (old new : Seen F) (es : List Entry) → Adds state old new es → Grows state old new es
+grows-step state old new es a = record { entries_are = a.entries_are; legal = λ _. a.legal; flash_is = a.flash_is }
+
+faulted-earlier : (a b c : FlashState) → a.faults ≤ b.faults → b.reliable ≡ a.reliable → Faulted b c → Faulted a c
+faulted-earlier a b c faults reliable h = let rose = h.rose in record { rose = omega arith; unreliable = sym reliable ∙ h.unreliable }
+
+-- more steps after steps without a failed call
+pub grows-joined : {F : Type 0} (state : F → FlashState) (a b c : Seen F) (es fs : List Entry) → Grows state a b es → b.failed ≡ false → Grows state b c fs → Grows state a c (es ++ fs)
+grows-joined state a b c es fs p well q = record {
+  entries_are = q.entries_are ∙ ap (λ xs. xs ++ fs) p.entries_are ∙ append_assoc a.entries es fs;
+  legal = λ legal. q.legal (p.legal legal);
+  flash_is = record {
+    kept = kept-joined (state a.flash) (state b.flash) (state c.flash) p.flash_is.kept q.flash_is.kept;
+    programs = q.flash_is.programs ∙ ap (λ k. counted_more k (media_blocks fs)) p.flash_is.programs ∙ counted_more-add (state a.flash).programs (media_blocks es) (media_blocks fs)
+        ∙ ap (counted_more (state a.flash).programs) (sym (sum_by-append media_blocks_of es fs));
+    fault = λ failed. faulted-earlier (state a.flash) (state b.flash) (state c.flash) p.flash_is.kept.faults p.flash_is.kept.reliable (q.flash_is.fault failed);
+    no_fault = λ still. q.flash_is.no_fault still ∙ p.flash_is.no_fault well;
+  };
+}
