@@ -38,8 +38,12 @@ pieces_of (suc n) size [] = []
 pieces_of (suc n) size (b ∷ bs) = take size (b ∷ bs) ∷ pieces_of n size (drop size (b ∷ bs))
 
 -- a block: the digits of its word where all its words are equal, else all its bytes
+abbrev pub block_text : List ℕ → List ℕ
+block_text bytes = if bytes_eq bytes (repeated (length bytes / 4) (take 4 bytes)) then hex 8 (from_le_bytes w32 (take 4 bytes)) else hex_bytes bytes
+
+-- the line of a block
 abbrev pub block_line : List ℕ → List ℕ
-block_line bytes = codes "  " ++ (if bytes_eq bytes (repeated (length bytes / 4) (take 4 bytes)) then hex 8 (from_le_bytes w32 (take 4 bytes)) else hex_bytes bytes) ++ 10 ∷ []
+block_line bytes = codes "  " ++ block_text bytes ++ 10 ∷ []
 
 -- up to 32 bytes of a log or a status
 abbrev pub data_line : List ℕ → List ℕ
