@@ -1,1 +1,3 @@
 pub mod Serving
+pub mod Printable
+pub mod Printing

@@ -1,0 +1,120 @@
+ghost use Rattle.std.specs.Prelude.{◌≡◌, ◌≤◌, ◌^◌, ◌*◌, ◌++◌, ◌∷◌, [], All, MatchResult, OnOk, codes, decimal};
+ghost use Rattle.fdp_base.specs.Output.{completion_of, stats_line};
+ghost use Rattle.fdp_base.specs.FixedDrive.{output_of};
+ghost use Rattle.fdp_base.specs.Totals.{host_blocks, media_blocks};
+ghost use Rattle.fdp_cli.specs.Printing.{HoldsFirst, Prints};
+ghost use Rattle.fdp_io.specs.Sink.{HoldsFront};
+ghost use Rattle.fdp_base.specs.Text.{line};
+ghost use Rattle.fdp_cli.specs.Printable.{AnswersPrintable};
+
+use crate::sums::{host_blocks, media_blocks};
+use fdp_base::Entry;
+use fdp_io::{Sink, SinkFailed, write_all};
+use fdp_trace::{print_completion, push_decimal};
+use std::alloc::{AllocError, Global};
+
+/// Text is written as soon as so many bytes of it are there.
+const PIECE: usize = 65_536;
+
+/// Why an output was not printed whole.
+#[derive(Clone, Copy, Debug, PartialEq, Eq)]
+pub enum Cut {
+    /// A write of the sink failed.
+    Sink,
+    NoMemory,
+}
+
+/// Prints the completions of queue 1 and the statistics of a record, in pieces.
+pub fn print_output<K: Sink>(alloc: Global, entries: &[Entry], sink: &mut K) -> Result<(), Cut>
+    requires printable { All AnswersPrintable entries.now }
+    requires host { host_blocks entries.now ≤ 2 ^ 40 }
+    requires media { media_blocks entries.now ≤ 2 ^ 40 }
+    ensures told { (K.state sink.new).told ≡ (K.state sink.old).told }
+    ensures faults { (K.state sink.old).faults ≤ (K.state sink.new).faults }
+    ensures ends { Prints (K.state sink.old) (K.state sink.new) (output_of entries.now) result }
+{
+    let mut text = Vec::new(alloc);
+    if push_queue(1, &mut text).is_err() {
+        return Err(Cut::NoMemory);
+    }
+    for entry in entries {
+        if push_entry(entry, &mut text).is_err() {
+            return Err(Cut::NoMemory);
+        }
+        if write_piece(&mut text, sink).is_err() {
+            return Err(Cut::Sink);
+        }
+    }
+    let host = 512 * host_blocks(entries);
+    let media = 512 * media_blocks(entries);
+    if push_stats(host, media, 0, &mut text).is_err() {
+        return Err(Cut::NoMemory);
+    }
+    if write_all(sink, &text).is_err() {
+        return Err(Cut::Sink);
+    }
+    Ok(())
+}
+
+/// Writes the text as soon as it is a piece long, and goes on with an empty one.
+fn write_piece<K: Sink>(text: &mut Vec<u8>, sink: &mut K) -> Result<(), SinkFailed>
+    ensures told { (K.state sink.new).told ≡ (K.state sink.old).told }
+    ensures faults { (K.state sink.old).faults ≤ (K.state sink.new).faults }
+    ensures ends { MatchResult result
+        (λ _. HoldsFirst (K.state sink.old) (K.state sink.new) text.old.items text.new.items)
+        (λ _. HoldsFront (K.state sink.old) (K.state sink.new) text.old.items) }
+{
+    if text.len() < PIECE {
+        return Ok(());
+    }
+    write_all(sink, text)?;
+    text.clear();
+    Ok(())
+}
+
+/// Appends the first line of a queue's output.
+fn push_queue(queue: u16, into: &mut Vec<u8>) -> Result<(), AllocError>
+    ensures { OnOk result (into.new.items ≡ into.old.items ++ line (codes "queue" ∷ decimal queue ∷ [])) }
+{
+    into.extend_from_slice(b"queue ")?;
+    push_decimal(into, u64::from(queue))?;
+    into.push(b'\n')?;
+    Ok(())
+}
+
+/// Appends the lines of an entry: those of its completion, where it is one of queue 1.
+fn push_entry(entry: &Entry, into: &mut Vec<u8>) -> Result<(), AllocError>
+    requires { AnswersPrintable entry.now }
+    ensures { OnOk result (into.new.items ≡ into.old.items ++ completion_of 1 entry.now) }
+{
+    match entry {
+        Entry::Host {
+            queue,
+            number,
+            command,
+            reply,
+            ..
+        } => {
+            if *queue == 1 {
+                print_completion(*number, command, reply, into)
+            } else {
+                Ok(())
+            }
+        }
+        _ => Ok(()),
+    }
+}
+
+/// Appends the line of the statistics, in bytes.
+fn push_stats(host: u64, media: u64, erased: u64, into: &mut Vec<u8>) -> Result<(), AllocError>
+    ensures { OnOk result (into.new.items ≡ into.old.items ++ stats_line host media erased) }
+{
+    into.extend_from_slice(b"stats ")?;
+    push_decimal(into, host)?;
+    into.push(b' ')?;
+    push_decimal(into, media)?;
+    into.push(b' ')?;
+    push_decimal(into, erased)?;
+    into.push(b'\n')?;
+    Ok(())
+}
