@@ -1,1 +1,2 @@
 pub mod FixedHistory
+pub mod Records

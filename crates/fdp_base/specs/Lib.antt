@@ -2,6 +2,7 @@ pub mod Counts
 pub mod Config
 pub mod Geometry
 pub mod Placement
+pub mod Records
 pub mod Text
 pub mod Pattern
 pub mod Spare

@@ -1,0 +1,5 @@
+pub mod Closes
+pub mod Gathering
+pub mod Moves
+pub mod Shares
+pub mod Turns

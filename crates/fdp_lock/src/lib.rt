@@ -1,0 +1,15 @@
+//! A lock of turns over a value that records.
+#![tactic(auto)]
+
+mod close;
+mod lock;
+mod plays;
+mod seat;
+mod share;
+mod turn;
+mod view;
+
+pub use fdp_base::Recorded;
+pub use lock::{GroupLock, NotMade};
+pub use seat::Seat;
+pub use turn::Turn;
