@@ -1,0 +1,12 @@
+//! A configuration text becomes a drive's configuration, or one named fault.
+#![tactic(auto)]
+
+mod configurations;
+mod document;
+mod fault;
+mod key;
+mod namespaces;
+mod numbers;
+
+pub use fault::{ConfigFault, NoConfig, Word};
+pub use key::{Key, Shape};
