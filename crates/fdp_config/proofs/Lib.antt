@@ -1,3 +1,4 @@
 pub mod Checks
 pub mod Handles
+pub mod Tests
 pub mod Views

@@ -1,5 +1,6 @@
 //! Looking into a document.
 ghost use Rattle.std.specs.Prelude.{◌≡◌, map, option_map};
+ghost use Rattle.toml.specs.Data.{get_member};
 ghost use Rattle.toml.specs.View.{view, table_view};
 ghost use Rattle.fdp_config.specs.Document.{value_at, number_of, truth_of, elements_of, natural};
 ghost use Rattle.fdp_config.specs.Reading.{amount_at};
@@ -7,11 +8,18 @@ ghost use Rattle.fdp_config.specs.Reading.{amount_at};
 use crate::key::Key;
 use toml::{Table, Value};
 
+/// What stands at a word of a table.
+pub fn member_at<'a>(table: &'a Table, word: &str) -> Option<&'a Value>
+    ensures { option_map (λ v. view v.now) result ≡ get_member word.now (table_view table.now) }
+{
+    table.get(word)
+}
+
 /// What stands at a key.
 pub fn value_at(table: &Table, key: Key) -> Option<&Value>
     ensures { option_map (λ v. view v.now) result ≡ value_at (table_view table.now) key }
 {
-    table.get(key.word())
+    member_at(table, key.word())
 }
 
 /// A number; 0 of another value.

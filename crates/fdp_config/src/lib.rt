@@ -5,8 +5,10 @@ mod configurations;
 mod document;
 mod fault;
 mod key;
+mod kinds;
 mod namespaces;
 mod numbers;
+mod room;
 
 pub use fault::{ConfigFault, NoConfig, Word};
 pub use key::{Key, Shape};
