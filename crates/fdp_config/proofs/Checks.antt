@@ -44,3 +44,7 @@ checked_fails key a o told fault fails is = rw (fails, is) refl
 
 pub checked_passes : {A : Type 0} (key : Key) (a x : A) (o : Option ℕ) → o ≡ None → x ≡ a → checked key a o ≡ Ok x
 checked_passes key a x o free is = rw (free, is) refl
+
+pub option_or-none : (o : Option ℕ) → option_or o None ≡ o
+option_or-none None = refl
+option_or-none (Some told) = refl

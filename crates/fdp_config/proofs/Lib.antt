@@ -1,4 +1,6 @@
+pub mod Chain
 pub mod Checks
 pub mod Handles
+pub mod InRange
 pub mod Tests
 pub mod Views

@@ -1,5 +1,6 @@
 //! The FDP configurations.
-ghost use Rattle.std.specs.Prelude.{◌≡◌, map};
+ghost use Rattle.std.specs.Prelude.{◌≡◌, All, IfOk, length, map};
+ghost use Rattle.fdp_base.specs.Geometry.{IsWithin};
 ghost use Rattle.toml.specs.View.{view, table_view};
 ghost use Rattle.fdp_config.specs.Document.{value_at, elements, elements_of};
 ghost use Rattle.fdp_config.specs.Faults.{Gives};
@@ -15,8 +16,10 @@ use toml::{Table, Value};
 
 /// The FDP configurations that stand at their key, one to four.
 pub fn configurations(alloc: Global, table: &Table) -> Result<Sequence<Classes>, ConfigFault>
-    ensures { let arrays = elements_of (value_at (table_view table.now) Key.Fdp)
+    ensures value { let arrays = elements_of (value_at (table_view table.now) Key.Fdp)
         in Gives result (checked Key.Fdp (map classes_in arrays) (configurations_fault arrays)) }
+    ensures few { IfOk result (λ fdp. IsWithin 1 4 (length fdp)) }
+    ensures each { IfOk result (All (λ classes. IsWithin 1 16 (length classes))) }
 {
     let arrays = elements_of(value_at(table, Key::Fdp));
     if arrays.is_empty() || arrays.len() > 4 {

@@ -8,6 +8,7 @@ mod key;
 mod kinds;
 mod namespaces;
 mod numbers;
+mod read;
 mod room;
 
 pub use fault::{ConfigFault, NoConfig, Word};

@@ -1,5 +1,5 @@
 //! The numbers of a configuration, each in its range.
-ghost use Rattle.std.specs.Prelude.{◌≡◌, ◌≤◌, IfOk};
+ghost use Rattle.std.specs.Prelude.{◌≡◌, ◌≤◌, IfOk, None};
 ghost use Rattle.toml.specs.View.{table_view};
 ghost use Rattle.fdp_config.specs.Ranges.{IsNumber, high_of, own_fault, further_fault, above, range_fault, checked};
 ghost use Rattle.fdp_config.specs.Reading.{amount_at, config_in};
@@ -10,7 +10,7 @@ use crate::key::{Key, Shape};
 use toml::Table;
 
 /// The number at a key, in the range of its row.
-pub fn number(table: &Table, key: Key) -> Result<u32, ConfigFault>
+fn number_in_row(table: &Table, key: Key) -> Result<u32, ConfigFault>
     requires { IsNumber key }
     ensures value { result ≡ checked key (amount_at (table_view table.now) key) (own_fault (table_view table.now) key) }
     ensures bound { IfOk result (λ n. n ≤ high_of key) }
@@ -31,11 +31,21 @@ pub fn number(table: &Table, key: Key) -> Result<u32, ConfigFault>
     }
 }
 
+/// The number at a key that has no more to keep than the range of its row.
+pub fn number(table: &Table, key: Key) -> Result<u32, ConfigFault>
+    requires number { IsNumber key }
+    requires alone { further_fault (config_in (table_view table.now)) key ≡ None }
+    ensures value { result ≡ checked key (amount_at (table_view table.now) key) (range_fault (table_view table.now) key) }
+    ensures bound { IfOk result (λ n. n ≤ high_of key) }
+{
+    number_in_row(table, key)
+}
+
 /// The bytes of a block, 512 or 4,096.
 pub fn block(table: &Table) -> Result<u32, ConfigFault>
     ensures { result ≡ checked Key.Block (amount_at (table_view table.now) Key.Block) (range_fault (table_view table.now) Key.Block) }
 {
-    let block = number(table, Key::Block)?;
+    let block = number_in_row(table, Key::Block)?;
     if block == 512 || block == 4096 {
         Ok(block)
     } else {
@@ -54,7 +64,7 @@ pub fn units(table: &Table, unit_pages: u32, groups: u32) -> Result<u32, ConfigF
     requires few_groups { groups ≤ 16 }
     ensures { result ≡ checked Key.Units (amount_at (table_view table.now) Key.Units) (range_fault (table_view table.now) Key.Units) }
 {
-    let units = number(table, Key::Units)?;
+    let units = number_in_row(table, Key::Units)?;
     let area_units = amount_at(table, Key::AreaUnits);
     let all_units = u128::from(groups) * u128::from(units) + 2 * u128::from(area_units);
     let pages = u128::from(unit_pages) * all_units;
@@ -74,8 +84,9 @@ pub fn limited(table: &Table, key: Key, limit: u32) -> Result<u32, ConfigFault>
     requires limit { further_fault (config_in (table_view table.now)) key ≡ above limit (amount_at (table_view table.now) key) }
     ensures value { result ≡ checked key (amount_at (table_view table.now) key) (range_fault (table_view table.now) key) }
     ensures bound { IfOk result (λ n. n ≤ high_of key) }
+    ensures limit { IfOk result (λ n. n ≤ limit) }
 {
-    let number = number(table, key)?;
+    let number = number_in_row(table, key)?;
     if number <= limit {
         Ok(number)
     } else {
