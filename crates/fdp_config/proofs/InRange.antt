@@ -24,15 +24,15 @@ use Rattle.fdp_config.specs.declared.key.Key.{Key}
 use Rattle.fdp_config.specs.declared.key.Key.TheVariants.{Block, UnitPages, Groups, Units, AreaUnits, Queues, BlocksPerCommand, Fdp, Index, Namespaces, QueueDepth, Collectors, Turns}
 use Rattle.fdp_config.specs.declared.key.Shape.TheVariants.{Number}
 
-option_or_none : (a b : Option ℕ) → option_or a b ≡ None → (a ≡ None) × (b ≡ None)
+pub option_or_none : (a b : Option ℕ) → option_or a b ≡ None → (a ≡ None) × (b ≡ None)
 option_or_none None b is = (refl, is)
 option_or_none (Some told) b is = absurd (cc)
 
-unless : (b : Bool) (told : ℕ) → (if b then None else Some told) ≡ None → b ≡ true
+pub unless : (b : Bool) (told : ℕ) → (if b then None else Some told) ≡ None → b ≡ true
 unless true told is = refl
 unless false told is = absurd (cc)
 
-if_then : (b : Bool) (x : Option ℕ) (told : ℕ) → (if b then x else Some told) ≡ None → (b ≡ true) × (x ≡ None)
+pub if_then : (b : Bool) (x : Option ℕ) (told : ℕ) → (if b then x else Some told) ≡ None → (b ≡ true) × (x ≡ None)
 if_then true x told is = (refl, is)
 if_then false x told is = absurd (cc)
 
