@@ -146,7 +146,7 @@ handles_valid c (d ∷ ds) is list given_is =
     let below = handles_below (listable c) (d ∷ ds) known in
     let many : length (map (λ x. amount_of (Some x)) (d ∷ ds)) ≡ length (d ∷ ds) = length-map (d ∷ ds) (λ x. amount_of (Some x)) in
     let whole : IsTrue c.enabled × IsHandleList (handle_count c c.enabled c.index) (map (λ x. amount_of (Some x)) (d ∷ ds)) =
-        (enabled, record { number = (omega arith, omega arith); known = rw same at below; distinct = distinct (map (λ x. amount_of (Some x)) (d ∷ ds)) once }) in
+    (enabled, record { number = (omega arith, omega arith); known = rw same at below; distinct = distinct (map (λ x. amount_of (Some x)) (d ∷ ds)) once }) in
     rw (← some_same _ list given_is) whole
 
 some_blocks : (place : ℕ) (z : ℤ) → blocks_fault place z ≡ None → 1 ≤ unwrap_or (natural z) 0
@@ -158,7 +158,7 @@ namespace_valid c place d is =
     let (blocks, handles) = option_or_none (blocks_fault place (number_of (get blocks_word d))) (handles_fault (listable c) place (elements_of (get handles_word d))) is in
     record {
       blocks = some_blocks place (number_of (get blocks_word d)) blocks;
-      handles = handles_valid c (elements_of (get handles_word d)) (unless (is_handle_list (listable c) (elements_of (get handles_word d))) place handles)
+      handles = handles_valid c (elements_of (get handles_word d)) (unless (is_handle_list (listable c) (elements_of (get handles_word d))) place handles);
     }
 
 namespaces_valid : (c : DriveConfig) (ds : List Data) → namespaces_fault (listable c) ds ≡ None → (length (map namespace_in ds) ≤ 16) × All (IsValidNamespace c) (map namespace_in ds)
@@ -204,5 +204,5 @@ in_range doc none =
       each_namespace = each;
       queue_depth = queue_depth;
       collectors = collectors;
-      turns = turns
+      turns = turns;
     }

@@ -1,7 +1,9 @@
+pub mod Answer
 pub mod Chain
 pub mod Checks
 pub mod Handles
 pub mod InRange
 pub mod Spelled
 pub mod Tests
+pub mod Told
 pub mod Views

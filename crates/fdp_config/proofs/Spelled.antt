@@ -206,7 +206,7 @@ namespace_spelled count place (table ms) kind free =
       is_table = refl;
       known = known;
       blocks = blocks_there place (get_member blocks_word ms) blocks some;
-      handles = handles_there count place (get_member handles_word ms) handles listed
+      handles = handles_there count place (get_member handles_word ms) handles listed;
     }
 namespace_spelled count place (string s) kind free = absurd (cc)
 namespace_spelled count place (integer z) kind free = absurd (cc)
@@ -289,5 +289,5 @@ spelled doc none =
     record {
       known = all_pass is_key (words_in doc) (map_none _ _ unknown);
       spelled = spelled_at doc (all_fail (is_missing doc) keys (map_none _ _ missing)) (all_fail (is_of_other_kind doc) keys (map_none _ _ kind)) range;
-      valid = record { ranges = in_range doc range; room = room_there (config_in doc) room }
+      valid = record { ranges = in_range doc range; room = room_there (config_in doc) room };
     }

@@ -99,3 +99,19 @@ fn listable(fdp: &[Classes], enabled: bool, index: usize) -> usize
         0
     }
 }
+
+/// The configuration that a text describes, or the first of its faults. `Err(NoMemory)` leaves nothing behind.
+pub fn read_config(alloc: Global, text: &[u8]) -> Result<DriveConfig, ConfigFault>
+    ensures config { IfOk result (IsConfigText text.now) }
+    ensures fault { IfErr result (λ fault. fault ≢ ConfigFault.NoMemory → IsFaultOf text.now fault) }
+
+    // A text of a configuration is read as it, and a fault is told, unless memory runs out.
+    ensures read { (c : DriveConfig) → IsConfigText text.now c → Gives result (Ok c) }
+    ensures told { (fault : ConfigFault) → IsFaultOf text.now fault → Gives result (Err fault) }
+{
+    match toml::table_from_slice(alloc, text) {
+        Ok(table) => read_table(alloc, &table),
+        Err(error) if error.is_memory() => Err(ConfigFault::NoMemory),
+        Err(_) => Err(ConfigFault::NotToml),
+    }
+}

@@ -82,34 +82,35 @@ pub returns-in_err-fdp-clause-fault : goal.returns-in_err-fdp-clause-fault
 returns-in_err-fdp-clause-fault c =
     let p = err_from_is_err_and c.from_residual-in_err-fdp.result c.from_residual-in_err-fdp.ensures.1 in
     rw (p.1, p.2) (λ not_memory.
-        let (told, fails, is) = checked_told Fdp _ _ _ (c.in_err-fdp.ensures.value not_memory) in
-        stop_after (table_view c.args.table.now) (Block ∷ UnitPages ∷ Groups ∷ Units ∷ AreaUnits ∷ Queues ∷ BlocksPerCommand ∷ []) (Enabled ∷ Index ∷ Namespaces ∷ QueueDepth ∷ Collectors ∷ Turns ∷ []) Fdp told _ ((checked_free Block _ _ _ (sym c.in_ok-block.ensures)).0, ((checked_free UnitPages _ _ _ (sym c.in_ok-unit_pages.ensures.value)).0, ((checked_free Groups _ _ _ (sym c.in_ok-groups.ensures.value)).0, ((checked_free Units _ _ _ (sym c.in_ok-units.ensures)).0, ((checked_free AreaUnits _ _ _ (sym c.in_ok-area_units.ensures.value)).0, ((checked_free Queues _ _ _ (sym c.in_ok-queues.ensures.value)).0, ((checked_free BlocksPerCommand _ _ _ (sym c.in_ok-blocks_per_command.ensures.value)).0, tt))))))) (fdp_range (table_view c.args.table.now) ∙ fails) is)
+    let (told, fails, is) = checked_told Fdp _ _ _ (c.in_err-fdp.ensures.value not_memory) in
+    stop_after (table_view c.args.table.now) (Block ∷ UnitPages ∷ Groups ∷ Units ∷ AreaUnits ∷ Queues ∷ BlocksPerCommand ∷ []) (Enabled ∷ Index ∷ Namespaces ∷ QueueDepth ∷ Collectors ∷ Turns ∷ []) Fdp told _ ((checked_free Block _ _ _ (sym c.in_ok-block.ensures)).0, ((checked_free UnitPages _ _ _ (sym c.in_ok-unit_pages.ensures.value)).0, ((checked_free Groups _ _ _ (sym c.in_ok-groups.ensures.value)).0, ((checked_free Units _ _ _ (sym c.in_ok-units.ensures)).0, ((checked_free AreaUnits _ _ _ (sym c.in_ok-area_units.ensures.value)).0, ((checked_free Queues _ _ _ (sym c.in_ok-queues.ensures.value)).0, ((checked_free BlocksPerCommand _ _ _ (sym c.in_ok-blocks_per_command.ensures.value)).0, tt))))))) (fdp_range (table_view c.args.table.now) ∙ fails) is)
 
 pub returns-in_err-namespaces-clause-fault : goal.returns-in_err-namespaces-clause-fault
 returns-in_err-namespaces-clause-fault c =
     let same = listable_is (table_view c.args.table.now) _ _ _ _ c.listable-listable.ensures.value (c.as_slice-2.ensures ∙ (checked_free Fdp _ _ _ c.in_ok-fdp.ensures.value).1) (c.truth_of-enabled.ensures ∙ ap truth_of c.value_at.ensures) (checked_free Index _ _ _ (sym c.in_ok-index.ensures.value)).1 in
     let p = err_from_is_err_and c.from_residual-in_err-namespaces.result c.from_residual-in_err-namespaces.ensures.1 in
     rw (p.1, p.2) (λ not_memory.
-        let (told, fails, is) = checked_told Namespaces _ _ _ (c.in_err-namespaces.ensures not_memory) in
-        stop_after (table_view c.args.table.now) (Block ∷ UnitPages ∷ Groups ∷ Units ∷ AreaUnits ∷ Queues ∷ BlocksPerCommand ∷ Fdp ∷ Enabled ∷ Index ∷ []) (QueueDepth ∷ Collectors ∷ Turns ∷ []) Namespaces told _ ((checked_free Block _ _ _ (sym c.in_ok-block.ensures)).0, ((checked_free UnitPages _ _ _ (sym c.in_ok-unit_pages.ensures.value)).0, ((checked_free Groups _ _ _ (sym c.in_ok-groups.ensures.value)).0, ((checked_free Units _ _ _ (sym c.in_ok-units.ensures)).0, ((checked_free AreaUnits _ _ _ (sym c.in_ok-area_units.ensures.value)).0, ((checked_free Queues _ _ _ (sym c.in_ok-queues.ensures.value)).0, ((checked_free BlocksPerCommand _ _ _ (sym c.in_ok-blocks_per_command.ensures.value)).0, ((fdp_range (table_view c.args.table.now) ∙ (checked_free Fdp _ _ _ c.in_ok-fdp.ensures.value).0), ((enabled_range (table_view c.args.table.now)), ((checked_free Index _ _ _ (sym c.in_ok-index.ensures.value)).0, tt)))))))))) (namespaces_range (table_view c.args.table.now) c.listable-listable.result same ∙ fails) is)
+    let (told, fails, is) = checked_told Namespaces _ _ _ (c.in_err-namespaces.ensures not_memory) in
+    stop_after (table_view c.args.table.now) (Block ∷ UnitPages ∷ Groups ∷ Units ∷ AreaUnits ∷ Queues ∷ BlocksPerCommand ∷ Fdp ∷ Enabled ∷ Index ∷ []) (QueueDepth ∷ Collectors ∷ Turns ∷ []) Namespaces told _ ((checked_free Block _ _ _ (sym c.in_ok-block.ensures)).0, ((checked_free UnitPages _ _ _ (sym c.in_ok-unit_pages.ensures.value)).0, ((checked_free Groups _ _ _ (sym c.in_ok-groups.ensures.value)).0, ((checked_free Units _ _ _ (sym c.in_ok-units.ensures)).0, ((checked_free AreaUnits _ _ _ (sym c.in_ok-area_units.ensures.value)).0, ((checked_free Queues _ _ _ (sym c.in_ok-queues.ensures.value)).0, ((checked_free BlocksPerCommand _ _ _ (sym c.in_ok-blocks_per_command.ensures.value)).0, ((fdp_range (table_view c.args.table.now) ∙ (checked_free Fdp _ _ _ c.in_ok-fdp.ensures.value).0), ((enabled_range (table_view c.args.table.now)), ((checked_free Index _ _ _ (sym c.in_ok-index.ensures.value)).0, tt)))))))))) (namespaces_range (table_view c.args.table.now) c.listable-listable.result same ∙ fails) is)
 
 pub returns-clause-config : goal.returns-clause-config
 returns-clause-config c =
     let same = listable_is (table_view c.args.table.now) _ _ _ _ c.listable-listable.ensures.value (c.as_slice-2.ensures ∙ (checked_free Fdp _ _ _ c.in_ok-fdp.ensures.value).1) (c.truth_of-enabled.ensures ∙ ap truth_of c.value_at.ensures) (checked_free Index _ _ _ (sym c.in_ok-index.ensures.value)).1 in
-    let config : (record {block = c.in_ok-block.block;
-          unit_pages = c.in_ok-unit_pages.unit_pages;
-          groups = c.in_ok-groups.groups;
-          units = c.in_ok-units.units;
-          area_units = c.in_ok-area_units.area_units;
-          queues = c.in_ok-queues.queues;
-          blocks_per_command = c.in_ok-blocks_per_command.blocks_per_command;
-          fdp = c.in_ok-fdp.fdp;
-          enabled = c.truth_of-enabled.result;
-          index = c.in_ok-index.index;
-          namespaces = c.in_ok-namespaces.namespaces;
-          queue_depth = c.in_ok-queue_depth.queue_depth;
-          collectors = c.in_ok-collectors.collectors;
-          turns = c.in_ok-turns.turns}) ≡ config_in (table_view c.args.table.now) =
-        rw ((checked_free Block _ _ _ (sym c.in_ok-block.ensures)).1, (checked_free UnitPages _ _ _ (sym c.in_ok-unit_pages.ensures.value)).1, (checked_free Groups _ _ _ (sym c.in_ok-groups.ensures.value)).1, (checked_free Units _ _ _ (sym c.in_ok-units.ensures)).1, (checked_free AreaUnits _ _ _ (sym c.in_ok-area_units.ensures.value)).1, (checked_free Queues _ _ _ (sym c.in_ok-queues.ensures.value)).1, (checked_free BlocksPerCommand _ _ _ (sym c.in_ok-blocks_per_command.ensures.value)).1, (checked_free Fdp _ _ _ c.in_ok-fdp.ensures.value).1, c.truth_of-enabled.ensures ∙ ap truth_of c.value_at.ensures, (checked_free Index _ _ _ (sym c.in_ok-index.ensures.value)).1, (checked_free Namespaces _ _ _ c.in_ok-namespaces.ensures).1, (checked_free QueueDepth _ _ _ (sym c.in_ok-queue_depth.ensures.value)).1, (checked_free Collectors _ _ _ (sym c.in_ok-collectors.ensures.value)).1, (checked_free Turns _ _ _ (sym c.in_ok-turns.ensures.value)).1) refl in
+    let config : (record {
+      block = c.in_ok-block.block;
+      unit_pages = c.in_ok-unit_pages.unit_pages;
+      groups = c.in_ok-groups.groups;
+      units = c.in_ok-units.units;
+      area_units = c.in_ok-area_units.area_units;
+      queues = c.in_ok-queues.queues;
+      blocks_per_command = c.in_ok-blocks_per_command.blocks_per_command;
+      fdp = c.in_ok-fdp.fdp;
+      enabled = c.truth_of-enabled.result;
+      index = c.in_ok-index.index;
+      namespaces = c.in_ok-namespaces.namespaces;
+      queue_depth = c.in_ok-queue_depth.queue_depth;
+      collectors = c.in_ok-collectors.collectors;
+      turns = c.in_ok-turns.turns;
+    }) ≡ config_in (table_view c.args.table.now) =
+    rw ((checked_free Block _ _ _ (sym c.in_ok-block.ensures)).1, (checked_free UnitPages _ _ _ (sym c.in_ok-unit_pages.ensures.value)).1, (checked_free Groups _ _ _ (sym c.in_ok-groups.ensures.value)).1, (checked_free Units _ _ _ (sym c.in_ok-units.ensures)).1, (checked_free AreaUnits _ _ _ (sym c.in_ok-area_units.ensures.value)).1, (checked_free Queues _ _ _ (sym c.in_ok-queues.ensures.value)).1, (checked_free BlocksPerCommand _ _ _ (sym c.in_ok-blocks_per_command.ensures.value)).1, (checked_free Fdp _ _ _ c.in_ok-fdp.ensures.value).1, c.truth_of-enabled.ensures ∙ ap truth_of c.value_at.ensures, (checked_free Index _ _ _ (sym c.in_ok-index.ensures.value)).1, (checked_free Namespaces _ _ _ c.in_ok-namespaces.ensures).1, (checked_free QueueDepth _ _ _ (sym c.in_ok-queue_depth.ensures.value)).1, (checked_free Collectors _ _ _ (sym c.in_ok-collectors.ensures.value)).1, (checked_free Turns _ _ _ (sym c.in_ok-turns.ensures.value)).1) refl in
     (config, all_past (table_view c.args.table.now) keys ((checked_free Block _ _ _ (sym c.in_ok-block.ensures)).0, ((checked_free UnitPages _ _ _ (sym c.in_ok-unit_pages.ensures.value)).0, ((checked_free Groups _ _ _ (sym c.in_ok-groups.ensures.value)).0, ((checked_free Units _ _ _ (sym c.in_ok-units.ensures)).0, ((checked_free AreaUnits _ _ _ (sym c.in_ok-area_units.ensures.value)).0, ((checked_free Queues _ _ _ (sym c.in_ok-queues.ensures.value)).0, ((checked_free BlocksPerCommand _ _ _ (sym c.in_ok-blocks_per_command.ensures.value)).0, ((fdp_range (table_view c.args.table.now) ∙ (checked_free Fdp _ _ _ c.in_ok-fdp.ensures.value).0), ((enabled_range (table_view c.args.table.now)), ((checked_free Index _ _ _ (sym c.in_ok-index.ensures.value)).0, ((namespaces_range (table_view c.args.table.now) c.listable-listable.result same ∙ (checked_free Namespaces _ _ _ c.in_ok-namespaces.ensures).0), ((checked_free QueueDepth _ _ _ (sym c.in_ok-queue_depth.ensures.value)).0, ((checked_free Collectors _ _ _ (sym c.in_ok-collectors.ensures.value)).0, ((checked_free Turns _ _ _ (sym c.in_ok-turns.ensures.value)).0, tt)))))))))))))))
-
