@@ -1,11 +1,12 @@
 -- What the reader answers, from what it says of the document.
 use Rattle.std.proofs.Common.{◌≡◌, ◌≢◌, List, ℕ, Option, Some, None, Result, Ok, Err, IfOk, IfErr, refl, sym, ap, subst, ◌∙◌, inl, inr}
 use Rattle.fdp_base.specs.declared.config.DriveConfig.{DriveConfig}
+use Rattle.fdp_base.specs.Config.{IsValidConfig}
 use Rattle.toml.specs.Data.{Members}
 use Rattle.fdp_config.proofs.Spelled.{spelled}
 use Rattle.fdp_config.proofs.Told.{no_fault, reads_as}
 use Rattle.fdp_config.specs.Document.{IsDocument}
-use Rattle.fdp_config.specs.Faults.{Gives, IsFaultOf, fault_of}
+use Rattle.fdp_config.specs.Faults.{Gives, IsFaultOf, IsInByteOrder, fault_of}
 use Rattle.fdp_config.specs.Reading.{config_in}
 use Rattle.fdp_config.specs.Spelling.{IsConfigOf, IsConfigText}
 use Rattle.fdp_config.specs.declared.fault.ConfigFault.{ConfigFault}
@@ -42,3 +43,12 @@ told_answer (Err x) text doc is read told fault (inl not_toml) = absurd (not_tom
 told_answer (Err x) text doc is read told fault (inr other) =
     let first : fault_of doc ≡ Some fault = subst (λ (d : Members). fault_of d ≡ Some fault) (one_document text doc other.0 is other.1) other.2 in
     λ not_memory. let some = told not_memory in let same : fault ≡ x = cc in ap Err same
+
+pub valid_answer : (r : Result DriveConfig ConfigFault) (text : List ℕ) → IfOk r (IsConfigText text) → IfOk r IsValidConfig
+valid_answer (Ok c) text is = is.2.valid
+valid_answer (Err fault) text is = is
+
+pub first_answer : (r : Result DriveConfig ConfigFault) (text : List ℕ) (doc : Members) → IsDocument text doc → IfErr r (IsInByteOrder doc)
+    → IfErr r (λ fault. (other : Members) → IsDocument text other → IsInByteOrder other fault)
+first_answer (Ok c) text doc is first = first
+first_answer (Err fault) text doc is first = λ other also. subst (λ (d : Members). IsInByteOrder d fault) (sym (one_document text doc other is also)) first

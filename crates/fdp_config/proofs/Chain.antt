@@ -1,8 +1,8 @@
 -- The first key that is out of its range, key by key.
-use Rattle.std.proofs.Common.{◌≡◌, ℕ, List, [], ◌∷◌, ◌++◌, Option, Some, None, Bool, map, length, slice_index_or, if◌then◌else◌, refl}
+use Rattle.std.proofs.Common.{◌≡◌, ◌≢◌, ◌⊎◌, inl, inr, ℕ, List, [], ◌∷◌, ◌++◌, Option, Some, None, Bool, map, length, slice_index_or, if◌then◌else◌, refl}
 use Rattle.std.specs.Option.{option_map, option_or}
 use Rattle.fdp_config.specs.declared.fault.ConfigFault.{ConfigFault}
-use Rattle.fdp_config.specs.declared.fault.ConfigFault.TheVariants.{Range}
+use Rattle.fdp_config.specs.declared.fault.ConfigFault.TheVariants.{NotToml, Unknown, Missing, Kind, Range, NoRoom, NoMemory}
 use Rattle.fdp_config.specs.declared.key.Key.{Key}
 use Rattle.fdp_config.specs.declared.key.Key.TheVariants.{Enabled, Fdp, Index, Namespaces}
 use Rattle.fdp_config.proofs.Checks.{option_or-none}
@@ -10,7 +10,7 @@ use Rattle.fdp_base.specs.declared.config.Class.{Class}
 use Rattle.toml.specs.Data.{Members}
 use Rattle.fdp_config.specs.Document.{elements_of, truth_of, value_at}
 use Rattle.fdp_config.specs.Reading.{amount_at, classes_in, config_in}
-use Rattle.fdp_config.specs.Faults.{first_range_fault}
+use Rattle.fdp_config.specs.Faults.{IsInByteOrder, first_range_fault}
 use Rattle.fdp_config.specs.Ranges.{configurations_fault, listable, namespaces_fault, range_fault}
 
 -- each of these keys is in its range
@@ -57,3 +57,27 @@ namespaces_range doc count same = rw (← same) (option_or-none (namespaces_faul
 pub listable_is : (doc : Members) (fdp : List (List Class)) (enabled : Bool) (index count : ℕ) → count ≡ (if enabled then length (slice_index_or fdp index []) else 0)
     → fdp ≡ map classes_in (elements_of (value_at doc Fdp)) → enabled ≡ truth_of (value_at doc Enabled) → index ≡ amount_at doc Index → count ≡ listable (config_in doc)
 listable_is doc fdp enabled index count is same truth at = rw (is, same, truth, at) refl
+
+range_told : (key : Key) (here : Option ℕ) (rest : Option ConfigFault) (fault : ConfigFault) → option_or (option_map (Range key) here) rest ≡ Some fault
+    → ((told : ℕ) × (fault ≡ Range key told)) ⊎ (rest ≡ Some fault)
+range_told key None rest fault is = inr is
+range_told key (Some told) rest fault is = let same : fault ≡ Range key told = cc in inl (told, same)
+
+-- a fault of range tells no word
+no_word : (doc : Members) (ks : List Key) (word : List ℕ) → first_range_fault doc ks ≢ Some (Unknown word)
+unfolding first_range_fault
+no_word doc [] word is = cc
+no_word doc (key ∷ rest) word is =
+    elim (range_told key (range_fault doc key) (first_range_fault doc rest) (Unknown word) is) [
+      | inl here ↦ let same = here.1 in cc
+      | inr later ↦ no_word doc rest word later
+    ]
+
+pub in_order : (doc : Members) (ks : List Key) (fault : ConfigFault) → (fault ≢ NoMemory → first_range_fault doc ks ≡ Some fault) → IsInByteOrder doc fault
+in_order doc ks (Unknown word) told = absurd (no_word doc ks word (told (λ same. cc)))
+in_order doc ks NotToml told = tt
+in_order doc ks (Missing key) told = tt
+in_order doc ks (Kind key) told = tt
+in_order doc ks (Range key value) told = tt
+in_order doc ks (NoRoom needed budget) told = tt
+in_order doc ks NoMemory told = tt

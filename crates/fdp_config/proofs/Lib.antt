@@ -3,7 +3,8 @@ pub mod Chain
 pub mod Checks
 pub mod Handles
 pub mod InRange
+pub mod Order
+pub mod Passing
 pub mod Spelled
-pub mod Tests
 pub mod Told
 pub mod Views

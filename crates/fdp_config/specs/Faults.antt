@@ -1,7 +1,10 @@
 -- Which fault is told of a text: the first that holds.
-use Rattle.std.specs.Prelude.{◌≡◌, ℕ, List, [], ◌∷◌, ◌⊎◌, Option, Some, None, Result, Ok, Err, MatchResult, ◌≢◌, if◌then◌else◌, nat_lt}
+use Rattle.std.specs.Prelude.{◌≡◌, ℕ, Contains, false, List, [], ◌∷◌, ◌⊎◌, Option, Some, None, Result, Ok, Err, MatchResult, ◌≢◌, if◌then◌else◌, nat_lt}
+use Rattle.std.specs.Cmp.Lexicographic.{slice_cmp}
 use Rattle.std.specs.List.{find}
 use Rattle.std.specs.Option.{option_map, option_or}
+use Rattle.std.specs.Ordering.{nat_cmp}
+use Rattle.std.specs.declared.cmp.Ordering.TheVariants.{Greater}
 use Rattle.fdp_base.specs.declared.config.DriveConfig.{DriveConfig}
 use Rattle.fdp_base.specs.Geometry.{area_pages}
 use Rattle.fdp_base.specs.Placement.{geometry_of, handle_count, full_budget, namespace_blocks, needed_area_pages}
@@ -10,7 +13,7 @@ use Rattle.fdp_config.specs.declared.fault.ConfigFault.{ConfigFault}
 use Rattle.fdp_config.specs.declared.fault.ConfigFault.TheVariants.{NotToml, Unknown, Missing, Kind, Range, NoRoom, NoMemory}
 use Rattle.fdp_config.specs.declared.key.Key.{Key}
 use Rattle.fdp_config.specs.Document.{IsDocument, words_in}
-use Rattle.fdp_config.specs.Kinds.{is_unknown, is_missing, is_of_other_kind}
+use Rattle.fdp_config.specs.Kinds.{is_key, is_unknown, is_missing, is_of_other_kind}
 use Rattle.fdp_config.specs.Ranges.{range_fault}
 use Rattle.fdp_config.specs.Reading.{config_in}
 use Rattle.fdp_config.specs.Table.{keys}
@@ -40,6 +43,22 @@ fault_of doc =
 -- the fault that is told of a text
 abbrev pub IsFaultOf : List ℕ → ConfigFault → Type 0
 IsFaultOf text fault = ((fault ≡ NotToml) × ((doc : Members) → ¬ IsDocument text doc)) ⊎ ((doc : Members) × IsDocument text doc × (fault_of doc ≡ Some fault))
+
+-- a word of the document that is no key; no other such word comes before it in byte order
+pub record IsFirstUnknown (doc : Members) (word : List ℕ) : Type 0 where
+  pub there : Contains (words_in doc) word
+  pub unknown : is_key word ≡ false
+  pub first : (other : List ℕ) → Contains (words_in doc) other → is_key other ≡ false → slice_cmp nat_cmp word other ≢ Greater
+
+-- an unknown key that is told is the first in byte order
+abbrev pub IsInByteOrder : Members → ConfigFault → Type 0
+IsInByteOrder doc (Unknown word) = IsFirstUnknown doc word
+IsInByteOrder doc NotToml = Unit {0}
+IsInByteOrder doc (Missing key) = Unit {0}
+IsInByteOrder doc (Kind key) = Unit {0}
+IsInByteOrder doc (Range key value) = Unit {0}
+IsInByteOrder doc (NoRoom needed budget) = Unit {0}
+IsInByteOrder doc NoMemory = Unit {0}
 
 -- what was expected, unless memory ran out
 abbrev pub Gives : {A : Type 0} → Result A ConfigFault → Result A ConfigFault → Type 0

@@ -1,11 +1,13 @@
 //! What a document lacks, and where a value of another kind stands.
-ghost use Rattle.std.specs.Prelude.{◌≡◌, true, false, option_map, option_copied, string_bytes};
+ghost use Rattle.std.specs.Prelude.{◌≡◌, true, false, option_map, option_copied, string_bytes, IfSome};
 ghost use Rattle.std.specs.Option.{option_map_or};
 ghost use Rattle.toml.specs.Data.{get_member};
-ghost use Rattle.std.specs.BTreeMap.{keys as keys_of};
+ghost use Rattle.std.specs.BTreeMap.{keys as keys_of, IsOrdered};
 ghost use Rattle.std.specs.List.{find, list_all};
 ghost use Rattle.toml.specs.View.{view, table_view};
 ghost use Rattle.fdp_config.specs.Document.{words_in};
+ghost use Rattle.std.specs.String.{string_cmp};
+ghost use Rattle.fdp_config.specs.Faults.{IsFirstUnknown};
 ghost use Rattle.fdp_config.specs.Kinds.{blocks_word, handles_word, is_key, is_unknown, is_missing, is_of_other_kind, is_optional, is_array_of, is_text, is_number, is_namespace_key, describes_namespace, is_namespace, has_kind};
 ghost use Rattle.fdp_config.specs.Table.{keys};
 
@@ -15,7 +17,8 @@ use toml::{Table, Value};
 
 /// The first word, in byte order, that is no key.
 pub fn first_unknown(table: &Table) -> Option<&str>
-    ensures { option_map (λ word. word.now) result ≡ find is_unknown (words_in (table_view table.now)) }
+    ensures value { option_map (λ word. word.now) result ≡ find is_unknown (words_in (table_view table.now)) }
+    ensures first { IfSome result (λ word. IsFirstUnknown (table_view table.now) word.now) }
 {
     match first_unknown_key(table) {
         Some(word) => Some(word.as_str()),
@@ -24,7 +27,8 @@ pub fn first_unknown(table: &Table) -> Option<&str>
 }
 
 fn first_unknown_key(table: &Table) -> Option<&String>
-    ensures { option_copied result ≡ find (λ word. is_unknown (string_bytes word)) (keys_of table.now) }
+    ensures value { option_copied result ≡ find (λ word. is_unknown (string_bytes word)) (keys_of table.now) }
+    ensures ordered { IsOrdered string_cmp table.now }
 {
     table.keys().find(|word| !is_key(word.as_str()))
 }

@@ -10,6 +10,8 @@ mod namespaces;
 mod numbers;
 mod read;
 mod room;
+#[cfg(test)]
+mod tests;
 
 pub use fault::{ConfigFault, NoConfig, Word};
 pub use key::{Key, Shape};

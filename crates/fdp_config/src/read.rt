@@ -1,8 +1,11 @@
 ghost use Rattle.std.specs.Prelude.{◌≡◌, ◌≢◌, ◌<◌, ◌≤◌, [], All, None, Some, IfOk, IfErr, length, slice_index_or, if◌then◌else◌};
+ghost use Rattle.fdp_base.specs.Config.{IsValidConfig};
 ghost use Rattle.fdp_base.specs.Geometry.{IsWithin};
 ghost use Rattle.fdp_base.specs.declared.config.DriveConfig.{DriveConfig};
+ghost use Rattle.toml.specs.Data.{Members};
 ghost use Rattle.toml.specs.View.{table_view};
-ghost use Rattle.fdp_config.specs.Faults.{Gives, IsFaultOf, fault_of, first_range_fault};
+ghost use Rattle.fdp_config.specs.Document.{IsDocument};
+ghost use Rattle.fdp_config.specs.Faults.{Gives, IsFaultOf, IsInByteOrder, fault_of, first_range_fault};
 ghost use Rattle.fdp_config.specs.Reading.{config_in};
 ghost use Rattle.fdp_config.specs.Spelling.{IsConfigText};
 ghost use Rattle.fdp_config.specs.Table.{keys};
@@ -27,6 +30,7 @@ pub const TEXT_LIMIT: u64 = 65_536;
 fn read_table(alloc: Global, table: &Table) -> Result<DriveConfig, ConfigFault>
     ensures config { IfOk result (λ c. (c ≡ config_in (table_view table.now)) × (fault_of (table_view table.now) ≡ None)) }
     ensures fault { IfErr result (λ fault. fault ≢ ConfigFault.NoMemory → fault_of (table_view table.now) ≡ Some fault) }
+    ensures first { IfErr result (IsInByteOrder (table_view table.now)) }
 {
     if let Some(word) = first_unknown(table) {
         return Err(ConfigFault::Unknown {
@@ -103,7 +107,11 @@ fn listable(fdp: &[Classes], enabled: bool, index: usize) -> usize
 /// The configuration that a text describes, or the first of its faults. `Err(NoMemory)` leaves nothing behind.
 pub fn read_config(alloc: Global, text: &[u8]) -> Result<DriveConfig, ConfigFault>
     ensures config { IfOk result (IsConfigText text.now) }
+    ensures valid { IfOk result IsValidConfig }
     ensures fault { IfErr result (λ fault. fault ≢ ConfigFault.NoMemory → IsFaultOf text.now fault) }
+
+    // The unknown key that is told is the first in byte order.
+    ensures first { IfErr result (λ fault. (doc : Members) → IsDocument text.now doc → IsInByteOrder doc fault) }
 
     // A text of a configuration is read as it, and a fault is told, unless memory runs out.
     ensures read { (c : DriveConfig) → IsConfigText text.now c → Gives result (Ok c) }

@@ -1,4 +1,4 @@
-use Rattle.fdp_config.proofs.Tests.{array_passes}
+use Rattle.fdp_config.proofs.Passing.{array_passes}
 use Rattle.fdp_config.specs.Kinds.{is_text}
 use Rattle.fdp_config.proofs.kinds.are_texts.Goals as goal
 

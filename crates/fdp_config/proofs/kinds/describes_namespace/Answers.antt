@@ -1,5 +1,5 @@
 use Rattle.std.proofs.Common.{◌∙◌, arith}
-use Rattle.fdp_config.proofs.Tests.{list_all-words}
+use Rattle.fdp_config.proofs.Passing.{list_all-words}
 use Rattle.fdp_config.specs.Kinds.{is_namespace_key}
 use Rattle.fdp_config.proofs.kinds.describes_namespace.Goals as goal
 use Rattle.fdp_config.proofs.kinds.describes_namespace.Goals.{then-each_is_namespace_key, else-each_is_namespace_key}
