@@ -1,5 +1,5 @@
 -- A value or the fault of its range, beside a further fault.
-use Rattle.std.proofs.Common.{◌≡◌, ℕ, Option, Some, None, Result, Ok, Err, refl, ap}
+use Rattle.std.proofs.Common.{◌≡◌, ℕ, Option, Some, None, Ok, Err, refl, ap}
 use Rattle.std.specs.Option.{option_or}
 use Rattle.fdp_config.specs.declared.fault.ConfigFault.{ConfigFault}
 use Rattle.fdp_config.specs.declared.fault.ConfigFault.TheVariants.{Range}

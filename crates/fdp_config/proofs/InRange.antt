@@ -1,6 +1,6 @@
 -- Where no fault of range is told, each value of the configuration is in its range.
-use Rattle.std.proofs.Common.{◌≡◌, ◌≢◌, ℕ, zero, suc, ℤ, pos, negsuc, ◌+◌, ◌-◌, ◌*◌, ◌<◌, ◌≤◌, Bool, true, false, not, ◌&&◌, ◌||◌, ◌==◌, nat_le, nat_lt, List, [], ◌∷◌, length, map, Option, Some, None, unwrap_or, is_some, refl, sym, ap, ◌∙◌, arith, if◌then◌else◌, get_or, slice_index_or, All, IsTrue}
-use Rattle.std.proofs.lemmas.Bool.{and_parts, cases_Bool, false≢true}
+use Rattle.std.proofs.Common.{◌≡◌, ◌≢◌, ℕ, zero, suc, ℤ, pos, negsuc, ◌+◌, ◌-◌, ◌<◌, ◌≤◌, Bool, true, false, not, ◌&&◌, ◌||◌, ◌==◌, nat_le, nat_lt, List, [], ◌∷◌, length, map, Option, Some, None, unwrap_or, refl, sym, ◌∙◌, arith, if◌then◌else◌, get_or, slice_index_or, All, IsTrue}
+use Rattle.std.proofs.lemmas.Bool.{and_parts, false≢true}
 use Rattle.std.proofs.lemmas.Bool.Decides.{nat_tests}
 use Rattle.std.proofs.lemmas.List.{length-map}
 use Rattle.std.specs.List.{list_any, list_all}
@@ -8,9 +8,8 @@ use Rattle.std.specs.Option.{option_or, option_map_or, ForSome}
 use Rattle.fdp_base.specs.declared.config.Class.{Class}
 use Rattle.fdp_base.specs.declared.config.Class.TheVariants.{Initial}
 use Rattle.fdp_base.specs.declared.config.DriveConfig.{DriveConfig}
-use Rattle.fdp_base.specs.declared.config.NamespaceConfig.{NamespaceConfig}
 use Rattle.fdp_base.specs.Config.{HasNoRepeat, IsHandleList, IsInRange, IsValidNamespace}
-use Rattle.fdp_base.specs.Geometry.{IsBlockSize, IsWithin, all_pages}
+use Rattle.fdp_base.specs.Geometry.{IsWithin, all_pages}
 use Rattle.fdp_base.specs.Placement.{geometry_of, handle_count}
 use Rattle.toml.specs.Data.{Data, Members, get}
 use Rattle.fdp_config.proofs.Chain.{fdp_range, namespaces_range, past_all}

@@ -1,6 +1,5 @@
 -- The first unknown word of a table is the first in byte order.
-use Rattle.std.proofs.Common.{◌≡◌, ◌≢◌, ℕ, zero, suc, ◌<◌, Bool, true, false, not, List, [], ◌∷◌, length, get_or, slice_index_or, Option, Some, None, Ordering, Less, Equal, Greater, nat_cmp, String, Global, string_bytes, Contains, refl, sym, ap, ◌∙◌, arith, if◌then◌else◌, ◌⊎◌, inl, inr}
-use Rattle.std.proofs.lemmas.Bool.{cases_Bool}
+use Rattle.std.proofs.Common.{◌≡◌, ◌≢◌, ℕ, zero, suc, ◌<◌, Bool, true, false, not, List, [], ◌∷◌, length, slice_index_or, Option, Some, Ordering, Less, Greater, nat_cmp, String, Global, string_bytes, Contains, refl, arith, if◌then◌else◌, ◌⊎◌, inl, inr}
 use Rattle.std.proofs.lemmas.Cmp.{nat_list_cmp_total}
 use Rattle.std.specs.Cmp.{tied_itself}
 use Rattle.std.specs.Cmp.Lexicographic.{slice_cmp}
@@ -9,7 +8,6 @@ use Rattle.std.specs.List.Sorted.{IsStrictlySortedBy}
 use Rattle.std.specs.Map.{keys_of}
 use Rattle.std.specs.String.{string_cmp}
 use Rattle.toml.proofs.Views.{Entry}
-use Rattle.toml.specs.Data.{Members}
 use Rattle.toml.specs.View.{members_view}
 use Rattle.fdp_config.specs.Document.{words_in}
 use Rattle.fdp_config.specs.Faults.{IsFirstUnknown}
@@ -36,16 +34,16 @@ first_unknown_of word [] sorted found = absurd (cc)
 first_unknown_of word (e ∷ es) sorted found =
     elim (found_here (is_key (string_bytes e.0)) (string_bytes e.0) word (find is_unknown (words_in (members_view es))) found) [
       | inl here ↦ record {
-          there = (0, omega arith, here.1);
-          unknown = rw (← here.1) here.0;
-          first = λ other among unknown. rw (← here.1) (first_here e es other sorted.0 among)
-        }
+        there = (0, omega arith, here.1);
+        unknown = rw (← here.1) here.0;
+        first = λ other among unknown. rw (← here.1) (first_here e es other sorted.0 among);
+      }
       | inr later ↦
           let rest = first_unknown_of word es sorted.1 later.1 in
           record {
             there = (suc rest.there.0, omega (arith, rest.there.1), rest.there.2);
             unknown = rest.unknown;
-            first = λ other among unknown. rest.first other (not_first (string_bytes e.0) (words_in (members_view es)) other later.0 unknown among) unknown
+            first = λ other among unknown. rest.first other (not_first (string_bytes e.0) (words_in (members_view es)) other later.0 unknown among) unknown;
           }
     ]
   where

@@ -1,12 +1,11 @@
 -- A document without a fault spells the configuration that it reads as.
-use Rattle.std.proofs.Common.{◌≡◌, ℕ, ℤ, pos, negsuc, ◌+◌, ◌≤◌, nat_le, Bool, true, false, not, ◌&&◌, nat_lt, List, [], ◌∷◌, length, map, Option, Some, None, unwrap_or, is_some, is_none, option_map, codes, refl, sym, ap, ◌∙◌, arith, rules, if◌then◌else◌, inl, inr}
-use Rattle.std.proofs.lemmas.Bool.{and_parts, cases_Bool, false≢true}
+use Rattle.std.proofs.Common.{◌≡◌, ℕ, pos, negsuc, ◌+◌, ◌≤◌, nat_le, Bool, true, false, not, ◌&&◌, nat_lt, List, [], ◌∷◌, length, map, Option, Some, None, unwrap_or, is_some, is_none, option_map, codes, refl, sym, ap, ◌∙◌, arith, rules, if◌then◌else◌, inl, inr}
+use Rattle.std.proofs.lemmas.Bool.{and_parts}
 use Rattle.std.proofs.lemmas.Bool.Decides.{nat_tests}
 use Rattle.std.proofs.lemmas.Slice.Eq.{bytes_eq-Decides}
 use Rattle.std.specs.List.{AllZip, find, list_all}
 use Rattle.std.specs.Option.{option_map_or, option_or}
 use Rattle.std.specs.Str.{bytes_eq}
-use Rattle.fdp_base.specs.declared.config.Class.{Class}
 use Rattle.fdp_base.specs.declared.config.Class.TheVariants.{Initial, Persistent}
 use Rattle.fdp_base.specs.declared.config.DriveConfig.{DriveConfig}
 use Rattle.fdp_base.specs.Config.{HasRoom}
@@ -14,11 +13,11 @@ use Rattle.toml.specs.Data.{Data, string, integer, float, boolean, datetime, arr
 use Rattle.toml.specs.View.{items_of}
 use Rattle.fdp_config.proofs.Chain.{fdp_range, namespaces_range, past_all}
 use Rattle.fdp_config.proofs.InRange.{handle_list_parts, if_then, in_range, option_or_none, unless}
-use Rattle.fdp_config.specs.Document.{elements, elements_of, items_list, natural, number_of, truth_of, value_at, words_in}
+use Rattle.fdp_config.specs.Document.{elements_of, items_list, number_of, truth_of, value_at, words_in}
 use Rattle.fdp_config.specs.Faults.{fault_of, first_range_fault, room_fault}
-use Rattle.fdp_config.specs.Kinds.{blocks_word, handles_word, describes_namespace, is_array_of, is_key, is_missing, is_namespace, is_namespace_key, is_number, is_of_other_kind, is_text, is_unknown}
+use Rattle.fdp_config.specs.Kinds.{blocks_word, handles_word, is_array_of, is_key, is_missing, is_namespace, is_namespace_key, is_number, is_of_other_kind, is_text}
 use Rattle.fdp_config.specs.Ranges.{blocks_fault, class_fault, classes_fault, configurations_fault, first_of, handles_fault, is_handle, is_handle_list, is_within, listable, namespace_fault, namespaces_fault, outside, own_fault, further_fault, range_fault}
-use Rattle.fdp_config.specs.Reading.{amount_at, amount_of, class_named, class_of, classes_in, config_in, given, namespace_in}
+use Rattle.fdp_config.specs.Reading.{amount_of, class_named, class_of, classes_in, config_in, given, namespace_in}
 use Rattle.fdp_config.specs.Spelling.{IsConfigOf, Spells, SpellsHandles, SpellsNamespace, SpellsNamespaces, array_of, class_word, classes_array, number}
 use Rattle.fdp_config.specs.Table.{keys, row_of}
 use Rattle.fdp_config.specs.declared.fault.ConfigFault.{ConfigFault}

@@ -1,6 +1,5 @@
 -- A document that spells a configuration reads as it, and has no fault.
-use Rattle.std.proofs.Common.{◌≡◌, ◌≢◌, ℕ, zero, suc, ℤ, pos, ◌+◌, ◌-◌, ◌<◌, ◌≤◌, nat_le, le-leb, Bool, true, false, not, ◌&&◌, ◌||◌, ◌==◌, nat_lt, List, [], ◌∷◌, length, map, get_or, slice_index_or, Option, Some, None, unwrap_or, is_some, is_none, option_map, refl, sym, ap, ◌∙◌, arith, if◌then◌else◌, inl, inr, ⊎_elim, All, IsTrue}
-use Rattle.std.proofs.lemmas.Bool.{cases_Bool}
+use Rattle.std.proofs.Common.{◌≡◌, ◌≢◌, ℕ, suc, ◌+◌, ◌-◌, ◌<◌, ◌≤◌, nat_le, le-leb, Bool, true, false, not, ◌&&◌, ◌||◌, ◌==◌, nat_lt, List, [], ◌∷◌, length, map, get_or, Option, Some, None, unwrap_or, is_some, is_none, option_map, refl, sym, ap, ◌∙◌, arith, if◌then◌else◌, inl, inr, All, IsTrue}
 use Rattle.std.proofs.lemmas.Bool.Decides.{nat_tests}
 use Rattle.std.proofs.lemmas.List.{length-map}
 use Rattle.std.specs.List.{AllZip, find, list_all, list_any}
@@ -12,15 +11,15 @@ use Rattle.fdp_base.specs.declared.config.NamespaceConfig.{NamespaceConfig}
 use Rattle.fdp_base.specs.Config.{HasNoRepeat, HasRoom, IsHandleList, IsInRange, IsValidNamespace}
 use Rattle.fdp_base.specs.Geometry.{IsWithin}
 use Rattle.fdp_base.specs.Placement.{handle_count}
-use Rattle.toml.specs.Data.{Data, integer, boolean, array, table, Members, get_member, get, as_bool}
+use Rattle.toml.specs.Data.{Data, boolean, Members, get_member, get, as_bool}
 use Rattle.toml.specs.View.{items_of}
 use Rattle.fdp_config.proofs.Chain.{all_past}
 use Rattle.fdp_config.proofs.Views.{counted}
 use Rattle.fdp_config.specs.Document.{elements, elements_of, items_list, number_of, truth_of, value_at, words_in}
 use Rattle.fdp_config.specs.Faults.{fault_of, first_range_fault, room_fault}
-use Rattle.fdp_config.specs.Kinds.{blocks_word, handles_word, is_array_of, is_key, is_missing, is_namespace, is_namespace_key, is_number, is_of_other_kind, is_text, is_unknown}
-use Rattle.fdp_config.specs.Ranges.{above, blocks_fault, class_fault, classes_fault, configurations_fault, first_of, handles_fault, has_repeat, is_handle, is_handle_list, is_within, listable, namespace_fault, namespaces_fault, outside, further_fault, range_fault}
-use Rattle.fdp_config.specs.Reading.{amount_at, amount_of, class_of, classes_in, config_in, given, namespace_in}
+use Rattle.fdp_config.specs.Kinds.{blocks_word, handles_word, is_array_of, is_key, is_missing, is_namespace, is_number, is_of_other_kind, is_text}
+use Rattle.fdp_config.specs.Ranges.{above, blocks_fault, class_fault, classes_fault, configurations_fault, first_of, handles_fault, has_repeat, is_handle, is_within, listable, namespace_fault, namespaces_fault, outside, further_fault, range_fault}
+use Rattle.fdp_config.specs.Reading.{amount_of, class_of, classes_in, config_in, given, namespace_in}
 use Rattle.fdp_config.specs.Spelling.{IsConfigOf, SpellsHandles, SpellsNamespace, SpellsNamespaces, array_of, class_word, classes_array, number}
 use Rattle.fdp_config.specs.Table.{keys}
 use Rattle.fdp_config.specs.declared.key.Key.{Key}

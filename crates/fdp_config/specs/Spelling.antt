@@ -1,5 +1,5 @@
 -- How a document spells a configuration.
-use Rattle.std.specs.Prelude.{◌≡◌, ℕ, pos, true, List, [], ◌∷◌, map, IsTrue, ◌⊎◌, Option, Some, None, MatchOption, codes}
+use Rattle.std.specs.Prelude.{◌≡◌, ℕ, pos, List, [], map, IsTrue, ◌⊎◌, Option, Some, None, codes}
 use Rattle.std.specs.List.{AllZip, list_all}
 use Rattle.fdp_base.specs.declared.config.Class.{Class}
 use Rattle.fdp_base.specs.declared.config.Class.TheVariants.{Initial, Persistent}

@@ -51,7 +51,6 @@ fn read_table(alloc: Global, table: &Table) -> Result<DriveConfig, ConfigFault>
 }
 
 /// The configuration that a document reads as, where each value is in its range.
-
 fn ranged_config(alloc: Global, table: &Table) -> Result<DriveConfig, ConfigFault>
     ensures config { IfOk result (λ c. (c ≡ config_in (table_view table.now)) × (first_range_fault (table_view table.now) keys ≡ None)) }
     ensures fault { IfErr result (λ fault. fault ≢ ConfigFault.NoMemory → first_range_fault (table_view table.now) keys ≡ Some fault) }

@@ -1,4 +1,4 @@
-use Rattle.std.proofs.Common.{◌≡◌, ◌≤◌, ℕ, length, map, None, Some, unwrap_or, refl, sym, arith}
+use Rattle.std.proofs.Common.{◌≡◌, ◌≤◌, ℕ, length, None, Some, unwrap_or, refl, arith}
 use Rattle.std.proofs.lemmas.Bool.Decides.{nat_tests}
 use Rattle.fdp_base.specs.declared.config.Class.TheVariants.{Initial}
 use Rattle.toml.specs.Data.{Data}

@@ -1,12 +1,11 @@
-use Rattle.std.proofs.Common.{◌≡◌, ◌≤◌, ℕ, List, [], ◌∷◌, length, map, Bool, true, false, not, ◌&&◌, Option, None, Some, refl, sym, ◌∙◌, ap, arith, nat_le, le-leb, if◌then◌else◌}
+use Rattle.std.proofs.Common.{◌≡◌, ◌≤◌, ℕ, List, [], ◌∷◌, length, map, Bool, true, false, not, ◌&&◌, None, Some, refl, sym, arith, nat_le, le-leb, if◌then◌else◌}
 use Rattle.std.proofs.lemmas.Bool.Decides.{nat_tests}
 use Rattle.std.proofs.lemmas.List.{length-map}
 use Rattle.toml.specs.Data.{Data}
 use Rattle.toml.specs.View.{view}
-use Rattle.toml.specs.declared.value.Value.{Value}
 use Rattle.fdp_config.proofs.Checks.{checked_fails, checked_passes}
 use Rattle.fdp_config.proofs.Handles.{handle_fault, list_all-handles, list_all-told}
-use Rattle.fdp_config.proofs.Views.{reads_more, reads_stop, reads_all, as_many}
+use Rattle.fdp_config.proofs.Views.{reads_more, reads_stop, reads_all}
 use Rattle.fdp_config.specs.declared.key.Key.TheVariants.{Namespaces}
 use Rattle.fdp_config.specs.Ranges.{first_of, has_repeat, is_handle, handles_fault}
 use Rattle.fdp_config.specs.Reading.{amount_of, given}

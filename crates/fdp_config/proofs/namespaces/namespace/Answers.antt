@@ -1,13 +1,12 @@
-use Rattle.std.proofs.Common.{◌≡◌, ℕ, List, map, Option, None, Some, unwrap_or, refl, sym, ap, ◌∙◌}
+use Rattle.std.proofs.Common.{◌≡◌, ℕ, List, Option, None, refl, sym, ap, ◌∙◌}
 use Rattle.std.proofs.lemmas.Result.{err_from_is_err_and}
-use Rattle.std.specs.Option.{option_or}
 use Rattle.toml.specs.Data.{Data, get}
 use Rattle.toml.specs.View.{view}
 use Rattle.fdp_config.proofs.Checks.{checked_fails, checked_free, checked_passes, checked_told}
-use Rattle.fdp_config.specs.Document.{elements_of, natural, number_of}
+use Rattle.fdp_config.specs.Document.{elements_of, number_of}
 use Rattle.fdp_config.specs.Kinds.{blocks_word, handles_word}
 use Rattle.fdp_config.specs.Ranges.{blocks_fault, handles_fault, namespace_fault}
-use Rattle.fdp_config.specs.Reading.{amount_of, given, namespace_in}
+use Rattle.fdp_config.specs.Reading.{namespace_in}
 use Rattle.fdp_config.specs.declared.key.Key.TheVariants.{Namespaces}
 use Rattle.fdp_config.proofs.namespaces.namespace.Goals as goal
 

@@ -1,8 +1,8 @@
-use Rattle.std.proofs.Common.{◌≡◌, ℕ, List, [], ◌∷◌, sym, refl, ap, ◌∙◌, arith}
+use Rattle.std.proofs.Common.{◌≡◌, [], ◌∷◌, sym, refl, ap, ◌∙◌}
 use Rattle.std.proofs.lemmas.Result.{err_from_is_err_and}
 use Rattle.toml.specs.View.{table_view}
 use Rattle.fdp_config.proofs.Chain.{stop_after, all_past, enabled_range, fdp_range, namespaces_range, listable_is}
-use Rattle.fdp_config.proofs.Checks.{checked_free, checked_told, checked_value}
+use Rattle.fdp_config.proofs.Checks.{checked_free, checked_told}
 use Rattle.fdp_config.specs.Document.{truth_of}
 use Rattle.fdp_config.specs.Reading.{config_in}
 use Rattle.fdp_config.specs.Table.{keys}
