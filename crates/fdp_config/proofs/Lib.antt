@@ -1,0 +1,10 @@
+pub mod Answer
+pub mod Chain
+pub mod Checks
+pub mod Handles
+pub mod InRange
+pub mod Order
+pub mod Passing
+pub mod Spelled
+pub mod Told
+pub mod Views

@@ -1,0 +1,8 @@
+pub mod Document
+pub mod Faults
+pub mod Kinds
+pub mod Ranges
+pub mod Reading
+pub mod Spelling
+pub mod Table
+pub mod Words

@@ -1,0 +1,18 @@
+//! A configuration text becomes a drive's configuration, or one named fault.
+#![tactic(auto)]
+
+mod configurations;
+mod document;
+mod fault;
+mod key;
+mod kinds;
+mod namespaces;
+mod numbers;
+mod read;
+mod room;
+#[cfg(test)]
+mod tests;
+
+pub use fault::{ConfigFault, NoConfig, Word};
+pub use key::{Key, Shape};
+pub use read::{TEXT_LIMIT, read_config};
