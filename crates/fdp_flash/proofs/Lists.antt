@@ -1,5 +1,5 @@
 -- Elements of lists by their index.
-use Rattle.std.proofs.Common.{◌≡◌, ◌≢◌, ℕ, zero, suc, ◌<◌, List, [], ◌∷◌, ◌++◌, length, slice_set, Some, arith, refl, ap}
+use Rattle.std.proofs.Common.{◌≡◌, ◌≢◌, ◌⊎◌, ℕ, zero, suc, ◌<◌, List, [], ◌∷◌, ◌++◌, length, slice_set, Some, arith, refl, ap, inl, inr}
 use Rattle.std.specs.List.{slice_get}
 
 -- the element that was written
@@ -26,3 +26,21 @@ slice_get-append (y ∷ xs) ys (suc i) x h = slice_get-append xs ys i x h
 pub slice_get-append_last : {X : Type 0} → (xs : List X) (x : X) → slice_get (xs ++ x ∷ []) (length xs) ≡ Some x
 slice_get-append_last [] x = refl
 slice_get-append_last (y ∷ xs) x = slice_get-append_last xs x
+
+-- an element after a write is the one that was written, or stood there before
+pub set_cases : {X : Type 0} → (xs : List X) (i k : ℕ) (x y : X) → slice_get (slice_set xs i x) k ≡ Some y →
+    ((k ≡ i) × (x ≡ y)) ⊎ ((k ≢ i) × (slice_get xs k ≡ Some y))
+set_cases [] i k x y h = cc
+set_cases (z ∷ zs) zero zero x y h = inl (refl, cc)
+set_cases (z ∷ zs) zero (suc k) x y h = inr (λ e. absurd (omega arith), h)
+set_cases (z ∷ zs) (suc i) zero x y h = inr (λ e. absurd (omega arith), h)
+set_cases (z ∷ zs) (suc i) (suc k) x y h = elim (set_cases zs i k x y h) [
+    inl same ↦ inl (ap suc same.0, same.1)
+  | inr other ↦ inr (λ e. other.0 (omega arith), other.1)
+  ]
+
+-- a write of what stands there changes nothing
+pub slice_set-same : {X : Type 0} → (xs : List X) (i : ℕ) (x : X) → slice_get xs i ≡ Some x → slice_set xs i x ≡ xs
+slice_set-same [] i x h = refl
+slice_set-same (y ∷ ys) zero x h = let e : x ≡ y = cc in cc
+slice_set-same (y ∷ ys) (suc i) x h = ap (λ zs. y ∷ zs) (slice_set-same ys i x h)

@@ -1,5 +1,8 @@
 pub mod Answers
+pub mod Blocks
 pub mod Cells
 pub mod FlashState
 pub mod Layout
+pub mod Plan
+pub mod Recorded
 pub mod Runs

@@ -4,7 +4,11 @@
 mod answer;
 mod cell;
 mod flash;
+mod memory;
+mod plan;
 
 pub use answer::{Fetched, Operation, Seen, Wrote};
 pub use cell::Cell;
 pub use flash::Flash;
+pub use memory::Recorded;
+pub use plan::{Fate, Outcome, Plan};

@@ -1,0 +1,81 @@
+-- What a list of calls makes of the pages, and what a stop within one of them leaves.
+use Rattle.std.specs.Prelude.{◌≡◌, ◌⊎◌, ℕ, zero, suc, ◌+◌, ◌-◌, ◌<◌, ◌≤◌, Bool, true, false, List, [], ◌∷◌, length, slice_get, slice_set, take, Some}
+use Rattle.fdp_base.specs.declared.config.Geometry.{Geometry}
+use Rattle.fdp_base.specs.declared.entry.Spot.{Spot}
+use Rattle.fdp_flash.specs.declared.answer.Operation.{Operation}
+use Rattle.fdp_flash.specs.declared.answer.Operation.TheVariants.{Look, Fetch, Program, Erase}
+use Rattle.fdp_flash.specs.declared.cell.Cell.{Cell}
+use Rattle.fdp_flash.specs.declared.cell.Cell.TheVariants as cell
+use Rattle.fdp_flash.specs.declared.memory.recorded.Recorded.{Recorded}
+use Rattle.fdp_flash.specs.declared.plan.Fate.{Fate}
+use Rattle.fdp_flash.specs.declared.plan.Fate.TheVariants.{Done, Fails, Refused}
+use Rattle.fdp_flash.specs.declared.plan.Outcome.{Outcome}
+use Rattle.fdp_flash.specs.declared.plan.Outcome.TheVariants.{Blank, Whole, Torn}
+use Rattle.fdp_flash.specs.Cells.{ProgramMayLeave, EraseMayLeave}
+use Rattle.fdp_flash.specs.FlashState.{Call}
+use Rattle.fdp_flash.specs.Layout.{first_page, page_number}
+use Rattle.fdp_flash.specs.Plan.{fails}
+
+-- so many pages from this one on are all this cell
+unfoldable pub filled : ℕ → ℕ → Cell → List Cell → List Cell
+filled first zero content cells = cells
+filled first (suc n) content cells = slice_set (filled first n content cells) (first + n) content
+
+-- what a program with this outcome leaves of its page
+abbrev pub programmed_cell : Outcome → List ℕ → List ℕ → Cell
+programmed_cell Blank spare bytes = cell.Blank
+programmed_cell Torn spare bytes = cell.Torn
+programmed_cell Whole spare bytes = cell.Whole spare bytes
+
+-- the pages after a program with this fate
+abbrev pub after_program : Geometry → Spot → List ℕ → List ℕ → Fate → List Cell → List Cell
+after_program g at spare bytes Done cells = slice_set cells (page_number g at) (cell.Whole spare bytes)
+after_program g at spare bytes (Fails outcome) cells = slice_set cells (page_number g at) (programmed_cell outcome spare bytes)
+after_program g at spare bytes Refused cells = cells
+
+-- the pages after an erase with this outcome
+abbrev pub after_erase_left : Geometry → ℕ → Outcome → List Cell → List Cell
+after_erase_left g unit Blank cells = filled (first_page g unit) g.unit_pages cell.Blank cells
+after_erase_left g unit Torn cells = filled (first_page g unit) g.unit_pages cell.Torn cells
+after_erase_left g unit Whole cells = cells
+
+-- the pages after an erase with this fate
+abbrev pub after_erase : Geometry → ℕ → Fate → List Cell → List Cell
+after_erase g unit Done cells = filled (first_page g unit) g.unit_pages cell.Blank cells
+after_erase g unit (Fails outcome) cells = after_erase_left g unit outcome cells
+after_erase g unit Refused cells = cells
+
+-- the pages after a call with this fate
+abbrev pub after_call : Geometry → Operation → Spot → List ℕ → List ℕ → Fate → List Cell → List Cell
+after_call g Look at spare bytes fate cells = cells
+after_call g Fetch at spare bytes fate cells = cells
+after_call g Program at spare bytes fate cells = after_program g at spare bytes fate cells
+after_call g Erase at spare bytes fate cells = after_erase g at.unit fate cells
+
+-- the pages after these calls
+unfoldable pub replay : Geometry → List Recorded → List Cell → List Cell
+replay g [] cells = cells
+replay g (call ∷ calls) cells = replay g calls (after_call g call.operation call.at call.spare call.bytes call.fate cells)
+
+-- what a stop within a call may leave
+abbrev pub StopMayLeave : Operation → Geometry → List Cell → Spot → List ℕ → List ℕ → List Cell → Type 0
+StopMayLeave Look g cells at spare bytes image = image ≡ cells
+StopMayLeave Fetch g cells at spare bytes image = image ≡ cells
+StopMayLeave Program g cells at spare bytes image = ProgramMayLeave g cells at spare bytes image
+StopMayLeave Erase g cells at spare bytes image = EraseMayLeave g cells at.unit image
+
+-- the call of this moment is on the list, and a stop within it may leave this image
+pub record MayLeaveWithin (g : Geometry) (first : List Cell) (calls : List Recorded) (moment : ℕ) (image : List Cell) : Type 0 where
+  pub before : ℕ
+  pub moment_is : moment ≡ before + 1
+  pub call : Recorded
+  pub call_is : slice_get calls before ≡ Some call
+  pub left : StopMayLeave call.operation g (replay g (take before calls) first) call.at call.spare call.bytes image
+
+-- a stop in the call of this moment may leave this image; a call that is not on the list leaves all as it was
+abbrev pub MayLeaveAt : Geometry → List Cell → List Recorded → ℕ → List Cell → Type 0
+MayLeaveAt g first calls moment image = MayLeaveWithin g first calls moment image ⊎ ((length calls < moment) × (image ≡ replay g calls first))
+
+-- a call on the list as it is told
+abbrev pub call_of : Recorded → Call
+call_of call = record { operation = call.operation; at = call.at; failed = fails call.fate }

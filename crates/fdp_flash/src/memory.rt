@@ -1,0 +1,4 @@
+mod pages;
+mod recorded;
+
+pub use recorded::Recorded;
