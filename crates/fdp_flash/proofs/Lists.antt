@@ -1,6 +1,7 @@
 -- Elements of lists by their index.
-use Rattle.std.proofs.Common.{◌≡◌, ◌≢◌, ◌⊎◌, ℕ, zero, suc, ◌<◌, List, [], ◌∷◌, ◌++◌, length, slice_set, Some, arith, refl, ap, inl, inr}
+use Rattle.std.proofs.Common.{◌≡◌, ◌≢◌, ◌⊎◌, ℕ, zero, suc, ◌<◌, List, [], ◌∷◌, ◌++◌, length, slice_set, Some, arith, refl, ap, take, inl, inr}
 use Rattle.std.specs.List.{slice_get}
+use Rattle.std.proofs.Math.Seq.{take-append_seam}
 
 -- the element that was written
 pub slice_get-set_same : {X : Type 0} → (xs : List X) (i : ℕ) (x : X) → i < length xs → slice_get (slice_set xs i x) i ≡ Some x
@@ -44,3 +45,7 @@ pub slice_set-same : {X : Type 0} → (xs : List X) (i : ℕ) (x : X) → slice_
 slice_set-same [] i x h = refl
 slice_set-same (y ∷ ys) zero x h = let e : x ≡ y = cc in cc
 slice_set-same (y ∷ ys) (suc i) x h = ap (λ zs. y ∷ zs) (slice_set-same ys i x h)
+
+-- the front of two lists is the first one
+pub take-front : {X : Type 0} → (xs ys : List X) (n : ℕ) → n ≡ length xs → take n (xs ++ ys) ≡ xs
+take-front xs ys n e = rw e (take-append_seam xs ys)

@@ -3,6 +3,7 @@ pub mod Blocks
 pub mod Cells
 pub mod FlashState
 pub mod Layout
+pub mod Noted
 pub mod Plan
 pub mod Recorded
 pub mod Runs

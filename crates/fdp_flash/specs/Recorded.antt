@@ -27,30 +27,30 @@ programmed_cell Blank spare bytes = cell.Blank
 programmed_cell Torn spare bytes = cell.Torn
 programmed_cell Whole spare bytes = cell.Whole spare bytes
 
--- the pages after a program with this fate
-abbrev pub after_program : Geometry → Spot → List ℕ → List ℕ → Fate → List Cell → List Cell
-after_program g at spare bytes Done cells = slice_set cells (page_number g at) (cell.Whole spare bytes)
-after_program g at spare bytes (Fails outcome) cells = slice_set cells (page_number g at) (programmed_cell outcome spare bytes)
-after_program g at spare bytes Refused cells = cells
+-- the pages after a program with this fate, by the number of its page
+abbrev pub after_program : ℕ → List ℕ → List ℕ → Fate → List Cell → List Cell
+after_program page spare bytes Done cells = slice_set cells page (cell.Whole spare bytes)
+after_program page spare bytes (Fails outcome) cells = slice_set cells page (programmed_cell outcome spare bytes)
+after_program page spare bytes Refused cells = cells
 
--- the pages after an erase with this outcome
-abbrev pub after_erase_left : Geometry → ℕ → Outcome → List Cell → List Cell
-after_erase_left g unit Blank cells = filled (first_page g unit) g.unit_pages cell.Blank cells
-after_erase_left g unit Torn cells = filled (first_page g unit) g.unit_pages cell.Torn cells
-after_erase_left g unit Whole cells = cells
+-- the pages after an erase with this outcome, by the number of its first page and how many it has
+abbrev pub after_failed_erase : ℕ → ℕ → Outcome → List Cell → List Cell
+after_failed_erase first count Blank cells = filled first count cell.Blank cells
+after_failed_erase first count Torn cells = filled first count cell.Torn cells
+after_failed_erase first count Whole cells = cells
 
 -- the pages after an erase with this fate
-abbrev pub after_erase : Geometry → ℕ → Fate → List Cell → List Cell
-after_erase g unit Done cells = filled (first_page g unit) g.unit_pages cell.Blank cells
-after_erase g unit (Fails outcome) cells = after_erase_left g unit outcome cells
-after_erase g unit Refused cells = cells
+abbrev pub after_erase : ℕ → ℕ → Fate → List Cell → List Cell
+after_erase first count Done cells = filled first count cell.Blank cells
+after_erase first count (Fails outcome) cells = after_failed_erase first count outcome cells
+after_erase first count Refused cells = cells
 
 -- the pages after a call with this fate
 abbrev pub after_call : Geometry → Operation → Spot → List ℕ → List ℕ → Fate → List Cell → List Cell
 after_call g Look at spare bytes fate cells = cells
 after_call g Fetch at spare bytes fate cells = cells
-after_call g Program at spare bytes fate cells = after_program g at spare bytes fate cells
-after_call g Erase at spare bytes fate cells = after_erase g at.unit fate cells
+after_call g Program at spare bytes fate cells = after_program (page_number g at) spare bytes fate cells
+after_call g Erase at spare bytes fate cells = after_erase (first_page g at.unit) g.unit_pages fate cells
 
 -- the pages after these calls
 unfoldable pub replay : Geometry → List Recorded → List Cell → List Cell
