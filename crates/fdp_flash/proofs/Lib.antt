@@ -1,7 +1,11 @@
 pub mod Blocks
 pub mod Calls
+pub mod Called
+pub mod Fates
 pub mod Faults
 pub mod Filled
+pub mod Images
 pub mod Lists
 pub mod Pages
+pub mod Replay
 pub mod Runs

@@ -49,3 +49,9 @@ slice_set-same (y ∷ ys) (suc i) x h = ap (λ zs. y ∷ zs) (slice_set-same ys 
 -- the front of two lists is the first one
 pub take-front : {X : Type 0} → (xs ys : List X) (n : ℕ) → n ≡ length xs → take n (xs ++ ys) ≡ xs
 take-front xs ys n e = rw e (take-append_seam xs ys)
+
+-- an element of the first of two lists, or none behind it
+pub slice_get-append_front : {X : Type 0} → (xs ys : List X) (i : ℕ) → i < length xs → slice_get (xs ++ ys) i ≡ slice_get xs i
+slice_get-append_front [] ys i h = absurd (omega arith)
+slice_get-append_front (x ∷ xs) ys zero h = refl
+slice_get-append_front (x ∷ xs) ys (suc i) h = slice_get-append_front xs ys i (omega arith)

@@ -1,8 +1,10 @@
 pub mod Answers
 pub mod Blocks
 pub mod Cells
+pub mod FlashMem
 pub mod FlashState
 pub mod Layout
+pub mod MemoryState
 pub mod Noted
 pub mod Plan
 pub mod Recorded

@@ -1,5 +1,5 @@
 ghost use Rattle.std.specs.Prelude.{◌≡◌, IsTrue, []};
-ghost use Rattle.fdp_flash.specs.Plan.{fate_of, planned_failure, plan_is_empty, keeps_calls};
+ghost use Rattle.fdp_flash.specs.Plan.{fate_of, planned_failure, plan_is_empty, keeps_calls, fails};
 
 use fdp_base::Sequence;
 use std::alloc::Global;
@@ -22,6 +22,19 @@ pub enum Fate {
     Fails(Outcome),
     /// It fails and leaves all as it was.
     Refused,
+}
+
+impl Fate {
+    /// Whether the call fails.
+    pub fn fails(self) -> bool
+        ensures { result ≡ fails self }
+    {
+        match self {
+            Fate::Done => false,
+            Fate::Fails(_) => true,
+            Fate::Refused => true,
+        }
+    }
 }
 
 /// Which calls of a flash in memory fail, by their moments. The first call has moment 1.
