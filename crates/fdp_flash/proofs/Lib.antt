@@ -1,3 +1,4 @@
+pub mod Answered
 pub mod Blocks
 pub mod Calls
 pub mod Called
@@ -7,5 +8,6 @@ pub mod Filled
 pub mod Images
 pub mod Lists
 pub mod Pages
+pub mod Reading
 pub mod Replay
 pub mod Runs

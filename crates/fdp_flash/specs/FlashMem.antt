@@ -1,11 +1,13 @@
 -- A flash in memory as contracts see it.
 use Rattle.std.specs.Prelude.{◌≡◌, ℕ, ◌<◌, Bool, IsTrue, List, [], slice_get, Some}
-use Rattle.fdp_base.specs.declared.config.Geometry.{Geometry}
-use Rattle.fdp_flash.specs.declared.cell.Cell.{Cell}
+use Rattle.fdp_base.specs.declared.entry.Spot.{Spot}
 use Rattle.fdp_flash.specs.declared.memory.FlashMem.{FlashMem}
 use Rattle.fdp_flash.specs.declared.plan.Plan.{Plan}
 use Rattle.fdp_flash.specs.FlashState.{FlashState}
+use Rattle.fdp_flash.specs.Layout.{first_page, page_number}
 use Rattle.fdp_flash.specs.MemoryState.{state_by}
+use Rattle.fdp_flash.specs.Plan.{fate_of, fails}
+use Rattle.fdp_flash.specs.Recorded.{after_program, after_erase}
 
 -- what contracts see of a flash in memory
 abbrev pub state_of : FlashMem → FlashState
@@ -14,3 +16,18 @@ state_of flash = state_by flash.plan flash.geometry flash.moment flash.faults fl
 -- the plan that it was made with
 abbrev pub plan_of : FlashMem → Plan
 plan_of flash = flash.plan
+
+-- the call failed exactly where the plan has it fail, and the plan stays
+pub record FollowsPlan (old new : FlashMem) (failed : Bool) : Type 0 where
+  pub fate : failed ≡ fails (fate_of (plan_of old) (state_of new).moment)
+  pub plan : plan_of new ≡ plan_of old
+
+-- the pages are as the plan says: all as they were, or what it names of the page that was to be programmed
+abbrev pub ProgramsAsPlanned : FlashMem → FlashMem → Spot → List ℕ → List ℕ → Type 0
+ProgramsAsPlanned old new at spare bytes =
+    (state_of new).cells ≡ after_program (page_number (state_of old).geometry at) spare bytes (fate_of (plan_of old) (state_of new).moment) (state_of old).cells
+
+-- the pages are as the plan says: all as they were, or what it names of those of the unit
+abbrev pub ErasesAsPlanned : FlashMem → FlashMem → ℕ → Type 0
+ErasesAsPlanned old new unit =
+    (state_of new).cells ≡ after_erase (first_page (state_of old).geometry unit) (state_of old).geometry.unit_pages (fate_of (plan_of old) (state_of new).moment) (state_of old).cells

@@ -7,5 +7,7 @@ pub mod Layout
 pub mod MemoryState
 pub mod Noted
 pub mod Plan
+pub mod Read
 pub mod Recorded
 pub mod Runs
+pub mod WellFormed

@@ -4,11 +4,12 @@
 mod answer;
 mod cell;
 mod flash;
+mod layout;
 mod memory;
 mod plan;
 
 pub use answer::{Fetched, Operation, Seen, Wrote};
 pub use cell::Cell;
 pub use flash::Flash;
-pub use memory::Recorded;
+pub use memory::{FlashMem, Recorded};
 pub use plan::{Fate, Outcome, Plan};

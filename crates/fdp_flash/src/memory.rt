@@ -1,17 +1,20 @@
 ghost use Rattle.std.specs.Vec.{vec_capacity};
 ghost use Rattle.std.proofs.Props.{props};
-ghost use Rattle.std.specs.Prelude.{◌≡◌, ◌<◌, ◌↔◌, IsTrue, if◌then◌else◌};
+ghost use Rattle.std.specs.Prelude.{◌≡◌, if◌then◌else◌};
 ghost use Rattle.fdp_flash.specs.FlashState.{counted};
-ghost use Rattle.fdp_flash.specs.Layout.{one_block_size, data_unit_count};
+ghost use Rattle.fdp_flash.specs.Layout.{one_block_size};
 ghost use Rattle.fdp_flash.specs.MemoryState.{IsSound, count_of_programs};
 
+mod calls;
 mod pages;
+mod read;
 mod recorded;
 
 pub use recorded::Recorded;
 
 use crate::answer::Operation;
 use crate::cell::Cell;
+use crate::layout::is_data_unit;
 use crate::memory::pages::Pages;
 use crate::memory::recorded::CallList;
 use crate::plan::Plan;
@@ -75,10 +78,4 @@ fn programs_after(geometry: Geometry, operation: Operation, unit: u32, failed: b
         Operation::Fetch => programs,
         Operation::Erase => programs,
     }
-}
-
-fn is_data_unit(geometry: Geometry, unit: u32) -> bool
-    ensures { IsTrue result ↔ (unit < data_unit_count geometry) }
-{
-    (unit as u64) < geometry.groups as u64 * geometry.units as u64
 }

@@ -1,0 +1,54 @@
+ghost use Rattle.std.specs.Prelude.{◌≡◌, ◌<◌, ◌↔◌, IsTrue, ℕ, List, length, slice_get, Some};
+ghost use Rattle.fdp_flash.specs.declared.cell.Cell.TheVariants.{Whole};
+ghost use Rattle.fdp_flash.specs.Read.{ReadsPage, ReadsExpected};
+
+use crate::answer::{Fetched, Seen};
+use crate::cell::Cell;
+
+/// Reads a page as it is.
+pub fn read_page(cells: &[Cell], page: usize, spare: &mut [u8; 32], bytes: &mut [u8]) -> Seen
+    requires within { page < length cells.now }
+    requires size { (kept_spare kept : List ℕ) → slice_get cells.now page ≡ Some (Whole kept_spare kept) → length kept ≡ length bytes.old }
+    ensures { ReadsPage cells.now page spare.new bytes.new result }
+{
+    match &cells[page] {
+        Cell::Blank => Seen::Blank,
+        Cell::Torn => Seen::Torn,
+        Cell::Whole {
+            spare: kept_spare,
+            bytes: kept,
+        } => {
+            *spare = *kept_spare;
+            bytes.copy_from_slice(kept.as_slice());
+            Seen::Whole
+        }
+    }
+}
+
+/// Reads the bytes of a page that is whole with this spare.
+pub fn read_expected(cells: &[Cell], page: usize, spare: &[u8; 32], bytes: &mut [u8]) -> Fetched
+    requires within { page < length cells.now }
+    requires size { (kept_spare kept : List ℕ) → slice_get cells.now page ≡ Some (Whole kept_spare kept) → length kept ≡ length bytes.old }
+    ensures { ReadsExpected cells.now page spare.now bytes.new result }
+{
+    match &cells[page] {
+        Cell::Blank => Fetched::Other,
+        Cell::Torn => Fetched::Other,
+        Cell::Whole {
+            spare: kept_spare,
+            bytes: kept,
+        } => {
+            if !is_same_spare(kept_spare, spare) {
+                return Fetched::Other;
+            }
+            bytes.copy_from_slice(kept.as_slice());
+            Fetched::Whole
+        }
+    }
+}
+
+fn is_same_spare(spare: &[u8; 32], other: &[u8; 32]) -> bool
+    ensures { IsTrue result ↔ (spare.now ≡ other.now) }
+{
+    spare == other
+}
