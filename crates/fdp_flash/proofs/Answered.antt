@@ -1,5 +1,5 @@
 -- What a call of a flash in memory answers.
-use Rattle.std.proofs.Common.{◌≡◌, ◌≢◌, ◌⊎◌, ℕ, ◌+◌, ◌<◌, ◌≤◌, nat_lt, if◌then◌else◌, Bool, true, false, IsTrue, List, length, Some, arith, refl, sym, ap, ◌∙◌}
+use Rattle.std.proofs.Common.{◌≡◌, ℕ, true, false, IsTrue, List, length, Some, arith, refl, ap, ◌∙◌}
 use Rattle.std.specs.List.{slice_get}
 use Rattle.std.proofs.lemmas.Bool.{lt-ltb, le-ltb}
 use Rattle.fdp_base.specs.declared.entry.Spot.{Spot}
@@ -10,14 +10,14 @@ use Rattle.fdp_flash.specs.declared.answer.Seen.{Seen}
 use Rattle.fdp_flash.specs.declared.answer.Seen.TheVariants as seen
 use Rattle.fdp_flash.specs.declared.answer.Wrote.{Wrote}
 use Rattle.fdp_flash.specs.declared.answer.Wrote.TheVariants as wrote
-use Rattle.fdp_flash.specs.declared.cell.Cell.TheVariants.{Blank, Torn, Whole}
+use Rattle.fdp_flash.specs.declared.cell.Cell.TheVariants.{Blank}
 use Rattle.fdp_flash.specs.declared.plan.Fate.{Fate}
 use Rattle.fdp_flash.specs.declared.plan.Fate.TheVariants.{Done, Fails, Refused}
 use Rattle.fdp_flash.specs.declared.plan.Plan.{Plan}
-use Rattle.fdp_flash.specs.Answers.{Looks, Fetches, Programs, Erases, seen_failed, fetched_failed, wrote_failed}
-use Rattle.fdp_flash.specs.Cells.{IsProgrammed, IsErased, ProgramMayLeave, EraseMayLeave}
-use Rattle.fdp_flash.specs.FlashState.{FlashState, counted}
-use Rattle.fdp_flash.specs.Layout.{IsIn, page_number, first_page, page_count, data_unit_count}
+use Rattle.fdp_flash.specs.Answers.{Looks, Fetches, Programs, Erases, fetched_failed, wrote_failed}
+use Rattle.fdp_flash.specs.Cells.{IsErased}
+use Rattle.fdp_flash.specs.FlashState.{FlashState}
+use Rattle.fdp_flash.specs.Layout.{IsIn, page_number, page_count, data_unit_count}
 use Rattle.fdp_flash.specs.MemoryState.{Called}
 use Rattle.fdp_flash.specs.Plan.{fate_of, fails}
 use Rattle.fdp_flash.specs.Read.{ReadsPage, ReadsExpected}

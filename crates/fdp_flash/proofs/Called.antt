@@ -1,5 +1,5 @@
 -- One call of a flash in memory: its state is sound after it, and it did what the plan says.
-use Rattle.std.proofs.Common.{◌≡◌, ◌≢◌, ◌⊎◌, ℕ, zero, suc, ◌+◌, ◌-◌, ◌^◌, ◌<◌, ◌≤◌, ◌&&◌, min, nat_lt, nat_le, if◌then◌else◌, Bool, true, false, not, IsTrue, List, [], ◌∷◌, ◌++◌, length, map, take, Option, Some, arith, refl, sym, ap, ◌∙◌, inl, inr}
+use Rattle.std.proofs.Common.{◌≡◌, ◌⊎◌, ℕ, ◌+◌, ◌^◌, ◌<◌, ◌≤◌, ◌&&◌, nat_le, if◌then◌else◌, Bool, true, false, IsTrue, List, [], ◌∷◌, length, Option, Some, arith, refl, sym, ap, ◌∙◌, inl, inr}
 use Rattle.std.specs.List.{slice_get}
 use Rattle.std.proofs.lemmas.Bool.{cases_lt, and_parts, and_from, leb-true, le-leb}
 use Rattle.std.proofs.lemmas.List.{map-append}
@@ -15,14 +15,13 @@ use Rattle.fdp_flash.specs.declared.plan.Fate.{Fate}
 use Rattle.fdp_flash.specs.declared.plan.Fate.TheVariants.{Refused}
 use Rattle.fdp_flash.specs.declared.plan.Plan.{Plan}
 use Rattle.fdp_flash.specs.Blocks.{HasBlocks}
-use Rattle.fdp_flash.specs.FlashState.{FlashState, Begins, Ends, Faulted, counted}
-use Rattle.fdp_flash.specs.Layout.{IsIn, page_number, page_count, data_unit_count}
+use Rattle.fdp_flash.specs.FlashState.{Begins, Ends, counted}
+use Rattle.fdp_flash.specs.Layout.{IsIn, page_number}
 use Rattle.fdp_flash.specs.MemoryState.{state_by, IsSound, Called, count_of_programs}
-use Rattle.fdp_flash.specs.Noted.{Notes, NotesOne, AllOfSize}
-use Rattle.fdp_flash.specs.Plan.{keeps_calls, plan_is_empty, fate_of, fails}
+use Rattle.fdp_flash.specs.Noted.{Notes, NotesOne}
+use Rattle.fdp_flash.specs.Plan.{keeps_calls, fate_of, fails}
 use Rattle.fdp_flash.specs.Recorded.{replay, after_call, StopMayLeave, MayLeaveAt, call_of}
 use Rattle.fdp_flash.proofs.Fates.{failure_is_planned, full_list_refuses}
-use Rattle.fdp_flash.proofs.Filled.{filled_size}
 use Rattle.fdp_flash.proofs.Images.{image_earlier, image_kept, image_of_call, call_image, longer}
 use Rattle.fdp_flash.proofs.Replay.{replay-noted, stop_unchanged, refused_changes_nothing, call_size}
 
@@ -60,8 +59,8 @@ step_noted : (plan : Plan) (g : Geometry) (m faults programs : ℕ) (cells : Lis
     (NotesOne old new operation at fate spare bytes × (m < plan.calls) × (length old ≡ m) × (m' ≡ m + 1)) ⊎ ((new ≡ old) × (plan.calls ≤ m) × (length old ≡ plan.calls))
 step_noted plan g m faults programs cells old first m' faults' programs' cells' new operation at spare bytes fate failed s =
     elim (cases_lt m plan.calls) [
-      inl more ↦ inl (s.noted.noted (omega (arith, s.sound.room, s.sound.listed)), more, omega (arith, s.sound.listed), omega (arith, s.moment, s.sound.limit))
-    | inr full ↦ inr (s.noted.full (omega (arith, s.sound.room, s.sound.listed)), full, omega (arith, s.sound.listed))
+      | inl more ↦ inl (s.noted.noted (omega (arith, s.sound.room, s.sound.listed)), more, omega (arith, s.sound.listed), omega (arith, s.moment, s.sound.limit))
+      | inr full ↦ inr (s.noted.full (omega (arith, s.sound.room, s.sound.listed)), full, omega (arith, s.sound.listed))
     ]
 
 programs_fall_never : (g : Geometry) (operation : Operation) (unit : ℕ) (failed : Bool) (programs : ℕ) → programs < 2 ^ 64 → programs ≤ count_of_programs g operation unit failed programs
@@ -87,8 +86,8 @@ step_replayed : (plan : Plan) (g : Geometry) (m faults programs : ℕ) (cells : 
 step_replayed plan g m faults programs cells old first m' faults' programs' cells' new operation at spare bytes fate failed s keeps =
     let before = s.sound.replayed keeps in
     elim (step_noted plan g m faults programs cells old first m' faults' programs' cells' new operation at spare bytes fate failed s) [
-      inl noted ↦ s.cells_are ∙ rw (before) (sym (replay-noted g old new first operation at fate spare bytes noted.0))
-    | inr full ↦ step_full plan g m faults programs cells old first m' faults' programs' cells' new operation at spare bytes fate failed s keeps full.1 ∙ rw full.0 before
+      | inl noted ↦ s.cells_are ∙ rw (before) (sym (replay-noted g old new first operation at fate spare bytes noted.0))
+      | inr full ↦ step_full plan g m faults programs cells old first m' faults' programs' cells' new operation at spare bytes fate failed s keeps full.1 ∙ rw full.0 before
     ]
 
 -- the flash is sound after a call
@@ -102,13 +101,13 @@ step_sound plan g m faults programs cells old first m' faults' programs' cells' 
   has_blocks = s.has_blocks;
   limit = s.sound.limit;
   listed = elim (step_noted plan g m faults programs cells old first m' faults' programs' cells' new operation at spare bytes fate failed s) [
-      inl noted ↦ omega (arith, longer old new noted.0.call noted.0.list, noted)
+    | inl noted ↦ omega (arith, longer old new noted.0.call noted.0.list, noted)
     | inr full ↦ omega (arith, s.moment, s.small, s.sound.limit, ap length full.0, full)
-    ];
+  ];
   room = elim (step_noted plan g m faults programs cells old first m' faults' programs' cells' new operation at spare bytes fate failed s) [
-      inl noted ↦ omega (arith, longer old new noted.0.call noted.0.list, s.noted.taken (omega (arith, s.sound.room, noted)), s.sound.room)
+    | inl noted ↦ omega (arith, longer old new noted.0.call noted.0.list, s.noted.taken (omega (arith, s.sound.room, noted)), s.sound.room)
     | inr full ↦ omega (arith, ap length full.0, ap length (s.noted.none_taken (omega (arith, s.sound.room, full))), s.sound.room)
-    ];
+  ];
   reserved = omega (arith, s.capacity_same, s.sound.reserved);
   block_size = s.noted.sizes g.block s.sound.block_size;
   replayed = step_replayed plan g m faults programs cells old first m' faults' programs' cells' new operation at spare bytes fate failed s;
@@ -120,8 +119,8 @@ step_earlier : (plan : Plan) (g : Geometry) (m faults programs : ℕ) (cells : L
     Step plan g m faults programs cells old first m' faults' programs' cells' new operation at spare bytes fate failed → (t : ℕ) (image : List Cell) → t ≤ m → MayLeaveAt g first new t image → MayLeaveAt g first old t image
 step_earlier plan g m faults programs cells old first m' faults' programs' cells' new operation at spare bytes fate failed s t image early d =
     elim (step_noted plan g m faults programs cells old first m' faults' programs' cells' new operation at spare bytes fate failed s) [
-      inl noted ↦ image_earlier g first old new noted.0.call t image noted.0.list (omega (arith, noted)) d
-    | inr full ↦ rw full.0 at d
+      | inl noted ↦ image_earlier g first old new noted.0.call t image noted.0.list (omega (arith, noted)) d
+      | inr full ↦ rw full.0 at d
     ]
 
 step_kept : (plan : Plan) (g : Geometry) (m faults programs : ℕ) (cells : List Cell) (old : List Recorded) (first : List Cell)
@@ -130,8 +129,8 @@ step_kept : (plan : Plan) (g : Geometry) (m faults programs : ℕ) (cells : List
     Step plan g m faults programs cells old first m' faults' programs' cells' new operation at spare bytes fate failed → (t : ℕ) (image : List Cell) → t ≤ m → MayLeaveAt g first old t image → MayLeaveAt g first new t image
 step_kept plan g m faults programs cells old first m' faults' programs' cells' new operation at spare bytes fate failed s t image early d =
     elim (step_noted plan g m faults programs cells old first m' faults' programs' cells' new operation at spare bytes fate failed s) [
-      inl noted ↦ image_kept g first old new noted.0.call t image noted.0.list (omega (arith, noted)) d
-    | inr full ↦ rw full.0 d
+      | inl noted ↦ image_kept g first old new noted.0.call t image noted.0.list (omega (arith, noted)) d
+      | inr full ↦ rw full.0 d
     ]
 
 faults_fall_never : (faults : ℕ) (failed : Bool) → faults < 2 ^ 64 → faults ≤ (if failed then counted faults else faults)
@@ -170,10 +169,10 @@ step_image : (plan : Plan) (g : Geometry) (m faults programs : ℕ) (cells : Lis
 step_image plan g m faults programs cells old first m' faults' programs' cells' new operation at spare bytes fate failed s image later keeps d =
     let before = s.sound.replayed keeps in
     elim (step_noted plan g m faults programs cells old first m' faults' programs' cells' new operation at spare bytes fate failed s) [
-      inl noted ↦ rw before (image_of_call g first old new operation at fate spare bytes image noted.0 (let e : m' ≡ length old + 1 = omega (arith, noted) in rw e at d))
-    | inr full ↦ elim d [
-        inl within ↦ absurd (omega (arith, within.moment_is, slice_get_within new within.before within.call within.call_is, ap length full.0, full, s.moment))
-      | inr behind ↦ rw (behind.1, full.0, ← before) (stop_unchanged g operation at spare bytes cells s.blank)
+      | inl noted ↦ rw before (image_of_call g first old new operation at fate spare bytes image noted.0 (let e : m' ≡ length old + 1 = omega (arith, noted) in rw e at d))
+      | inr full ↦ elim d [
+        | inl within ↦ absurd (omega (arith, within.moment_is, slice_get_within new within.before within.call within.call_is, ap length full.0, full, s.moment))
+        | inr behind ↦ rw (behind.1, full.0, ← before) (stop_unchanged g operation at spare bytes cells s.blank)
       ]
     ]
 
@@ -184,10 +183,10 @@ step_unchanged : (plan : Plan) (g : Geometry) (m faults programs : ℕ) (cells :
 step_unchanged plan g m faults programs cells old first m' faults' programs' cells' new operation at spare bytes fate failed s later keeps =
     let before = s.sound.replayed keeps in
     elim (step_noted plan g m faults programs cells old first m' faults' programs' cells' new operation at spare bytes fate failed s) [
-      inl noted ↦
-        let e : m' ≡ length old + 1 = omega (arith, noted) in
-        rw e (call_image g first old new operation at fate spare bytes cells noted.0 (rw (← before) (stop_unchanged g operation at spare bytes cells s.blank)))
-    | inr full ↦ inr (omega (arith, ap length full.0, full), rw full.0 before)
+      | inl noted ↦
+          let e : m' ≡ length old + 1 = omega (arith, noted) in
+          rw e (call_image g first old new operation at fate spare bytes cells noted.0 (rw (← before) (stop_unchanged g operation at spare bytes cells s.blank)))
+      | inr full ↦ inr (omega (arith, ap length full.0, full), rw full.0 before)
     ]
 
 call_of_noted : (call : Recorded) (operation : Operation) (at : Spot) (fate : Fate) (failed : Bool) →
@@ -204,8 +203,8 @@ step_told plan g m faults programs cells old first m' faults' programs' cells' n
     let parts = and_parts (keeps_calls plan) (nat_le m' plan.calls) tells in
     let most : m' ≤ plan.calls = leb-true m' plan.calls parts.1 in
     elim (step_noted plan g m faults programs cells old first m' faults' programs' cells' new operation at spare bytes fate failed s) [
-      inl noted ↦ (parts.0, noted.0, noted.2, noted.3, noted.1)
-    | inr full ↦ absurd (omega (arith, most, s.moment, s.small, s.sound.limit, full))
+      | inl noted ↦ (parts.0, noted.0, noted.2, noted.3, noted.1)
+      | inr full ↦ absurd (omega (arith, most, s.moment, s.small, s.sound.limit, full))
     ]
 
 step_ends : (plan : Plan) (g : Geometry) (m faults programs : ℕ) (cells : List Cell) (old : List Recorded) (first : List Cell)

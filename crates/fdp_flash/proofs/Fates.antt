@@ -1,10 +1,10 @@
 -- Plans in which no call fails.
-use Rattle.std.proofs.Common.{◌≡◌, ◌≢◌, ◌⊎◌, ℕ, ◌<◌, ◌&&◌, not, Bool, true, false, List, [], ◌∷◌, Option, Some, None, refl, sym, ap, ◌∙◌, inl, inr}
+use Rattle.std.proofs.Common.{◌≡◌, ℕ, ◌<◌, ◌&&◌, not, Bool, true, false, List, [], ◌∷◌, Option, Some, None, refl, ap}
 use Rattle.std.proofs.lemmas.Bool.{and_parts, false_from_ne_true, lt-ltb}
-use Rattle.fdp_flash.specs.declared.plan.Fate.TheVariants.{Done, Fails, Refused}
+use Rattle.fdp_flash.specs.declared.plan.Fate.TheVariants.{Done, Refused}
 use Rattle.fdp_flash.specs.declared.plan.Outcome.{Outcome}
 use Rattle.fdp_flash.specs.declared.plan.Plan.{Plan}
-use Rattle.fdp_flash.specs.Plan.{keeps_calls, is_no_failure, is_no_stop, plan_is_empty, planned_failure, fate_by_stop, is_full_before, fate_of, fails}
+use Rattle.fdp_flash.specs.Plan.{keeps_calls, is_no_failure, is_no_stop, plan_is_empty, planned_failure, fate_by_stop, fate_of, fails}
 
 no_failure_planned : (failing : List (ℕ × Outcome)) (moment : ℕ) → is_no_failure failing ≡ true → planned_failure failing moment ≡ Done
 no_failure_planned [] moment e = refl

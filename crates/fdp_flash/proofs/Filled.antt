@@ -1,5 +1,5 @@
 -- Pages that were all made one cell.
-use Rattle.std.proofs.Common.{◌≡◌, ◌≢◌, ◌⊎◌, ℕ, zero, suc, ◌+◌, ◌*◌, ◌<◌, ◌≤◌, List, length, slice_set, Some, arith, refl, sym, ap, ◌∙◌, add-one, inl, inr}
+use Rattle.std.proofs.Common.{◌≡◌, ◌≢◌, ◌⊎◌, ℕ, zero, suc, ◌+◌, ◌<◌, ◌≤◌, List, length, slice_set, Some, arith, refl, ◌∙◌, add-one, inl, inr}
 use Rattle.std.specs.List.{slice_get}
 use Rattle.std.proofs.lemmas.Bool.{cases_eq}
 use Rattle.std.proofs.lemmas.List.{length-set}
@@ -10,7 +10,7 @@ use Rattle.fdp_flash.specs.Recorded.{filled}
 use Rattle.fdp_flash.specs.declared.cell.Cell.{Cell}
 use Rattle.fdp_flash.specs.declared.cell.Cell.TheVariants.{Blank, Torn}
 use Rattle.fdp_flash.proofs.Lists.{slice_get-set_same, slice_get-set_other}
-use Rattle.fdp_flash.proofs.Pages.{erased_may_leave, same_outside_refl}
+use Rattle.fdp_flash.proofs.Pages.{same_outside_refl}
 
 pub filled-zero : (first : ℕ) (content : Cell) (cells : List Cell) → filled first 0 content cells ≡ cells
 unfolding filled
@@ -39,9 +39,9 @@ pub filled_inside : (first n : ℕ) (content : Cell) (cells : List Cell) (k : �
 unfolding filled
 filled_inside first zero content cells k fits least most = absurd (omega arith)
 filled_inside first (suc n) content cells k fits least most = elim (cases_eq k (first + n)) [
-    inl here ↦ rw here (slice_get-set_same (filled first n content cells) (first + n) content (omega (arith, filled_size first n content cells)))
+  | inl here ↦ rw here (slice_get-set_same (filled first n content cells) (first + n) content (omega (arith, filled_size first n content cells)))
   | inr other ↦ slice_get-set_other (filled first n content cells) (first + n) k content other ∙ filled_inside first n content cells k (omega arith) least (let apart : k ≢ first + n = other in omega arith)
-  ]
+]
 
 pub filled_outside : (g : Geometry) (unit : ℕ) (content : Cell) (cells : List Cell) → IsSameOutside g unit cells (filled (first_page g unit) g.unit_pages content cells)
 filled_outside g unit content cells = record {

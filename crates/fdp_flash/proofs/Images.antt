@@ -1,9 +1,8 @@
 -- What one call more on the list makes of the images.
-use Rattle.std.proofs.Common.{◌≡◌, ◌≢◌, ◌⊎◌, ℕ, zero, suc, ◌+◌, ◌<◌, ◌≤◌, List, [], ◌∷◌, ◌++◌, length, take, Some, arith, refl, sym, ap, ◌∙◌, inl, inr}
+use Rattle.std.proofs.Common.{◌≡◌, ℕ, ◌+◌, ◌<◌, ◌≤◌, List, [], ◌∷◌, ◌++◌, length, take, Some, arith, refl, sym, ◌∙◌, inl, inr}
 use Rattle.std.specs.List.{slice_get}
 use Rattle.std.proofs.Math.Seq.{take-append_seam}
 use Rattle.std.proofs.lemmas.List.{length-append, take-append-le}
-use Rattle.std.proofs.lemmas.Option.{slice_get_within}
 use Rattle.fdp_base.specs.declared.config.Geometry.{Geometry}
 use Rattle.fdp_base.specs.declared.entry.Spot.{Spot}
 use Rattle.fdp_flash.specs.declared.answer.Operation.{Operation}
@@ -11,9 +10,9 @@ use Rattle.fdp_flash.specs.declared.cell.Cell.{Cell}
 use Rattle.fdp_flash.specs.declared.memory.recorded.Recorded.{Recorded}
 use Rattle.fdp_flash.specs.declared.plan.Fate.{Fate}
 use Rattle.fdp_flash.specs.Noted.{NotesOne}
-use Rattle.fdp_flash.specs.Recorded.{replay, StopMayLeave, MayLeaveWithin, MayLeaveAt}
+use Rattle.fdp_flash.specs.Recorded.{replay, StopMayLeave, MayLeaveAt}
 use Rattle.fdp_flash.proofs.Lists.{slice_get-append_front, slice_get-append_last}
-use Rattle.fdp_flash.proofs.Replay.{stop-bytes, bytes-stop, replay-noted}
+use Rattle.fdp_flash.proofs.Replay.{stop-bytes, bytes-stop}
 
 pub longer : (old new : List Recorded) (call : Recorded) → new ≡ old ++ call ∷ [] → length new ≡ length old + 1
 longer old new call e = rw (e, length-append old (call ∷ [])) (omega arith)
@@ -55,7 +54,7 @@ image_of_call g first old new operation at fate spare bytes image n (inl within)
     let same : within.call ≡ n.call = cc in
     let before : take within.before new ≡ old = rw (here, n.list) (take-append_seam old (n.call ∷ [])) in
     stop-bytes g operation at spare bytes n.call.bytes (replay g old first) image n.bytes_are
-        (rw (← n.operation_is, ← n.at_is, ← n.spare_is, ← same) (rw before at within.left))
+    (rw (← n.operation_is, ← n.at_is, ← n.spare_is, ← same) (rw before at within.left))
 image_of_call g first old new operation at fate spare bytes image n (inr behind) = absurd (omega (arith, longer old new n.call n.list, behind.0))
 
 pub call_image : (g : Geometry) (first : List Cell) (old new : List Recorded) (operation : Operation) (at : Spot) (fate : Fate) (spare bytes : List ℕ) (image : List Cell) →
@@ -67,5 +66,5 @@ call_image g first old new operation at fate spare bytes image n p = inl (record
   call_is = rw n.list (slice_get-append_last old n.call);
   left =
       rw (n.list, take-append_seam old (n.call ∷ []), n.operation_is, n.at_is, n.spare_is)
-          (bytes-stop g operation at spare bytes n.call.bytes (replay g old first) image n.bytes_are p);
+      (bytes-stop g operation at spare bytes n.call.bytes (replay g old first) image n.bytes_are p);
 })

@@ -1,8 +1,7 @@
 -- What one call more makes of the pages and of the images.
-use Rattle.std.proofs.Common.{◌≡◌, ◌≢◌, ◌⊎◌, ℕ, zero, suc, ◌+◌, ◌<◌, ◌≤◌, List, [], ◌∷◌, ◌++◌, length, take, Some, arith, refl, sym, ap, ◌∙◌, inl, inr}
+use Rattle.std.proofs.Common.{◌≡◌, ℕ, List, [], ◌∷◌, ◌++◌, length, Some, arith, refl, sym, inl, inr}
 use Rattle.std.specs.List.{slice_get}
-use Rattle.std.proofs.lemmas.List.{length-append, length-set}
-use Rattle.std.proofs.lemmas.Option.{slice_get_within}
+use Rattle.std.proofs.lemmas.List.{length-set}
 use Rattle.fdp_base.specs.declared.config.Geometry.{Geometry}
 use Rattle.fdp_base.specs.declared.entry.Spot.{Spot}
 use Rattle.fdp_flash.specs.declared.answer.Operation.{Operation}
@@ -13,12 +12,11 @@ use Rattle.fdp_flash.specs.declared.memory.recorded.Recorded.{Recorded}
 use Rattle.fdp_flash.specs.declared.plan.Fate.{Fate}
 use Rattle.fdp_flash.specs.declared.plan.Fate.TheVariants.{Done, Fails, Refused}
 use Rattle.fdp_flash.specs.declared.plan.Outcome.TheVariants.{Blank, Whole, Torn}
-use Rattle.fdp_flash.specs.Cells.{ProgramMayLeave}
 use Rattle.fdp_flash.specs.Layout.{IsIn, first_page, page_number, page_count}
 use Rattle.fdp_flash.specs.Noted.{NotesOne}
-use Rattle.fdp_flash.specs.Recorded.{filled, after_call, programmed_cell, replay, StopMayLeave, MayLeaveWithin, MayLeaveAt}
+use Rattle.fdp_flash.specs.Recorded.{after_call, programmed_cell, replay, StopMayLeave}
 use Rattle.fdp_flash.proofs.Filled.{filled_erases, filled_torn, filled_size, erase_unchanged}
-use Rattle.fdp_flash.proofs.Lists.{slice_get-append, slice_get-append_last, slice_set-same}
+use Rattle.fdp_flash.proofs.Lists.{slice_set-same}
 use Rattle.fdp_flash.proofs.Pages.{unit_fits, erased_may_leave}
 
 pub replay-append : (g : Geometry) (calls : List Recorded) (call : Recorded) (first : List Cell) →
@@ -83,7 +81,7 @@ pub replay-noted : (g : Geometry) (old new : List Recorded) (first : List Cell) 
     NotesOne old new operation at fate spare bytes → replay g new first ≡ after_call g operation at spare bytes fate (replay g old first)
 replay-noted g old new first operation at fate spare bytes n =
     rw (n.list, replay-append g old n.call first, n.operation_is, n.at_is, n.spare_is, n.fate_is)
-        (after_call-bytes g operation at spare bytes n.call.bytes fate (replay g old first) n.bytes_are)
+    (after_call-bytes g operation at spare bytes n.call.bytes fate (replay g old first) n.bytes_are)
 
 -- a refused call leaves all as it was
 pub refused_changes_nothing : (g : Geometry) (operation : Operation) (at : Spot) (spare bytes : List ℕ) (cells : List Cell) → after_call g operation at spare bytes Refused cells ≡ cells
@@ -104,3 +102,8 @@ call_size g Erase at spare bytes (Fails Blank) cells = filled_size (first_page g
 call_size g Erase at spare bytes (Fails Torn) cells = filled_size (first_page g at.unit) g.unit_pages cell.Torn cells
 call_size g Erase at spare bytes (Fails Whole) cells = refl
 call_size g Erase at spare bytes Refused cells = refl
+
+-- no calls change nothing
+pub replay-none : (g : Geometry) (first : List Cell) → replay g [] first ≡ first
+unfolding replay
+replay-none g first = refl

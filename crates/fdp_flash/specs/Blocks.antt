@@ -20,3 +20,9 @@ pub record HasBlocks (size : ℕ) (cells : List Cell) (blocks : List (Option (Li
   pub blank : (k : ℕ) → slice_get cells k ≡ Some Blank → block_size (slice_get blocks k) ≡ Some size
   pub torn : (k : ℕ) → slice_get cells k ≡ Some Torn → block_size (slice_get blocks k) ≡ Some size
   pub whole : (k : ℕ) (spare bytes : List ℕ) → slice_get cells k ≡ Some (Whole spare bytes) → length bytes ≡ size
+
+-- a page that is not whole has a block of this size
+abbrev pub BlockFits : ℕ → Cell → Option (List ℕ) → Type 0
+BlockFits size Blank block = block_size (Some block) ≡ Some size
+BlockFits size Torn block = block_size (Some block) ≡ Some size
+BlockFits size (Whole spare bytes) block = Unit {0}

@@ -1,12 +1,14 @@
 -- A flash in memory as contracts see it.
-use Rattle.std.specs.Prelude.{◌≡◌, ℕ, ◌<◌, Bool, IsTrue, List, [], slice_get, Some}
+use Rattle.std.specs.Prelude.{◌≡◌, ℕ, Bool, IsTrue, List, []}
+use Rattle.fdp_base.specs.declared.config.Geometry.{Geometry}
 use Rattle.fdp_base.specs.declared.entry.Spot.{Spot}
+use Rattle.fdp_flash.specs.declared.cell.Cell.{Cell}
 use Rattle.fdp_flash.specs.declared.memory.FlashMem.{FlashMem}
 use Rattle.fdp_flash.specs.declared.plan.Plan.{Plan}
 use Rattle.fdp_flash.specs.FlashState.{FlashState}
 use Rattle.fdp_flash.specs.Layout.{first_page, page_number}
 use Rattle.fdp_flash.specs.MemoryState.{state_by}
-use Rattle.fdp_flash.specs.Plan.{fate_of, fails}
+use Rattle.fdp_flash.specs.Plan.{fate_of, fails, keeps_calls, plan_is_empty}
 use Rattle.fdp_flash.specs.Recorded.{after_program, after_erase}
 
 -- what contracts see of a flash in memory
@@ -31,3 +33,17 @@ ProgramsAsPlanned old new at spare bytes =
 abbrev pub ErasesAsPlanned : FlashMem → FlashMem → ℕ → Type 0
 ErasesAsPlanned old new unit =
     (state_of new).cells ≡ after_erase (first_page (state_of old).geometry unit) (state_of old).geometry.unit_pages (fate_of (plan_of old) (state_of new).moment) (state_of old).cells
+
+-- a flash that was just made with these cells and this plan
+pub record BeginsWith (geometry : Geometry) (cells : List Cell) (plan : Plan) (flash : FlashMem) : Type 0 where
+  pub geometry_is : (state_of flash).geometry ≡ geometry
+  pub moment : (state_of flash).moment ≡ 0
+  pub faults : (state_of flash).faults ≡ 0
+  pub programs : (state_of flash).programs ≡ 0
+  pub told : IsTrue (state_of flash).told
+  pub cells_are : (state_of flash).cells ≡ cells
+  pub reliable : (state_of flash).reliable ≡ plan_is_empty plan
+  pub tells_images : (state_of flash).tells_images ≡ keeps_calls plan
+  pub tells_calls : (state_of flash).tells_calls ≡ keeps_calls plan
+  pub calls : (state_of flash).calls ≡ []
+  pub plan_is : plan_of flash ≡ plan

@@ -1,5 +1,5 @@
 -- What is read of a page.
-use Rattle.std.specs.Prelude.{◌≡◌, ◌≢◌, ℕ, Bool, false, List, slice_get, Some}
+use Rattle.std.specs.Prelude.{◌≡◌, ◌≢◌, ℕ, false, List, slice_get, Some}
 use Rattle.fdp_flash.specs.declared.answer.Fetched.{Fetched}
 use Rattle.fdp_flash.specs.declared.answer.Fetched.TheVariants as fetched
 use Rattle.fdp_flash.specs.declared.answer.Seen.{Seen}

@@ -1,12 +1,11 @@
 -- A flash in memory is well formed.
-use Rattle.std.proofs.Common.{◌≡◌, ℕ, ◌≤◌, ◌&&◌, nat_le, IsTrue, length, map, arith}
+use Rattle.std.proofs.Common.{nat_le, arith}
 use Rattle.std.proofs.lemmas.Bool.{and_parts, leb-true}
 use Rattle.std.proofs.lemmas.List.{length-map}
 use Rattle.fdp_flash.specs.declared.memory.FlashMem.{FlashMem}
 use Rattle.fdp_flash.specs.FlashMem.{state_of}
 use Rattle.fdp_flash.specs.FlashState.{IsWellFormed}
 use Rattle.fdp_flash.specs.Plan.{keeps_calls}
-use Rattle.fdp_flash.specs.Recorded.{call_of}
 
 pub memory_well_formed : (flash : FlashMem) → IsWellFormed (state_of flash)
 memory_well_formed flash = record {

@@ -9,16 +9,19 @@ mod calls;
 mod pages;
 mod read;
 mod recorded;
-
-pub use recorded::Recorded;
+mod room;
 
 use crate::answer::Operation;
 use crate::cell::Cell;
-use crate::layout::is_data_unit;
+use crate::layout::{first_index, has_place, is_data_unit, page_total};
 use crate::memory::pages::Pages;
+use crate::memory::read::are_blank;
 use crate::memory::recorded::CallList;
+use crate::memory::room::{blank_cells, copied_cells, page_blocks};
 use crate::plan::Plan;
 use fdp_base::{Geometry, Spot};
+pub use recorded::Recorded;
+use std::alloc::{AllocError, Global};
 
 /// A flash in memory, with a plan of the calls that fail.
 #[derive(Debug, Drop)]
@@ -36,11 +39,79 @@ pub struct FlashMem {
 }
 
 impl FlashMem {
-    ghost use Rattle.std.specs.Prelude.{length, slice_get, Some};
+    ghost use Rattle.std.specs.Prelude.{IfOk, IsTrue, ◌↔◌, length, replicate, slice_get, Some};
+    ghost use Rattle.fdp_flash.specs.Cells.{AreCells, IsBlankFlash, IsBlankFrom};
     ghost use Rattle.fdp_flash.specs.declared.cell.Cell.TheVariants.{Blank};
-    ghost use Rattle.fdp_flash.specs.FlashMem.{state_of, plan_of};
-    ghost use Rattle.fdp_flash.specs.Layout.{IsIn, page_number};
+    ghost use Rattle.fdp_flash.specs.FlashMem.{state_of, plan_of, BeginsWith};
+    ghost use Rattle.fdp_flash.specs.Layout.{IsGeometry, IsIn, page_count, page_number};
     ghost use Rattle.fdp_flash.specs.MemoryState.{Called};
+
+    /// A blank flash. It takes the memory of all pages, and with a plan that keeps calls that of so many calls.
+    ///
+    /// It costs two writes of about 100 bytes and one of a block of zeros for each page, and a block for each call.
+    pub fn new(alloc: Global, geometry: Geometry, plan: Plan) -> Result<FlashMem, AllocError>
+        requires { IsGeometry geometry }
+        ensures begins { IfOk result (BeginsWith geometry (replicate (page_count geometry) Blank) plan) }
+        ensures blank { IfOk result (λ flash. IsBlankFlash geometry (state_of flash).cells) }
+    {
+        let cells = blank_cells(alloc, page_total(geometry))?;
+        FlashMem::of_cells(alloc, geometry, cells, plan)
+    }
+
+    /// A flash with these cells, one for each page.
+    pub fn of_cells(
+        alloc: Global,
+        geometry: Geometry,
+        cells: Vec<Cell>,
+        plan: Plan,
+    ) -> Result<FlashMem, AllocError>
+        requires geometry { IsGeometry geometry }
+        requires cells { AreCells geometry cells.items }
+        ensures { IfOk result (BeginsWith geometry cells.items plan) }
+    {
+        let size = geometry.block as usize;
+        let blocks = page_blocks(alloc, cells.as_slice(), size)?;
+        let list = CallList::with_room(alloc, plan.calls as usize, size)?;
+        let first = copied_cells(alloc, plan.keeps_calls(), cells.as_slice())?;
+        Ok(FlashMem {
+            plan,
+            geometry,
+            moment: 0,
+            faults: 0,
+            programs: 0,
+            pages: Pages { cells, blocks },
+            first,
+            list,
+        })
+    }
+
+    /// The pages in order.
+    pub fn cells(&self) -> &[Cell]
+        ensures { result.now ≡ (state_of self.now).cells }
+    {
+        self.pages.cells.as_slice()
+    }
+
+    /// Whether a page is one of the flash.
+    pub fn has_place(&self, at: Spot) -> bool
+        ensures { IsTrue result ↔ IsIn (state_of self.now).geometry at }
+    {
+        has_place(self.geometry, at)
+    }
+
+    /// Whether a page may be programmed: it and the later pages of its unit are blank. It looks at each of these.
+    pub fn has_room(&self, at: Spot) -> bool
+        requires { IsIn (state_of self.now).geometry at }
+        ensures { IsTrue result ↔ IsBlankFrom (state_of self.now).geometry (state_of self.now).cells at }
+    {
+        let first = first_index(self.geometry, at.unit);
+        let cells = self.pages.cells.as_slice();
+        are_blank(
+            cells,
+            first + at.page as usize,
+            first + self.geometry.unit_pages as usize,
+        )
+    }
 
     /// Makes a call, and says whether it failed.
     fn call(&mut self, operation: Operation, at: Spot, spare: &[u8; 32], bytes: &[u8]) -> bool
@@ -65,10 +136,20 @@ impl FlashMem {
 fn faults_after(failed: bool, faults: u64) -> u64
     ensures { result ≡ (if failed then counted faults else faults) }
 {
-    if failed { faults.saturating_add(1) } else { faults }
+    if failed {
+        faults.saturating_add(1)
+    } else {
+        faults
+    }
 }
 
-fn programs_after(geometry: Geometry, operation: Operation, unit: u32, failed: bool, programs: u64) -> u64
+fn programs_after(
+    geometry: Geometry,
+    operation: Operation,
+    unit: u32,
+    failed: bool,
+    programs: u64,
+) -> u64
     ensures { result ≡ count_of_programs geometry operation unit failed programs }
 {
     match operation {

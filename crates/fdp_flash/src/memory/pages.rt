@@ -20,7 +20,15 @@ pub struct Pages {
 
 impl Pages {
     /// Changes the pages as a call with this fate does.
-    pub fn change(&mut self, geometry: Geometry, operation: Operation, at: Spot, spare: &[u8; 32], bytes: &[u8], fate: Fate)
+    pub fn change(
+        &mut self,
+        geometry: Geometry,
+        operation: Operation,
+        at: Spot,
+        spare: &[u8; 32],
+        bytes: &[u8],
+        fate: Fate,
+    )
         requires place { IsIn geometry at }
         requires size { length self.old.cells.items ≡ page_count geometry }
         requires small { page_count geometry ≤ 2 ^ 18 }
@@ -37,13 +45,27 @@ impl Pages {
         match operation {
             Operation::Look => {}
             Operation::Fetch => {}
-            Operation::Program => program_page(cells, blocks, first + at.page as usize, spare, bytes, fate),
+            Operation::Program => program_page(
+                cells,
+                blocks,
+                first + at.page as usize,
+                spare,
+                bytes,
+                fate,
+            ),
             Operation::Erase => erase_pages(cells, blocks, first, unit_pages, fate),
         }
     }
 }
 
-fn program_page(cells: &mut [Cell], blocks: &mut [Option<Bytes>], page: usize, spare: &[u8; 32], bytes: &[u8], fate: Fate)
+fn program_page(
+    cells: &mut [Cell],
+    blocks: &mut [Option<Bytes>],
+    page: usize,
+    spare: &[u8; 32],
+    bytes: &[u8],
+    fate: Fate,
+)
     requires within { page < length cells.old }
     requires blank { slice_get cells.old page ≡ Some Blank }
     requires blocks { HasBlocks (length bytes.now) cells.old blocks.old }
@@ -59,7 +81,13 @@ fn program_page(cells: &mut [Cell], blocks: &mut [Option<Bytes>], page: usize, s
     }
 }
 
-fn erase_pages(cells: &mut [Cell], blocks: &mut [Option<Bytes>], first: usize, count: usize, fate: Fate)
+fn erase_pages(
+    cells: &mut [Cell],
+    blocks: &mut [Option<Bytes>],
+    first: usize,
+    count: usize,
+    fate: Fate,
+)
     requires within { first + count ≤ length cells.old }
     requires blocks { length blocks.old ≡ length cells.old }
     ensures cells { cells.new ≡ after_erase first count fate cells.old }
@@ -95,7 +123,13 @@ fn unwritten_cell(torn: bool) -> Cell
 }
 
 /// Leaves so many pages torn or blank, one after another.
-pub fn clear_all(cells: &mut [Cell], blocks: &mut [Option<Bytes>], first: usize, count: usize, torn: bool)
+pub fn clear_all(
+    cells: &mut [Cell],
+    blocks: &mut [Option<Bytes>],
+    first: usize,
+    count: usize,
+    torn: bool,
+)
     requires within { first + count ≤ length cells.old }
     requires blocks { length blocks.old ≡ length cells.old }
     ensures cells { cells.new ≡ filled first count (unwritten torn) cells.old }
@@ -107,7 +141,13 @@ pub fn clear_all(cells: &mut [Cell], blocks: &mut [Option<Bytes>], first: usize,
 }
 
 /// Makes a blank page whole. Its bytes are copied into the block that was kept for it.
-pub fn write(cells: &mut [Cell], blocks: &mut [Option<Bytes>], page: usize, spare: &[u8; 32], bytes: &[u8])
+pub fn write(
+    cells: &mut [Cell],
+    blocks: &mut [Option<Bytes>],
+    page: usize,
+    spare: &[u8; 32],
+    bytes: &[u8],
+)
     requires blank { slice_get cells.old page ≡ Some Blank }
     requires blocks { HasBlocks (length bytes.now) cells.old blocks.old }
     ensures cells { cells.new ≡ slice_set cells.old page (Whole spare.now bytes.now) }

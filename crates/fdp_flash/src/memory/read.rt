@@ -1,5 +1,5 @@
-ghost use Rattle.std.specs.Prelude.{◌≡◌, ◌<◌, ◌↔◌, IsTrue, ℕ, List, length, slice_get, Some};
-ghost use Rattle.fdp_flash.specs.declared.cell.Cell.TheVariants.{Whole};
+ghost use Rattle.std.specs.Prelude.{◌≡◌, ◌<◌, ◌≤◌, ◌↔◌, IsTrue, ℕ, List, length, slice_get, Some};
+ghost use Rattle.fdp_flash.specs.declared.cell.Cell.TheVariants.{Blank, Whole};
 ghost use Rattle.fdp_flash.specs.Read.{ReadsPage, ReadsExpected};
 
 use crate::answer::{Fetched, Seen};
@@ -51,4 +51,17 @@ fn is_same_spare(spare: &[u8; 32], other: &[u8; 32]) -> bool
     ensures { IsTrue result ↔ (spare.now ≡ other.now) }
 {
     spare == other
+}
+
+/// Whether the pages from one up to another are all blank.
+pub fn are_blank(cells: &[Cell], from: usize, end: usize) -> bool
+    requires { end ≤ length cells.now }
+    ensures { IsTrue result ↔ ((k : ℕ) → from ≤ k → k < end → slice_get cells.now k ≡ Some Blank) }
+{
+    for page in from..end {
+        if !cells[page].is_blank() {
+            return false;
+        }
+    }
+    true
 }

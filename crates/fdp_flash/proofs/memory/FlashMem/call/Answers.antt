@@ -1,4 +1,4 @@
-use Rattle.std.proofs.Common.{rules, ◌≡◌, length, slice_get, Some, true, false, refl, arith}
+use Rattle.std.proofs.Common.{arith}
 use Rattle.std.specs.Vec.{vec_capacity}
 use Rattle.fdp_flash.proofs.Called.{Step, step_sound, step_called}
 use Rattle.fdp_flash.proofs.memory.FlashMem.call.Goals as goal
@@ -6,9 +6,9 @@ use Rattle.fdp_flash.proofs.memory.FlashMem.call.Goals as goal
 pub invariant_of-self : goal.invariant_of-self
 invariant_of-self c =
     let step : Step c.args.self.now.plan c.args.self.now.geometry c.args.self.now.moment c.args.self.now.faults c.args.self.now.programs
-        c.args.self.now.pages.cells.items c.args.self.now.list.calls.items c.args.self.now.first.items
-        c.saturating_add-self.result c.faults_after-self.result c.programs_after-self.result c.change.new.self.cells.items c.note.new.self.calls.items
-        c.args.operation c.args.at c.args.spare.now c.args.bytes.now c.fate-fate.result c.fails-failed.result = record {
+    c.args.self.now.pages.cells.items c.args.self.now.list.calls.items c.args.self.now.first.items
+    c.saturating_add-self.result c.faults_after-self.result c.programs_after-self.result c.change.new.self.cells.items c.note.new.self.calls.items
+    c.args.operation c.args.at c.args.spare.now c.args.bytes.now c.fate-fate.result c.fails-failed.result = record {
       blocks = c.args.self.now.pages.blocks.items;
       blocks' = c.change.new.self.blocks.items;
       call_blocks = c.args.self.now.list.blocks.items;
@@ -36,9 +36,9 @@ invariant_of-self c =
 pub returns-clause-called : goal.returns-clause-called
 returns-clause-called c =
     let step : Step c.args.self.now.plan c.args.self.now.geometry c.args.self.now.moment c.args.self.now.faults c.args.self.now.programs
-        c.args.self.now.pages.cells.items c.args.self.now.list.calls.items c.args.self.now.first.items
-        c.saturating_add-self.result c.faults_after-self.result c.programs_after-self.result c.change.new.self.cells.items c.note.new.self.calls.items
-        c.args.operation c.args.at c.args.spare.now c.args.bytes.now c.fate-fate.result c.fails-failed.result = record {
+    c.args.self.now.pages.cells.items c.args.self.now.list.calls.items c.args.self.now.first.items
+    c.saturating_add-self.result c.faults_after-self.result c.programs_after-self.result c.change.new.self.cells.items c.note.new.self.calls.items
+    c.args.operation c.args.at c.args.spare.now c.args.bytes.now c.fate-fate.result c.fails-failed.result = record {
       blocks = c.args.self.now.pages.blocks.items;
       blocks' = c.change.new.self.blocks.items;
       call_blocks = c.args.self.now.list.blocks.items;

@@ -1,6 +1,4 @@
-use Rattle.std.proofs.Common.{◌≡◌, length, arith, refl, sym, ap, ◌∙◌}
-use Rattle.std.proofs.lemmas.List.{length-set}
-use Rattle.fdp_flash.specs.Blocks.{unwritten}
+use Rattle.std.proofs.Common.{refl, sym, ◌∙◌}
 use Rattle.fdp_flash.proofs.Filled.{filled-zero, filled-more}
 use Rattle.fdp_flash.proofs.memory.pages.clear_all.Goals as goal
 

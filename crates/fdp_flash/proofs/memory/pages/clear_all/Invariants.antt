@@ -8,5 +8,5 @@ invariant-loop-i l = record {
   cells : l.cells ≡ filled l.first l.i (unwritten l.torn) l.initial.cells;
   blocks : (size : ℕ) → HasBlocks size l.initial.cells l.initial.blocks → HasBlocks size l.cells l.blocks;
   count : length l.blocks ≡ length l.cells;
-  size : length l.cells ≡ length l.initial.cells
+  size : length l.cells ≡ length l.initial.cells;
 }

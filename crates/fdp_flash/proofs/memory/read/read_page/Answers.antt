@@ -1,4 +1,4 @@
-use Rattle.std.proofs.Common.{◌≡◌, length, refl, sym, ap, ◌∙◌}
+use Rattle.std.proofs.Common.{length, sym, ap, ◌∙◌}
 use Rattle.fdp_flash.proofs.Reading.{stands_there, reads_blank, reads_torn, reads_whole}
 use Rattle.fdp_flash.proofs.memory.read.read_page.Goals as goal
 
@@ -15,4 +15,4 @@ returns-in-Torn c = reads_torn _ _ _ _ (stands_there _ _ _ _ c.requires.within c
 pub returns-in-Whole : goal.returns-in-Whole
 returns-in-Whole c =
     rw (c.copy_from_slice.ensures.after, c.as_slice.ensures)
-        (reads_whole _ _ _ _ (stands_there _ _ _ _ c.requires.within c.index-cells-page.is c.in-Whole.is))
+    (reads_whole _ _ _ _ (stands_there _ _ _ _ c.requires.within c.index-cells-page.is c.in-Whole.is))

@@ -1,4 +1,4 @@
-use Rattle.std.proofs.Common.{◌≡◌, ◌<◌, length, arith, refl, ap}
+use Rattle.std.proofs.Common.{length, arith, ap}
 use Rattle.fdp_flash.specs.FlashMem.{state_of}
 use Rattle.fdp_flash.specs.Layout.{IsIn}
 use Rattle.fdp_flash.proofs.Pages.{page_number-below}

@@ -1,4 +1,4 @@
-use Rattle.std.proofs.Common.{◌≡◌, ◌<◌, length, arith, refl, ap}
+use Rattle.std.proofs.Common.{length, arith, ap}
 use Rattle.fdp_flash.specs.FlashMem.{state_of, plan_of}
 use Rattle.fdp_flash.specs.Layout.{IsIn}
 use Rattle.fdp_flash.proofs.Answered.{look_read}
@@ -14,4 +14,4 @@ read_page-requires-clause-within c =
 pub returns-clause-answer : goal.returns-clause-answer
 returns-clause-answer c =
     look_read (plan_of c.args.self.now) (state_of c.args.self.now) (state_of c.call.new.self) _ _ _ _ _ _ (rw c.if-call.false at c.call.ensures.called)
-        (rw (c.as_slice.ensures.value, c.page_index-page.ensures, c.call.ensures.called.begins.geometry) at c.read_page.ensures)
+    (rw (c.as_slice.ensures.value, c.page_index-page.ensures, c.call.ensures.called.begins.geometry) at c.read_page.ensures)
