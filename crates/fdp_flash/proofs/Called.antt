@@ -20,9 +20,10 @@ use Rattle.fdp_flash.specs.Layout.{IsIn, page_number}
 use Rattle.fdp_flash.specs.MemoryState.{state_by, IsSound, Called, count_of_programs}
 use Rattle.fdp_flash.specs.Noted.{Notes, NotesOne}
 use Rattle.fdp_flash.specs.Plan.{keeps_calls, fate_of, fails}
-use Rattle.fdp_flash.specs.Recorded.{replay, after_call, StopMayLeave, MayLeaveAt, call_of}
+use Rattle.fdp_flash.specs.Recorded.{replay, after_call, StopMayLeave, MayLeaveAt, call_of, ArePlaced}
 use Rattle.fdp_flash.proofs.Fates.{failure_is_planned, full_list_refuses}
 use Rattle.fdp_flash.proofs.Images.{image_earlier, image_kept, image_of_call, call_image, longer}
+use Rattle.fdp_flash.proofs.Lists.{append_cases}
 use Rattle.fdp_flash.proofs.Replay.{replay-noted, stop_unchanged, refused_changes_nothing, call_size}
 
 -- the parts of a flash before a call, and what the call did to them
@@ -90,6 +91,12 @@ step_replayed plan g m faults programs cells old first m' faults' programs' cell
       | inr full ↦ step_full plan g m faults programs cells old first m' faults' programs' cells' new operation at spare bytes fate failed s keeps full.1 ∙ rw full.0 before
     ]
 
+places_more : (g : Geometry) (old new : List Recorded) (operation : Operation) (at : Spot) (fate : Fate) (spare bytes : List ℕ) → ArePlaced g old → IsIn g at → NotesOne old new operation at fate spare bytes → ArePlaced g new
+places_more g old new operation at fate spare bytes p i n k call h = elim (append_cases old n.call call k (rw n.list at h)) [
+  | inl there ↦ p k call there
+  | inr last ↦ rw (← last.1, n.at_is) i
+]
+
 -- the flash is sound after a call
 pub step_sound : (plan : Plan) (g : Geometry) (m faults programs : ℕ) (cells : List Cell) (old : List Recorded) (first : List Cell)
     (m' faults' programs' : ℕ) (cells' : List Cell) (new : List Recorded)
@@ -110,6 +117,10 @@ step_sound plan g m faults programs cells old first m' faults' programs' cells' 
   ];
   reserved = omega (arith, s.capacity_same, s.sound.reserved);
   block_size = s.noted.sizes g.block s.sound.block_size;
+  places = elim (step_noted plan g m faults programs cells old first m' faults' programs' cells' new operation at spare bytes fate failed s) [
+    | inl noted ↦ places_more g old new operation at fate spare bytes s.sound.places s.place noted.0
+    | inr full ↦ rw full.0 s.sound.places
+  ];
   replayed = step_replayed plan g m faults programs cells old first m' faults' programs' cells' new operation at spare bytes fate failed s;
 }
 

@@ -7,7 +7,9 @@ pub mod Faults
 pub mod Filled
 pub mod Images
 pub mod Lists
+pub mod OnList
 pub mod Pages
 pub mod Reading
 pub mod Replay
 pub mod Runs
+pub mod Units

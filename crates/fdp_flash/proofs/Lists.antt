@@ -68,3 +68,9 @@ pub slice_get-replicate : {X : Type 0} → (n i : ℕ) (x : X) → i < n → sli
 slice_get-replicate zero i x h = absurd (omega arith)
 slice_get-replicate (suc n) zero x h = refl
 slice_get-replicate (suc n) (suc i) x h = slice_get-replicate n i x (omega arith)
+
+-- there is an element at each index below the length
+pub slice_get_there : {X : Type 0} → (xs : List X) (i : ℕ) → i < length xs → (x : X) × (slice_get xs i ≡ Some x)
+slice_get_there [] i h = absurd (omega arith)
+slice_get_there (x ∷ xs) zero h = (x, refl)
+slice_get_there (x ∷ xs) (suc i) h = slice_get_there xs i (omega arith)

@@ -1,5 +1,5 @@
 -- What one call more makes of the pages and of the images.
-use Rattle.std.proofs.Common.{◌≡◌, ℕ, List, [], ◌∷◌, ◌++◌, length, Some, arith, refl, sym, inl, inr}
+use Rattle.std.proofs.Common.{◌≡◌, ℕ, List, [], ◌∷◌, ◌++◌, length, Some, arith, refl, sym, ◌∙◌, inl, inr}
 use Rattle.std.specs.List.{slice_get}
 use Rattle.std.proofs.lemmas.List.{length-set}
 use Rattle.fdp_base.specs.declared.config.Geometry.{Geometry}
@@ -11,6 +11,7 @@ use Rattle.fdp_flash.specs.declared.cell.Cell.TheVariants as cell
 use Rattle.fdp_flash.specs.declared.memory.recorded.Recorded.{Recorded}
 use Rattle.fdp_flash.specs.declared.plan.Fate.{Fate}
 use Rattle.fdp_flash.specs.declared.plan.Fate.TheVariants.{Done, Fails, Refused}
+use Rattle.fdp_flash.specs.declared.plan.Outcome.{Outcome}
 use Rattle.fdp_flash.specs.declared.plan.Outcome.TheVariants.{Blank, Whole, Torn}
 use Rattle.fdp_flash.specs.Layout.{IsIn, first_page, page_number, page_count}
 use Rattle.fdp_flash.specs.Noted.{NotesOne}
@@ -56,24 +57,30 @@ stop_unchanged g Program at spare bytes cells blank = record {
 }
 stop_unchanged g Erase at spare bytes cells blank = erase_unchanged g at.unit cells
 
+-- a stop with an outcome leaves what a stop may leave
+pub outcome_may_leave : (g : Geometry) (operation : Operation) (at : Spot) (spare bytes : List ℕ) (outcome : Outcome) (cells : List Cell) →
+    IsIn g at → length cells ≡ page_count g → StopMayLeave operation g cells at spare bytes (after_call g operation at spare bytes (Fails outcome) cells)
+outcome_may_leave g Look at spare bytes outcome cells i size = refl
+outcome_may_leave g Fetch at spare bytes outcome cells i size = refl
+outcome_may_leave g Program at spare bytes Blank cells i size = record { cell = cell.Blank; page = inl refl; cells = refl }
+outcome_may_leave g Program at spare bytes Torn cells i size = record { cell = cell.Torn; page = inr (inl refl); cells = refl }
+outcome_may_leave g Program at spare bytes Whole cells i size = record { cell = cell.Whole spare bytes; page = inr (inr refl); cells = refl }
+outcome_may_leave g Erase at spare bytes Blank cells i size =
+    let fits = unit_fits g at.unit i.unit in erased_may_leave _ _ _ _ (filled_erases g at.unit cells (omega arith))
+outcome_may_leave g Erase at spare bytes Torn cells i size = let fits = unit_fits g at.unit i.unit in filled_torn g at.unit cells (omega arith)
+outcome_may_leave g Erase at spare bytes Whole cells i size = erase_unchanged g at.unit cells
+
 -- a call leaves what a stop within it may leave
 pub call_may_leave : (g : Geometry) (operation : Operation) (at : Spot) (spare bytes : List ℕ) (fate : Fate) (cells : List Cell) →
     IsIn g at → length cells ≡ page_count g → (operation ≡ Program → slice_get cells (page_number g at) ≡ Some cell.Blank) →
     StopMayLeave operation g cells at spare bytes (after_call g operation at spare bytes fate cells)
 call_may_leave g Look at spare bytes fate cells i size blank = refl
 call_may_leave g Fetch at spare bytes fate cells i size blank = refl
-call_may_leave g Program at spare bytes Done cells i size blank = record { cell = cell.Whole spare bytes; page = inr (inr refl); cells = refl }
-call_may_leave g Program at spare bytes (Fails Blank) cells i size blank = record { cell = cell.Blank; page = inl refl; cells = refl }
-call_may_leave g Program at spare bytes (Fails Torn) cells i size blank = record { cell = cell.Torn; page = inr (inl refl); cells = refl }
-call_may_leave g Program at spare bytes (Fails Whole) cells i size blank = record { cell = cell.Whole spare bytes; page = inr (inr refl); cells = refl }
+call_may_leave g Program at spare bytes Done cells i size blank = outcome_may_leave g Program at spare bytes Whole cells i size
+call_may_leave g Program at spare bytes (Fails outcome) cells i size blank = outcome_may_leave g Program at spare bytes outcome cells i size
 call_may_leave g Program at spare bytes Refused cells i size blank = stop_unchanged g Program at spare bytes cells blank
-call_may_leave g Erase at spare bytes Done cells i size blank =
-    let fits = unit_fits g at.unit i.unit in erased_may_leave _ _ _ _ (filled_erases g at.unit cells (omega arith))
-call_may_leave g Erase at spare bytes (Fails Blank) cells i size blank =
-    let fits = unit_fits g at.unit i.unit in erased_may_leave _ _ _ _ (filled_erases g at.unit cells (omega arith))
-call_may_leave g Erase at spare bytes (Fails Torn) cells i size blank =
-    let fits = unit_fits g at.unit i.unit in filled_torn g at.unit cells (omega arith)
-call_may_leave g Erase at spare bytes (Fails Whole) cells i size blank = erase_unchanged g at.unit cells
+call_may_leave g Erase at spare bytes Done cells i size blank = outcome_may_leave g Erase at spare bytes Blank cells i size
+call_may_leave g Erase at spare bytes (Fails outcome) cells i size blank = outcome_may_leave g Erase at spare bytes outcome cells i size
 call_may_leave g Erase at spare bytes Refused cells i size blank = erase_unchanged g at.unit cells
 
 -- the calls on the list after one more make what that call makes
@@ -107,3 +114,10 @@ call_size g Erase at spare bytes Refused cells = refl
 pub replay-none : (g : Geometry) (first : List Cell) → replay g [] first ≡ first
 unfolding replay
 replay-none g first = refl
+
+-- calls leave as many pages as there were
+pub replay_size : (g : Geometry) (calls : List Recorded) (first : List Cell) → length (replay g calls first) ≡ length first
+unfolding replay
+replay_size g [] first = refl
+replay_size g (call ∷ calls) first =
+    replay_size g calls (after_call g call.operation call.at call.spare call.bytes call.fate first) ∙ call_size g call.operation call.at call.spare call.bytes call.fate first

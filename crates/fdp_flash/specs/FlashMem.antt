@@ -4,12 +4,13 @@ use Rattle.fdp_base.specs.declared.config.Geometry.{Geometry}
 use Rattle.fdp_base.specs.declared.entry.Spot.{Spot}
 use Rattle.fdp_flash.specs.declared.cell.Cell.{Cell}
 use Rattle.fdp_flash.specs.declared.memory.FlashMem.{FlashMem}
+use Rattle.fdp_flash.specs.declared.plan.Outcome.{Outcome}
 use Rattle.fdp_flash.specs.declared.plan.Plan.{Plan}
 use Rattle.fdp_flash.specs.FlashState.{FlashState}
 use Rattle.fdp_flash.specs.Layout.{first_page, page_number}
 use Rattle.fdp_flash.specs.MemoryState.{state_by}
 use Rattle.fdp_flash.specs.Plan.{fate_of, fails, keeps_calls, plan_is_empty}
-use Rattle.fdp_flash.specs.Recorded.{after_program, after_erase}
+use Rattle.fdp_flash.specs.Recorded.{after_program, after_erase, image_by}
 
 -- what contracts see of a flash in memory
 abbrev pub state_of : FlashMem → FlashState
@@ -47,3 +48,8 @@ pub record BeginsWith (geometry : Geometry) (cells : List Cell) (plan : Plan) (f
   pub tells_calls : (state_of flash).tells_calls ≡ keeps_calls plan
   pub calls : (state_of flash).calls ≡ []
   pub plan_is : plan_of flash ≡ plan
+
+-- the cells that a stop with this outcome in the call of this moment leaves: what the calls before it made of those
+-- that the flash began with, and then what the outcome makes of the page that it programs or the unit that it erases
+abbrev pub image_of : FlashMem → ℕ → Outcome → List Cell
+image_of flash moment outcome = image_by flash.geometry flash.first.items flash.list.calls.items moment outcome

@@ -1,4 +1,5 @@
 pub mod Answers
+pub mod Area
 pub mod Blocks
 pub mod Cells
 pub mod FlashMem

@@ -12,7 +12,7 @@ use Rattle.fdp_flash.specs.FlashState.{FlashState, Begins, Ends, counted}
 use Rattle.fdp_flash.specs.Layout.{IsGeometry, page_count, data_unit_count}
 use Rattle.fdp_flash.specs.Noted.{AllOfSize}
 use Rattle.fdp_flash.specs.Plan.{keeps_calls, plan_is_empty, fate_of, fails}
-use Rattle.fdp_flash.specs.Recorded.{replay, after_call, StopMayLeave, MayLeaveAt, call_of}
+use Rattle.fdp_flash.specs.Recorded.{replay, after_call, ArePlaced, StopMayLeave, MayLeaveAt, call_of}
 
 -- the state of a flash in memory: its cells are told, its images where it keeps its calls, and its calls while all of them are on the list
 abbrev pub state_by : Plan → Geometry → ℕ → ℕ → ℕ → List Cell → List Cell → List Recorded → FlashState
@@ -41,6 +41,7 @@ pub record IsSound (plan : Plan) (g : Geometry) (moment : ℕ) (cells : List Cel
   pub room : length calls + length call_blocks ≡ plan.calls
   pub reserved : plan.calls ≤ capacity
   pub block_size : AllOfSize g.block call_blocks
+  pub places : ArePlaced g calls
   pub replayed : IsTrue (keeps_calls plan) → cells ≡ replay g calls first
 
 -- the count of programs after a call

@@ -1,5 +1,5 @@
 -- What a list of calls makes of the pages, and what a stop within one of them leaves.
-use Rattle.std.specs.Prelude.{◌≡◌, ◌⊎◌, ℕ, zero, suc, ◌+◌, ◌<◌, List, [], ◌∷◌, length, slice_get, slice_set, take, Some}
+use Rattle.std.specs.Prelude.{◌≡◌, ◌⊎◌, ℕ, zero, suc, ◌+◌, ◌-◌, ◌<◌, List, [], ◌∷◌, length, slice_get, slice_set, take, Option, Some, None}
 use Rattle.fdp_base.specs.declared.config.Geometry.{Geometry}
 use Rattle.fdp_base.specs.declared.entry.Spot.{Spot}
 use Rattle.fdp_flash.specs.declared.answer.Operation.{Operation}
@@ -13,7 +13,7 @@ use Rattle.fdp_flash.specs.declared.plan.Outcome.{Outcome}
 use Rattle.fdp_flash.specs.declared.plan.Outcome.TheVariants.{Blank, Whole, Torn}
 use Rattle.fdp_flash.specs.Cells.{ProgramMayLeave, EraseMayLeave}
 use Rattle.fdp_flash.specs.FlashState.{Call}
-use Rattle.fdp_flash.specs.Layout.{first_page, page_number}
+use Rattle.fdp_flash.specs.Layout.{IsIn, first_page, page_number}
 use Rattle.fdp_flash.specs.Plan.{fails}
 
 -- so many pages from this one on are all this cell
@@ -26,6 +26,12 @@ abbrev pub programmed_cell : Outcome → List ℕ → List ℕ → Cell
 programmed_cell Blank spare bytes = cell.Blank
 programmed_cell Torn spare bytes = cell.Torn
 programmed_cell Whole spare bytes = cell.Whole spare bytes
+
+-- what a program with this fate makes of its page, if anything
+abbrev pub programmed_by : List ℕ → List ℕ → Fate → Option Cell
+programmed_by spare bytes Done = Some (cell.Whole spare bytes)
+programmed_by spare bytes (Fails outcome) = Some (programmed_cell outcome spare bytes)
+programmed_by spare bytes Refused = None
 
 -- the pages after a program with this fate, by the number of its page
 abbrev pub after_program : ℕ → List ℕ → List ℕ → Fate → List Cell → List Cell
@@ -56,6 +62,19 @@ after_call g Erase at spare bytes fate cells = after_erase (first_page g at.unit
 unfoldable pub replay : Geometry → List Recorded → List Cell → List Cell
 replay g [] cells = cells
 replay g (call ∷ calls) cells = replay g calls (after_call g call.operation call.at call.spare call.bytes call.fate cells)
+
+-- each call is at a place of the flash
+abbrev pub ArePlaced : Geometry → List Recorded → Type 0
+ArePlaced g calls = (k : ℕ) (call : Recorded) → slice_get calls k ≡ Some call → IsIn g call.at
+
+-- what a stop with this outcome leaves, if this is the call
+abbrev pub stopped : Geometry → Option Recorded → Outcome → List Cell → List Cell
+stopped g None outcome cells = cells
+stopped g (Some call) outcome cells = after_call g call.operation call.at call.spare call.bytes (Fails outcome) cells
+
+-- what a stop with this outcome in the call of this moment leaves
+abbrev pub image_by : Geometry → List Cell → List Recorded → ℕ → Outcome → List Cell
+image_by g first calls moment outcome = stopped g (slice_get calls (moment - 1)) outcome (replay g (take (moment - 1) calls) first)
 
 -- what a stop within a call may leave
 abbrev pub StopMayLeave : Operation → Geometry → List Cell → Spot → List ℕ → List ℕ → List Cell → Type 0

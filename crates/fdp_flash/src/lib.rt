@@ -2,6 +2,7 @@
 #![tactic(auto)]
 
 mod answer;
+mod area;
 mod cell;
 mod flash;
 mod layout;
@@ -9,6 +10,7 @@ mod memory;
 mod plan;
 
 pub use answer::{Fetched, Operation, Seen, Wrote};
+pub use area::erase_area;
 pub use cell::Cell;
 pub use flash::Flash;
 pub use memory::{FlashMem, Recorded};

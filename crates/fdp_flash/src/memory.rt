@@ -6,6 +6,7 @@ ghost use Rattle.fdp_flash.specs.Layout.{one_block_size};
 ghost use Rattle.fdp_flash.specs.MemoryState.{IsSound, count_of_programs};
 
 mod calls;
+mod image;
 mod pages;
 mod read;
 mod recorded;
@@ -14,11 +15,12 @@ mod room;
 use crate::answer::Operation;
 use crate::cell::Cell;
 use crate::layout::{first_index, has_place, is_data_unit, page_total};
+use crate::memory::image::image;
 use crate::memory::pages::Pages;
 use crate::memory::read::are_blank;
 use crate::memory::recorded::CallList;
 use crate::memory::room::{blank_cells, copied_cells, page_blocks};
-use crate::plan::Plan;
+use crate::plan::{Outcome, Plan};
 use fdp_base::{Geometry, Spot};
 pub use recorded::Recorded;
 use std::alloc::{AllocError, Global};
@@ -42,7 +44,8 @@ impl FlashMem {
     ghost use Rattle.std.specs.Prelude.{IfOk, IsTrue, ◌↔◌, length, replicate, slice_get, Some};
     ghost use Rattle.fdp_flash.specs.Cells.{AreCells, IsBlankFlash, IsBlankFrom};
     ghost use Rattle.fdp_flash.specs.declared.cell.Cell.TheVariants.{Blank};
-    ghost use Rattle.fdp_flash.specs.FlashMem.{state_of, plan_of, BeginsWith};
+    ghost use Rattle.fdp_flash.specs.FlashMem.{state_of, plan_of, image_of, BeginsWith};
+    ghost use Rattle.fdp_flash.specs.FlashState.{WasRecorded};
     ghost use Rattle.fdp_flash.specs.Layout.{IsGeometry, IsIn, page_count, page_number};
     ghost use Rattle.fdp_flash.specs.MemoryState.{Called};
 
@@ -110,6 +113,37 @@ impl FlashMem {
             cells,
             first + at.page as usize,
             first + self.geometry.unit_pages as usize,
+        )
+    }
+
+    /// Whether the call of a moment stands on the list of calls.
+    pub fn has_recorded(&self, moment: u64) -> bool
+        ensures { IsTrue result ↔ WasRecorded (state_of self.now) moment }
+    {
+        0 < moment && moment <= self.list.calls.len() as u64
+    }
+
+    /// The cells that a stop in the call of a moment leaves. For an erase the outcome `Whole` leaves each page as it was.
+    ///
+    /// It copies the cells that the flash began with, and makes the calls up to that one again.
+    pub fn image_at(
+        &self,
+        alloc: Global,
+        moment: u64,
+        outcome: Outcome,
+    ) -> Result<Vec<Cell>, AllocError>
+        requires { WasRecorded (state_of self.now) moment }
+        ensures image { IfOk result (λ cells. cells.items ≡ image_of self.now moment outcome) }
+        ensures during { IfOk result (λ cells. (state_of self.now).during moment cells.items) }
+    {
+        let calls = self.list.calls.as_slice();
+        image(
+            alloc,
+            self.geometry,
+            self.first.as_slice(),
+            calls,
+            moment,
+            outcome,
         )
     }
 

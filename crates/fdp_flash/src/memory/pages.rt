@@ -116,7 +116,8 @@ pub fn clear(cells: &mut [Cell], blocks: &mut [Option<Bytes>], page: usize, torn
     }
 }
 
-fn unwritten_cell(torn: bool) -> Cell
+/// A page that is not whole.
+pub fn unwritten_cell(torn: bool) -> Cell
     ensures { result ≡ unwritten torn }
 {
     if torn { Cell::Torn } else { Cell::Blank }

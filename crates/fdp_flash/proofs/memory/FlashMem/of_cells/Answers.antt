@@ -15,6 +15,7 @@ invariant_of-result c =
         room = rw none (omega (arith, c.in_ok-list.ensures.count));
         reserved = c.in_ok-list.ensures.room;
         block_size = c.in_ok-list.ensures.size;
+        places = rw none (λ k call h. absurd (let e = h in cc));
         replayed = λ keeps.
             rw (none, replay-none)
             (sym (c.in_ok-first.ensures (rw c.keeps_calls.ensures keeps) ∙ c.as_slice-2.ensures.value));
