@@ -18,10 +18,14 @@ pub record IsBlankUnit (g : Geometry) (cells : List Cell) (unit : ℕ) : Type 0 
 pub record IsBlankFlash (g : Geometry) (cells : List Cell) : Type 0 where
   pub blank : (k : ℕ) → k < page_count g → slice_get cells k ≡ Some Blank
 
+-- each whole page has so many bytes
+abbrev pub HaveBytes : ℕ → List Cell → Type 0
+HaveBytes size cells = (k : ℕ) (spare bytes : List ℕ) → slice_get cells k ≡ Some (Whole spare bytes) → length bytes ≡ size
+
 -- a cell for each page, and the bytes of a block in each that is whole
 pub record AreCells (g : Geometry) (cells : List Cell) : Type 0 where
   pub size : length cells ≡ page_count g
-  pub blocks : (k : ℕ) (spare bytes : List ℕ) → slice_get cells k ≡ Some (Whole spare bytes) → length bytes ≡ g.block
+  pub blocks : HaveBytes g.block cells
 
 -- the pages of all other units are as they were
 pub record IsSameOutside (g : Geometry) (unit : ℕ) (old new : List Cell) : Type 0 where

@@ -17,7 +17,7 @@ use crate::cell::Cell;
 use crate::layout::{first_index, has_place, is_data_unit, page_total};
 use crate::memory::image::image;
 use crate::memory::pages::Pages;
-use crate::memory::read::are_blank;
+use crate::memory::read::{are_blank, have_blocks};
 use crate::memory::recorded::CallList;
 use crate::memory::room::{blank_cells, copied_cells, page_blocks};
 use crate::plan::{Outcome, Plan};
@@ -86,6 +86,14 @@ impl FlashMem {
             first,
             list,
         })
+    }
+
+    /// Whether these are the cells of a flash: one for each page, and a block in each that is whole. It looks at each.
+    pub fn are_cells(geometry: Geometry, cells: &[Cell]) -> bool
+        requires { IsGeometry geometry }
+        ensures { IsTrue result ↔ AreCells geometry cells.now }
+    {
+        cells.len() == page_total(geometry) && have_blocks(cells, geometry.block as usize)
     }
 
     /// The pages in order.

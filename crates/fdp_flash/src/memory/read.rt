@@ -1,5 +1,6 @@
 ghost use Rattle.std.specs.Prelude.{◌≡◌, ◌<◌, ◌≤◌, ◌↔◌, IsTrue, ℕ, List, length, slice_get, Some};
 ghost use Rattle.fdp_flash.specs.declared.cell.Cell.TheVariants.{Blank, Whole};
+ghost use Rattle.fdp_flash.specs.Cells.{HaveBytes};
 ghost use Rattle.fdp_flash.specs.Read.{ReadsPage, ReadsExpected};
 
 use crate::answer::{Fetched, Seen};
@@ -64,4 +65,26 @@ pub fn are_blank(cells: &[Cell], from: usize, end: usize) -> bool
         }
     }
     true
+}
+
+/// Whether each whole page has so many bytes.
+pub fn have_blocks(cells: &[Cell], size: usize) -> bool
+    ensures { IsTrue result ↔ HaveBytes size cells.now }
+{
+    for cell in cells {
+        if !has_block(cell, size) {
+            return false;
+        }
+    }
+    true
+}
+
+fn has_block(cell: &Cell, size: usize) -> bool
+    ensures { IsTrue result ↔ ((spare bytes : List ℕ) → cell.now ≡ Whole spare bytes → length bytes ≡ size) }
+{
+    match cell {
+        Cell::Blank => true,
+        Cell::Torn => true,
+        Cell::Whole { spare: _, bytes } => bytes.as_slice().len() == size,
+    }
 }
