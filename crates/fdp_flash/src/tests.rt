@@ -311,7 +311,7 @@ fn is_left(
 fn images_are_what_a_stop_leaves(rt: HostRuntime) -> Result<(), Fail> {
     let mut flash = made(rt.alloc(), 9, None, None)?;
     play(rt.alloc(), &mut flash, &SCRIPT)?;
-    for (moment, outcome, cells) in IMAGES {
+    for &(moment, outcome, cells) in &IMAGES {
         assert!(rt;
             is_left(rt.alloc(), &flash, moment, outcome, cells)?,
             "{cells}"
@@ -336,6 +336,7 @@ fn torn_pages_and_areas(rt: HostRuntime) -> Result<(), Fail> {
         Step::Look(4, 0),
     ];
     assert_eq!(rt; play(rt.alloc(), &mut flash, &steps)?.as_str(), "DF~.OO--");
+    assert!(rt; flash.has_place(Spot { unit: 3, page: 0 }));
     assert!(rt; erase_area(&mut flash, 2, 2) == Wrote::Done);
     assert_eq!(rt; drawn(rt.alloc(), flash.cells())?.as_str(), "........");
     Ok(())
