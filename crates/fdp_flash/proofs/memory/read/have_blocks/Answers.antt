@@ -1,4 +1,4 @@
-use Rattle.std.proofs.Common.{rules, ◌≡◌, ◌+◌, ◌++◌, ◌∷◌, [], List, length, take, IsTrue, ap, sym, ◌∙◌, inl, inr}
+use Rattle.std.proofs.Common.{rules, ◌≡◌, ◌+◌, ◌++◌, ◌∷◌, [], take, IsTrue, ap, sym, ◌∙◌, inl, inr}
 use Rattle.std.proofs.lemmas.List.{take_more}
 use Rattle.fdp_flash.specs.declared.cell.Cell.TheVariants.{Whole}
 use Rattle.fdp_flash.proofs.Lists.{append_cases}
