@@ -1,5 +1,15 @@
+pub mod Answered
+pub mod Blocks
 pub mod Calls
+pub mod Called
+pub mod Fates
 pub mod Faults
+pub mod Filled
+pub mod Images
 pub mod Lists
+pub mod OnList
 pub mod Pages
+pub mod Reading
+pub mod Replay
 pub mod Runs
+pub mod Units

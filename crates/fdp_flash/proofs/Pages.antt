@@ -1,5 +1,5 @@
 -- What one call leaves of the pages.
-use Rattle.std.proofs.Common.{◌≡◌, ◌≢◌, ◌⊎◌, ℕ, ◌+◌, ◌*◌, ◌<◌, ◌≤◌, List, length, Some, arith, refl, inl, inr, ◌∙◌}
+use Rattle.std.proofs.Common.{◌≡◌, ◌≢◌, ◌⊎◌, ℕ, ◌+◌, ◌-◌, ◌*◌, ◌<◌, ◌≤◌, List, length, Some, arith, refl, inl, inr, ◌∙◌}
 use Rattle.std.specs.List.{slice_get}
 use Rattle.std.proofs.lemmas.Bool.{cases_lt}
 use Rattle.std.proofs.lemmas.List.{length-set}
@@ -117,3 +117,14 @@ pub erase_blank_page : (g : Geometry) (old : List Cell) (unit : ℕ) (new : List
     slice_get old (first_page g unit + page) ≡ Some Blank →
     (slice_get new (first_page g unit + page) ≡ Some Blank) ⊎ (slice_get new (first_page g unit + page) ≡ Some Torn)
 erase_blank_page g old unit new page p h b = elim (p.pages page h) [ inl e ↦ inl (e ∙ b) | inr rest ↦ rest ]
+
+-- the pages from one of a unit up to its end, by their numbers
+pub blank_from_numbers : (g : Geometry) (cells : List Cell) (at : Spot) →
+    ((k : ℕ) → page_number g at ≤ k → k < first_page g at.unit + g.unit_pages → slice_get cells k ≡ Some Blank) → IsBlankFrom g cells at
+blank_from_numbers g cells at h = record { blank = λ page least most. h (first_page g at.unit + page) (omega arith) (omega arith) }
+
+pub numbers_from_blank : (g : Geometry) (cells : List Cell) (at : Spot) → IsBlankFrom g cells at →
+    (k : ℕ) → page_number g at ≤ k → k < first_page g at.unit + g.unit_pages → slice_get cells k ≡ Some Blank
+numbers_from_blank g cells at h k least most =
+    let same : first_page g at.unit + (k - first_page g at.unit) ≡ k = omega arith in
+    rw same at (h.blank (k - first_page g at.unit) (omega arith) (omega arith))

@@ -1,6 +1,8 @@
 -- One call is a run, and runs that follow one another are one run.
-use Rattle.std.proofs.Common.{◌≡◌, ℕ, ◌<◌, ◌≤◌, IsTrue, Bool, true, false, List, arith, refl, ◌∙◌, inl, inr}
+use Rattle.std.proofs.Common.{◌≡◌, ℕ, ◌-◌, ◌<◌, ◌≤◌, IsTrue, Bool, true, false, List, [], ◌∷◌, length, Some, arith, refl, ap, ◌∙◌, inl, inr}
+use Rattle.std.specs.List.{slice_get}
 use Rattle.std.proofs.lemmas.Bool.{cases_lt}
+use Rattle.std.proofs.lemmas.List.{length-append}
 use Rattle.fdp_base.specs.declared.entry.Spot.{Spot}
 use Rattle.fdp_flash.specs.declared.answer.Fetched.{Fetched}
 use Rattle.fdp_flash.specs.declared.answer.Seen.{Seen}
@@ -8,9 +10,9 @@ use Rattle.fdp_flash.specs.declared.answer.Wrote.{Wrote}
 use Rattle.fdp_flash.specs.declared.cell.Cell.{Cell}
 use Rattle.fdp_flash.specs.Answers.{Looks, Fetches, Programs, Erases}
 use Rattle.fdp_flash.specs.Cells.{ProgramMayLeave, EraseMayLeave}
-use Rattle.fdp_flash.specs.FlashState.{FlashState, Call, Begins, Ends, Faulted}
+use Rattle.fdp_flash.specs.FlashState.{FlashState, Call, Begins, Ends, Faulted, IsWellFormed}
 use Rattle.fdp_flash.specs.Runs.{Runs}
-use Rattle.fdp_flash.proofs.Lists.{slice_get-append}
+use Rattle.fdp_flash.proofs.Lists.{slice_get-append, slice_get-append_last}
 
 -- no call was made
 pub no_run : (s : FlashState) (Image : ℕ → List Cell → Type 0) → Runs s s Image
@@ -123,3 +125,19 @@ pub run_of_erase : (old new : FlashState) (unit : ℕ) (result : Wrote) (Image :
     Begins old new → Erases old new unit result →
     (IsTrue old.told → old.moment < new.moment → (image : List Cell) → EraseMayLeave old.geometry old.cells unit image → Image new.moment image) → Runs old new Image
 run_of_erase old new unit result Image b a each = run_of_call old new _ _ Image b a.ended each
+
+-- where the calls are told the last call stands on the list at its moment
+pub call_is_listed : (old new : FlashState) (call : Call) (MayLeave : List Cell → Type 0) → IsWellFormed new → Ends old new call MayLeave → IsTrue new.tells_calls →
+    slice_get new.calls (new.moment - 1) ≡ Some call
+call_is_listed old new call MayLeave w e t =
+    let listed = e.listed t in
+    let count : new.moment - 1 ≡ length old.calls = omega (arith, w.calls t, ap length listed, length-append old.calls (call ∷ [])) in
+    rw (count, listed) (slice_get-append_last old.calls call)
+
+-- a fault behind a run is a fault since its beginning
+pub fault_after_run : (start old new : FlashState) (Image : ℕ → List Cell → Type 0) → Runs start old Image → Faulted old new → Faulted start new
+fault_after_run start old new Image run fault = record { rose = omega (arith, run.faults, fault.rose); unreliable = rw (← run.reliable) fault.unreliable }
+
+-- a fault before a run is a fault up to its end
+pub fault_before_run : (start old new : FlashState) (Image : ℕ → List Cell → Type 0) → Faulted start old → Runs old new Image → Faulted start new
+fault_before_run start old new Image fault run = record { rose = omega (arith, run.faults, fault.rose); unreliable = fault.unreliable }

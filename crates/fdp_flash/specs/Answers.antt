@@ -20,6 +20,12 @@ seen_failed seen.Whole = false
 seen_failed seen.Blank = false
 seen_failed seen.Torn = false
 
+-- whether a fetch answered Failed
+abbrev pub fetched_failed : Fetched → Bool
+fetched_failed fetched.Failed = true
+fetched_failed fetched.Whole = false
+fetched_failed fetched.Other = false
+
 -- whether a program or an erase failed
 abbrev pub wrote_failed : Wrote → Bool
 wrote_failed wrote.Failed = true

@@ -4,7 +4,7 @@ use Rattle.fdp_base.specs.declared.config.Geometry.{Geometry}
 use Rattle.fdp_base.specs.declared.entry.Spot.{Spot}
 use Rattle.fdp_flash.specs.declared.cell.Cell.{Cell}
 use Rattle.fdp_flash.specs.declared.cell.Cell.TheVariants.{Blank, Torn, Whole}
-use Rattle.fdp_flash.specs.Layout.{first_page, page_number}
+use Rattle.fdp_flash.specs.Layout.{first_page, page_count, page_number}
 
 -- this page and those behind it in its unit are blank
 pub record IsBlankFrom (g : Geometry) (cells : List Cell) (at : Spot) : Type 0 where
@@ -13,6 +13,19 @@ pub record IsBlankFrom (g : Geometry) (cells : List Cell) (at : Spot) : Type 0 w
 -- each page of the unit is blank
 pub record IsBlankUnit (g : Geometry) (cells : List Cell) (unit : ℕ) : Type 0 where
   pub blank : (page : ℕ) → page < g.unit_pages → slice_get cells (first_page g unit + page) ≡ Some Blank
+
+-- each page is blank
+pub record IsBlankFlash (g : Geometry) (cells : List Cell) : Type 0 where
+  pub blank : (k : ℕ) → k < page_count g → slice_get cells k ≡ Some Blank
+
+-- each whole page has so many bytes
+abbrev pub HaveBytes : ℕ → List Cell → Type 0
+HaveBytes size cells = (k : ℕ) (spare bytes : List ℕ) → slice_get cells k ≡ Some (Whole spare bytes) → length bytes ≡ size
+
+-- a cell for each page, and the bytes of a block in each that is whole
+pub record AreCells (g : Geometry) (cells : List Cell) : Type 0 where
+  pub size : length cells ≡ page_count g
+  pub blocks : HaveBytes g.block cells
 
 -- the pages of all other units are as they were
 pub record IsSameOutside (g : Geometry) (unit : ℕ) (old new : List Cell) : Type 0 where

@@ -79,3 +79,8 @@ pub record IsWellFormed (s : FlashState) : Type 0 where
   pub size : IsTrue s.told → length s.cells ≡ page_count s.geometry
   pub blocks : IsTrue s.told → (k : ℕ) (spare bytes : List ℕ) → slice_get s.cells k ≡ Some (Whole spare bytes) → length bytes ≡ s.geometry.block
   pub calls : IsTrue s.tells_calls → s.moment ≡ length s.calls
+
+-- the call of this moment stands on the list of calls
+pub record WasRecorded (s : FlashState) (moment : ℕ) : Type 0 where
+  pub least : 0 < moment
+  pub most : moment ≤ length s.calls

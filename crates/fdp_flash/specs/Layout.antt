@@ -1,5 +1,7 @@
 -- How the units and pages of a flash are numbered.
 use Rattle.std.specs.Prelude.{◌≡◌, ◌⊎◌, ℕ, ◌+◌, ◌*◌, ◌^◌, ◌<◌, ◌≤◌}
+use Rattle.std.proofs.Common.{ap, inl, inr, arith}
+use native.Mathlib.Nat.{ℕ_set}
 use Rattle.fdp_base.specs.declared.config.Geometry.{Geometry}
 use Rattle.fdp_base.specs.declared.entry.Spot.{Spot}
 
@@ -34,3 +36,10 @@ pub record IsGeometry (g : Geometry) : Type 0 where
 pub record IsIn (g : Geometry) (at : Spot) : Type 0 where
   pub unit : at.unit < unit_count g
   pub page : at.page < g.unit_pages
+
+-- a block has at most one of the two sizes
+pub one_block_size : (g : Geometry) → IsProp ((g.block ≡ 512) ⊎ (g.block ≡ 4096))
+one_block_size g (inl p) (inl q) = ap inl (ℕ_set g.block 512 p q)
+one_block_size g (inr p) (inr q) = ap inr (ℕ_set g.block 4096 p q)
+one_block_size g (inl p) (inr q) = absurd (omega arith)
+one_block_size g (inr p) (inl q) = absurd (omega arith)

@@ -1,5 +1,14 @@
 pub mod Answers
+pub mod Area
+pub mod Blocks
 pub mod Cells
+pub mod FlashMem
 pub mod FlashState
 pub mod Layout
+pub mod MemoryState
+pub mod Noted
+pub mod Plan
+pub mod Read
+pub mod Recorded
 pub mod Runs
+pub mod WellFormed

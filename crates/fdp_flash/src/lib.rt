@@ -2,9 +2,18 @@
 #![tactic(auto)]
 
 mod answer;
+mod area;
 mod cell;
 mod flash;
+mod layout;
+mod memory;
+mod plan;
+#[cfg(test)]
+mod tests;
 
 pub use answer::{Fetched, Operation, Seen, Wrote};
+pub use area::erase_area;
 pub use cell::Cell;
 pub use flash::Flash;
+pub use memory::{FlashMem, Recorded};
+pub use plan::{Fate, Outcome, Plan};

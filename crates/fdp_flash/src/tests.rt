@@ -1,0 +1,343 @@
+use crate::answer::{Fetched, Seen, Wrote};
+use crate::area::erase_area;
+use crate::cell::Cell;
+use crate::flash::Flash;
+use crate::memory::FlashMem;
+use crate::plan::{Outcome, Plan};
+use fdp_base::{Geometry, Sequence, Spot};
+use std::alloc::{AllocError, Global};
+use std::test::Fail;
+
+/// Two units of data and two of system areas, of two pages each.
+const SMALL: Geometry = Geometry {
+    block: 512,
+    unit_pages: 2,
+    groups: 1,
+    units: 2,
+    area_units: 1,
+};
+
+#[derive(Clone, Copy)]
+enum Step {
+    /// The page of a unit, and the byte that fills it and its spare.
+    Program(u32, u32, u8),
+    Look(u32, u32),
+    Fetch(u32, u32, u8),
+    Erase(u32),
+}
+
+const SCRIPT: [Step; 9] = [
+    Step::Program(0, 0, b'1'),
+    Step::Program(0, 1, b'2'),
+    Step::Program(2, 0, b'3'),
+    Step::Look(0, 0),
+    Step::Fetch(0, 1, b'2'),
+    Step::Program(1, 1, b'4'),
+    Step::Erase(0),
+    Step::Program(0, 0, b'5'),
+    Step::Erase(2),
+];
+
+/// Makes the call of a step, where the flash allows it, and names its answer by a letter.
+fn perform(flash: &mut FlashMem, step: Step) -> char {
+    if flash.geometry().block != 512 {
+        return '?';
+    }
+    let mut bytes = [0; 512];
+    let mut spare = [0; 32];
+    match step {
+        Step::Program(unit, page, fill) => {
+            let at = Spot { unit, page };
+            if !flash.has_place(at) || !flash.has_room(at) {
+                return '-';
+            }
+            letter_of(flash.program(at, &[fill; 32], &[fill; 512]))
+        }
+        Step::Look(unit, page) => {
+            let at = Spot { unit, page };
+            if !flash.has_place(at) {
+                return '-';
+            }
+            match flash.look(at, &mut spare, &mut bytes) {
+                Seen::Whole => bytes[511] as char,
+                Seen::Blank => '.',
+                Seen::Torn => '~',
+                Seen::Failed => 'F',
+            }
+        }
+        Step::Fetch(unit, page, fill) => {
+            let at = Spot { unit, page };
+            if !flash.has_place(at) {
+                return '-';
+            }
+            match flash.fetch(at, &[fill; 32], &mut bytes) {
+                Fetched::Whole => bytes[0] as char,
+                Fetched::Other => 'O',
+                Fetched::Failed => 'F',
+            }
+        }
+        Step::Erase(unit) => {
+            if !flash.has_place(Spot { unit, page: 0 }) {
+                return '-';
+            }
+            letter_of(flash.erase(unit))
+        }
+    }
+}
+
+fn letter_of(wrote: Wrote) -> char {
+    match wrote {
+        Wrote::Done => 'D',
+        Wrote::Failed => 'F',
+    }
+}
+
+/// The answers to the steps, by their letters.
+fn play(alloc: Global, flash: &mut FlashMem, steps: &[Step]) -> Result<String, AllocError> {
+    let mut answers = String::new(alloc);
+    for step in steps {
+        answers.push(perform(flash, *step))?;
+    }
+    Ok(answers)
+}
+
+/// The pages by their letters: a dot is blank, a tilde torn, and a whole page its first byte.
+fn drawn(alloc: Global, cells: &[Cell]) -> Result<String, AllocError> {
+    let mut letters = String::new(alloc);
+    for cell in cells {
+        letters.push(match cell {
+            Cell::Blank => '.',
+            Cell::Torn => '~',
+            Cell::Whole { spare, bytes: _ } => spare[31] as char,
+        })?;
+    }
+    Ok(letters)
+}
+
+/// The calls that a plan keeps, the call that it has fail and the one that it stops with; the answers to the script under
+/// it, the cells that are left, and how many faults and programs were counted.
+type Case = (
+    u32,
+    Option<(u64, Outcome)>,
+    Option<(u64, Outcome)>,
+    &'static str,
+    &'static str,
+    u64,
+    u64,
+);
+
+const CASES: [Case; 12] = [
+    (0, None, None, "DDD12DDDD", "5..4....", 0, 4),
+    (3, None, None, "DDDFFFF-F", "12..3...", 5, 2),
+    (
+        0,
+        Some((2, Outcome::Torn)),
+        None,
+        "DFD1ODDDD",
+        "5..4....",
+        1,
+        3,
+    ),
+    (
+        0,
+        Some((2, Outcome::Blank)),
+        None,
+        "DFD1ODDDD",
+        "5..4....",
+        1,
+        3,
+    ),
+    (
+        0,
+        Some((2, Outcome::Whole)),
+        None,
+        "DFD12DDDD",
+        "5..4....",
+        1,
+        3,
+    ),
+    (
+        9,
+        Some((4, Outcome::Torn)),
+        None,
+        "DDDF2DDDD",
+        "5..4....",
+        1,
+        4,
+    ),
+    (
+        9,
+        Some((5, Outcome::Torn)),
+        None,
+        "DDD1FDDDD",
+        "5..4....",
+        1,
+        4,
+    ),
+    (
+        9,
+        Some((7, Outcome::Torn)),
+        None,
+        "DDD12DF-D",
+        "~~.4....",
+        1,
+        3,
+    ),
+    (
+        9,
+        Some((7, Outcome::Whole)),
+        None,
+        "DDD12DF-D",
+        "12.4....",
+        1,
+        3,
+    ),
+    (
+        9,
+        Some((7, Outcome::Blank)),
+        None,
+        "DDD12DFDD",
+        "5..4....",
+        1,
+        4,
+    ),
+    (
+        0,
+        None,
+        Some((6, Outcome::Torn)),
+        "DDD12FF-F",
+        "12.~3...",
+        3,
+        2,
+    ),
+    (
+        9,
+        Some((6, Outcome::Blank)),
+        Some((7, Outcome::Torn)),
+        "DDD12FF-F",
+        "~~..3...",
+        3,
+        2,
+    ),
+];
+
+fn made(
+    alloc: Global,
+    calls: u32,
+    failing: Option<(u64, Outcome)>,
+    stop: Option<(u64, Outcome)>,
+) -> Result<FlashMem, AllocError> {
+    let mut failures = Vec::new(alloc);
+    if let Some(failure) = failing {
+        failures.push(failure)?;
+    }
+    let failing = Sequence::from_vec(failures);
+    FlashMem::new(
+        alloc,
+        SMALL,
+        Plan {
+            calls,
+            failing,
+            stop,
+        },
+    )
+}
+
+fn follows(alloc: Global, case: &Case) -> Result<bool, AllocError> {
+    let (calls, failing, stop, answers, cells, faults, programs) = *case;
+    let mut flash = made(alloc, calls, failing, stop)?;
+    let letters = play(alloc, &mut flash, &SCRIPT)?;
+    let drawing = drawn(alloc, flash.cells())?;
+    Ok(
+        letters.as_str() == answers
+            && drawing.as_str() == cells
+            && flash.faults() == faults
+            && flash.programs() == programs,
+    )
+}
+
+#[test]
+fn plans_are_followed(rt: HostRuntime) -> Result<(), Fail> {
+    for case in &CASES {
+        assert!(rt; follows(rt.alloc(), case)?, "{}", case.3);
+    }
+    Ok(())
+}
+
+/// What a stop in the call of a moment leaves of the script.
+const IMAGES: [(u64, Outcome, &str); 16] = [
+    (1, Outcome::Blank, "........"),
+    (1, Outcome::Torn, "~......."),
+    (1, Outcome::Whole, "1......."),
+    (2, Outcome::Torn, "1~......"),
+    (3, Outcome::Blank, "12......"),
+    (3, Outcome::Whole, "12..3..."),
+    (4, Outcome::Torn, "12..3..."),
+    (5, Outcome::Blank, "12..3..."),
+    (6, Outcome::Torn, "12.~3..."),
+    (7, Outcome::Blank, "...43..."),
+    (7, Outcome::Torn, "~~.43..."),
+    (7, Outcome::Whole, "12.43..."),
+    (8, Outcome::Torn, "~..43..."),
+    (9, Outcome::Blank, "5..4...."),
+    (9, Outcome::Torn, "5..4~~.."),
+    (9, Outcome::Whole, "5..43..."),
+];
+
+/// Whether the image of a stop is this one, a flash that stopped there has just its cells, and one can be made of them.
+fn is_left(
+    alloc: Global,
+    flash: &FlashMem,
+    moment: u64,
+    outcome: Outcome,
+    cells: &str,
+) -> Result<bool, AllocError> {
+    if !flash.has_recorded(moment) {
+        return Ok(false);
+    }
+    let image = flash.image_at(alloc, moment, outcome)?;
+    let mut stopped = made(alloc, 0, None, Some((moment, outcome)))?;
+    play(alloc, &mut stopped, &SCRIPT)?;
+    let is_same = stopped.cells() == image.as_slice();
+    if !FlashMem::are_cells(SMALL, image.as_slice()) {
+        return Ok(false);
+    }
+    let next = FlashMem::of_cells(alloc, SMALL, image, Plan::empty(alloc))?;
+    let drawing = drawn(alloc, next.cells())?;
+    Ok(is_same && drawing.as_str() == cells)
+}
+
+#[test]
+fn images_are_what_a_stop_leaves(rt: HostRuntime) -> Result<(), Fail> {
+    let mut flash = made(rt.alloc(), 9, None, None)?;
+    play(rt.alloc(), &mut flash, &SCRIPT)?;
+    for &(moment, outcome, cells) in &IMAGES {
+        assert!(rt;
+            is_left(rt.alloc(), &flash, moment, outcome, cells)?,
+            "{cells}"
+        );
+    }
+    assert!(rt; !flash.has_recorded(0));
+    assert!(rt; !flash.has_recorded(10));
+    Ok(())
+}
+
+#[test]
+fn torn_pages_and_areas(rt: HostRuntime) -> Result<(), Fail> {
+    let mut flash = made(rt.alloc(), 0, Some((2, Outcome::Torn)), None)?;
+    let steps = [
+        Step::Program(2, 0, b'6'),
+        Step::Program(3, 0, b'7'),
+        Step::Look(3, 0),
+        Step::Look(3, 1),
+        Step::Fetch(3, 0, b'7'),
+        Step::Fetch(2, 0, b'7'),
+        Step::Program(2, 0, b'8'),
+        Step::Look(4, 0),
+    ];
+    assert_eq!(rt; play(rt.alloc(), &mut flash, &steps)?.as_str(), "DF~.OO--");
+    assert!(rt; flash.has_place(Spot { unit: 3, page: 0 }));
+    assert!(rt; erase_area(&mut flash, 2, 2) == Wrote::Done);
+    assert_eq!(rt; drawn(rt.alloc(), flash.cells())?.as_str(), "........");
+    Ok(())
+}
