@@ -44,7 +44,7 @@ placed-outside f bs xs i len fits out =
       | inr above ↦ placed-above f.at bs xs i (omega arith) (omega arith)
     ]
 
-IsBytes-drop : (n : ℕ) (xs : List ℕ) → IsBytes xs → IsBytes (drop n xs)
+pub IsBytes-drop : (n : ℕ) (xs : List ℕ) → IsBytes xs → IsBytes (drop n xs)
 IsBytes-drop n xs h i = rw get_or-drop (h (n + i))
 
 -- the bytes of the numbers that a field holds are its bytes

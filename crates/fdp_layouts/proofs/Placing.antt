@@ -10,3 +10,9 @@ pub wrote : (at : ℕ) (frame new bs : List ℕ) → at + length bs ≤ length f
 unfolding placed
 wrote at frame new bs fits e =
     rw e (same_lists _ _ (search (rules, places)) (λ k d h. grind (arith, places)))
+
+pub wrote_all : (at k : ℕ) (frame new bs : List ℕ) → at + length bs ≤ length frame → k ≡ length bs → new ≡ bs
+    → put_mid at k frame new ≡ placed at bs frame
+unfolding placed
+wrote_all at k frame new bs fits len e =
+    rw (e, len) (same_lists _ _ (search (rules, places)) (λ k d h. grind (arith, places)))
