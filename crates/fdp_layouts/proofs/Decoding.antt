@@ -38,8 +38,8 @@ whole len fields bytes lb h asc e =
     let none = (no_fault (first_reserved len (spans_of fields) bytes) (first_unnamed fields (numbers_in fields bytes)) e).0 in
     sym (filled_again fields bytes (replicate len 0) 0 len (length-replicate len 0) lb h asc
     (λ i lt out.
-        let test = none_found (is_stray (spans_of fields) bytes) 0 len none i (omega arith) (omega arith) in
-        get_or-replicate len i 0 0 lt ∙ sym (stray_is_zero (get_or bytes i 0) (list_any (covers i) (spans_of fields)) test out)))
+    let test = none_found (is_stray (spans_of fields) bytes) 0 len none i (omega arith) (omega arith) in
+    get_or-replicate len i 0 0 lt ∙ sym (stray_is_zero (get_or bytes i 0) (list_any (covers i) (spans_of fields)) test out)))
 
 named : (ps : List Part) (vs : List ℕ) → PartsFit ps vs → are_named ps vs ≡ true
 named [] [] fits = refl
@@ -64,7 +64,7 @@ again len fields vss asc fits =
     let back = numbers_again fields vss zeros 0 len lz asc fits in
     let strays : first_reserved len (spans_of fields) frame ≡ None = finds_none (is_stray (spans_of fields) frame) 0 len
     (λ i lo hi. zero_is_no_stray (get_or frame i 0) (list_any (covers i) (spans_of fields))
-        (λ out. filled-outside fields vss zeros 0 len i lz asc out ∙ get_or-replicate len i 0 0 (omega arith))) in
+    (λ out. filled-outside fields vss zeros 0 len i lz asc out ∙ get_or-replicate len i 0 0 (omega arith))) in
     let names : first_unnamed fields (numbers_in fields frame) ≡ None = ap (first_unnamed fields) back ∙ all_named fields vss fits in
     (back, rw (strays, names) refl)
 

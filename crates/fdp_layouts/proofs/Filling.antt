@@ -103,14 +103,14 @@ filled_again (f ∷ fs) bytes xs from len lx lb h asc same =
     filled_again fs bytes (placed f.at bs xs) (f.at + size f) len (next ∙ lx) lb h a.others
     (λ i lt out. elim (cases_Bool (covers i (span_of f))) [
       | inl here ↦
-        let c = covered i (span_of f) here in
-        let inside = placed-inside f.at bs xs i (omega arith) c.0 (omega (arith, c.1)) in
-        let read : get_or bs (i - f.at) 0 ≡ get_or bytes i 0 =
-            ap (λ (l : List ℕ). get_or l (i - f.at) 0) is
-            ∙ get_or-take (size f) (drop f.at bytes) (i - f.at) 0 (omega (arith, c.1))
-            ∙ get_or-drop f.at bytes (i - f.at) 0
-            ∙ ap (λ (k : ℕ). get_or bytes k 0) (omega (arith, c.0)) in
-        inside ∙ read
+          let c = covered i (span_of f) here in
+          let inside = placed-inside f.at bs xs i (omega arith) c.0 (omega (arith, c.1)) in
+          let read : get_or bs (i - f.at) 0 ≡ get_or bytes i 0 =
+          ap (λ (l : List ℕ). get_or l (i - f.at) 0) is
+          ∙ get_or-take (size f) (drop f.at bytes) (i - f.at) 0 (omega (arith, c.1))
+          ∙ get_or-drop f.at bytes (i - f.at) 0
+          ∙ ap (λ (k : ℕ). get_or bytes k 0) (omega (arith, c.0)) in
+          inside ∙ read
       | inr there ↦ placed-outside f bs xs i size-is (omega arith) there ∙ same i lt (false_or _ _ there out)
     ])
 
@@ -173,9 +173,9 @@ numbers_again (f ∷ fs) (vs ∷ vss) xs from len lx asc fits =
     let fit : n < 256 ^ size f = packed_fits f vs a.whole fits.0 in
     let same : little_from 0 (size f) (drop f.at whole) ≡ little_from 0 (size f) bs = little_from-same 0 (size f) (drop f.at whole) bs
     (λ k lo hi.
-        let kept = filled-outside fs vss ys (f.at + size f) len (f.at + k) ly a.others (below_all fs (f.at + size f) len (f.at + k) a.others (omega arith)) in
-        let inside = placed-inside f.at bs xs (f.at + k) (omega arith) (omega arith) (omega arith) in
-        get_or-drop f.at whole k 0 ∙ kept ∙ inside ∙ ap (λ (j : ℕ). get_or bs j 0) (omega arith)) in
+    let kept = filled-outside fs vss ys (f.at + size f) len (f.at + k) ly a.others (below_all fs (f.at + size f) len (f.at + k) a.others (omega arith)) in
+    let inside = placed-inside f.at bs xs (f.at + k) (omega arith) (omega arith) (omega arith) in
+    get_or-drop f.at whole k 0 ∙ kept ∙ inside ∙ ap (λ (j : ℕ). get_or bs j 0) (omega arith)) in
     let back : little_from 0 (size f) bs ≡ n = ap (little_from 0 (size f)) (sym (append-nil bs)) ∙ little_number-reads_back (size f) n [] fit in
     let reads : number_at f.at (size f) whole ≡ n = same ∙ back in
     let here : held f whole ≡ vs = ap (unpacked f.parts) reads ∙ unpacked-packed f.parts vs fits.0 in

@@ -21,10 +21,15 @@ use crate::table::{decode, encode, len, made, put, take};
 use fdp_base::Status;
 
 const DW0: usize = 0;
+
 const DW1: usize = 4;
+
 const SQ_HEAD: usize = 8;
+
 const SQ_ID: usize = 10;
+
 const CID: usize = 12;
+
 const STATUS: usize = 14;
 
 macro_rules! cqe {
@@ -160,7 +165,8 @@ impl StatusField {
     pub fn code(&self) -> u16
         ensures { result ≡ packed status_parts (status_numbers self.now) }
     {
-        let retry = u16::from(self.crd.code()) + 4 * (u16::from(self.more) + 2 * u16::from(self.dnr));
+        let retry = u16::from(self.crd.code())
+            + 4 * (u16::from(self.more) + 2 * u16::from(self.dnr));
         let kind = u16::from(self.sct.code()) + 8 * retry;
         u16::from(self.phase) + 2 * (u16::from(self.sc) + 256 * kind)
     }

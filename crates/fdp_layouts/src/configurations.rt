@@ -35,25 +35,33 @@ use crate::bad_frame::BadFrame;
 use crate::coded::Coded;
 use crate::frame::Frame;
 use crate::group_bits::GroupBits;
-use crate::number::{
-    put_u8, put_u16, put_u32, put_u64, read_u8, read_u16, read_u32, read_u64,
-};
+use crate::number::{put_u8, put_u16, put_u32, put_u64, read_u8, read_u16, read_u32, read_u64};
 use crate::span::{Span, first_reserved};
 use crate::table::{decode, encode, len, made, put, take};
 use fdp_base::Class;
 
 const CONFIGURATIONS: usize = 0;
+
 const VERSION: usize = 2;
+
 const LOG_SIZE: usize = 4;
 
 const DESCRIPTOR_SIZE: usize = 0;
+
 const ATTRIBUTES: usize = 2;
+
 const VENDOR_SIZE: usize = 3;
+
 const NRG: usize = 4;
+
 const NRUH: usize = 8;
+
 const MAXPIDS: usize = 10;
+
 const NNSS: usize = 12;
+
 const RUNS: usize = 16;
+
 const ERUTL: usize = 24;
 
 const CLASS: usize = 0;

@@ -36,13 +36,21 @@ use fdp_base::EventKind;
 const EVENTS: usize = 0;
 
 const KIND: usize = 0;
+
 const FLAGS: usize = 1;
+
 const PID: usize = 2;
+
 const TIMESTAMP: usize = 4;
+
 const NSID: usize = 12;
+
 const SPECIFIC: usize = 16;
+
 const RG: usize = 32;
+
 const RUHID: usize = 34;
+
 const VENDOR: usize = 40;
 
 macro_rules! event_head {

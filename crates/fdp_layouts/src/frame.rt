@@ -40,5 +40,4 @@ pub trait Frame<const N: usize> {
 /// A proof knows of the items of a slice that they are bytes, and of an array of `N` items it does not.
 pub(crate) fn see_bytes(bytes: &[u8])
     ensures { (i : ℕ) → slice_index bytes.now i < 256 }
-{
-}
+{}

@@ -27,8 +27,11 @@ use crate::table::{decode, encode, len, made, put, take};
 const DESCRIPTORS: usize = 14;
 
 const PID: usize = 0;
+
 const RUHID: usize = 2;
+
 const EARUTR: usize = 4;
+
 const RUAMW: usize = 8;
 
 macro_rules! ruh_status_head {

@@ -29,3 +29,6 @@ pub use range::DsmRange;
 pub use statistics::Stats;
 pub use submission::{EntryFlags, Fuse, Psdt, Sqe};
 pub use usage::{RuhUse, RuhUseHead, Usage};
+
+#[cfg(test)]
+mod tests;

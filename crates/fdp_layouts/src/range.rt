@@ -16,7 +16,9 @@ use crate::span::{Span, first_reserved};
 use crate::table::{decode, encode, len, made, put, take};
 
 const ATTRIBUTES: usize = 0;
+
 const LENGTH: usize = 4;
+
 const SLBA: usize = 8;
 
 macro_rules! dsm_range {

@@ -32,5 +32,7 @@ fn is_stray(bytes: &[u8], fields: &[Span], i: usize) -> bool
 fn is_field(fields: &[Span], i: usize) -> bool
     ensures { result ≡ list_any (covers i) fields.now }
 {
-    fields.iter().any(|span| span.at <= i && i - span.at < span.len)
+    fields
+        .iter()
+        .any(|span| span.at <= i && i - span.at < span.len)
 }

@@ -16,7 +16,9 @@ use crate::span::{Span, first_reserved};
 use crate::table::{decode, encode, len, made, put, take};
 
 const HBMW: usize = 0;
+
 const MBMW: usize = 16;
+
 const MBE: usize = 32;
 
 macro_rules! stats {

@@ -24,18 +24,31 @@ use crate::span::{Span, first_reserved};
 use crate::table::{decode, encode, len, made, put, take};
 
 const OPCODE: usize = 0;
+
 const FLAGS: usize = 1;
+
 const CID: usize = 2;
+
 const NSID: usize = 4;
+
 const CDW2: usize = 8;
+
 const CDW3: usize = 12;
+
 const MPTR: usize = 16;
+
 const DPTR: usize = 24;
+
 const CDW10: usize = 40;
+
 const CDW11: usize = 44;
+
 const CDW12: usize = 48;
+
 const CDW13: usize = 52;
+
 const CDW14: usize = 56;
+
 const CDW15: usize = 60;
 
 macro_rules! sqe {

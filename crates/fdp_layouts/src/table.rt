@@ -97,4 +97,9 @@ macro_rules! made {
     };
 }
 
-pub(crate) use {decode, encode, len, made, put, take};
+pub(crate) use decode;
+pub(crate) use encode;
+pub(crate) use len;
+pub(crate) use made;
+pub(crate) use put;
+pub(crate) use take;
