@@ -1,13 +1,11 @@
 -- What a decoder owes, from what its reader says.
-use Rattle.std.proofs.Common.{◌≡◌, ℕ, zero, suc, ◌+◌, ◌<◌, ◌≤◌, Bool, true, false, ◌&&◌, not, cond, eqb, IsTrue, List, [], ◌∷◌, length, get_or, replicate, Option, Some, None, Result, Ok, Err, refl, sym, ap, subst, ◌∙◌, arith, inl, inr}
+use Rattle.std.proofs.Common.{◌≡◌, ℕ, Bool, true, false, ◌&&◌, not, eqb, IsTrue, List, [], ◌∷◌, length, get_or, replicate, Option, Some, None, Result, Ok, Err, refl, sym, ap, ◌∙◌, arith, inl, inr}
 use Rattle.std.specs.Prelude.{MatchResult, IfOk}
 use Rattle.std.specs.List.{list_any}
 use Rattle.std.proofs.lemmas.Bool.{cases_Bool, eqb-true}
 use Rattle.std.proofs.lemmas.List.{get_or-replicate, length-replicate}
-use Rattle.fdp_layouts.specs.declared.span.Span.{Span}
 use Rattle.fdp_layouts.specs.declared.bad_frame.BadFrame.{BadFrame}
-use Rattle.fdp_layouts.specs.declared.bad_frame.BadFrame.TheVariants.{Reserved, Range}
-use Rattle.fdp_layouts.specs.Frame.{Part, Field, frame_of, filled, numbers_in, spans_of, covers, is_stray, first_reserved, are_named, first_unnamed, fault_from, fault_of, PartsFit, Fits, ascend}
+use Rattle.fdp_layouts.specs.Frame.{Part, Field, frame_of, numbers_in, spans_of, covers, is_stray, first_reserved, are_named, first_unnamed, fault_from, fault_of, PartsFit, Fits, ascend}
 use Rattle.fdp_layouts.proofs.Bytes.{IsBytes}
 use Rattle.fdp_layouts.proofs.Search.{finds_none, none_found}
 use Rattle.fdp_layouts.proofs.Filling.{filled_again, filled-outside, numbers_again}

@@ -1,7 +1,7 @@
 -- The parts of a field.
-use Rattle.std.proofs.Common.{◌≡◌, ℕ, zero, suc, ◌+◌, ◌-◌, ◌*◌, ◌/◌, ◌%◌, ◌^◌, ◌<◌, ◌≤◌, List, [], ◌∷◌, ◌++◌, length, refl, sym, ap, ◌∙◌, arith}
+use Rattle.std.proofs.Common.{◌≡◌, ℕ, ◌+◌, ◌*◌, ◌/◌, ◌^◌, ◌<◌, List, [], ◌∷◌, refl, arith}
 use Rattle.std.proofs.Math.Nat.{mul_comm}
-use Rattle.std.proofs.lemmas.Nat.{mul-add-lt, pow_pos, div-add-mod', mod_low, shr_high, pow-add}
+use Rattle.std.proofs.lemmas.Nat.{mul-add-lt, div-add-mod', mod_low, shr_high, pow-add}
 use Rattle.fdp_layouts.specs.Frame.{Part, bits_of, packed, unpacked, PartsFit}
 
 -- a number is that of its parts

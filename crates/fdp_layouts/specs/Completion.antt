@@ -1,5 +1,5 @@
 -- The layout of completion queue entries.
-use Rattle.std.specs.Prelude.{◌≡◌, ℕ, Bool, true, false, List, [], ◌∷◌, ◌==◌, if◌then◌else◌, refl}
+use Rattle.std.specs.Prelude.{◌≡◌, ℕ, List, [], ◌∷◌, ◌==◌, if◌then◌else◌, refl}
 use Rattle.std.proofs.Common.{sym, ap, ◌∙◌}
 use Rattle.fdp_layouts.specs.Frame.{Part, Field, any, number, bit, bit_apart}
 use Rattle.fdp_layouts.specs.declared.completion.Cqe.{Cqe}

@@ -1,5 +1,5 @@
 -- The layouts of the Reclaim Unit Handle Usage log page.
-use Rattle.std.specs.Prelude.{◌≡◌, ℕ, Bool, ◌||◌, List, [], ◌∷◌, ◌==◌, if◌then◌else◌, refl}
+use Rattle.std.specs.Prelude.{◌≡◌, ℕ, ◌||◌, List, [], ◌∷◌, ◌==◌, if◌then◌else◌, refl}
 use Rattle.std.proofs.Common.{sym, ap, ◌∙◌}
 use Rattle.fdp_layouts.specs.Frame.{Part, Field, code, number}
 use Rattle.fdp_layouts.specs.declared.usage.RuhUseHead.{RuhUseHead}

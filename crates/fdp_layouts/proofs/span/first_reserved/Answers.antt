@@ -1,5 +1,5 @@
 use Rattle.std.proofs.Common.{length, arith, sym, ◌∙◌}
-use Rattle.fdp_layouts.specs.Frame.{is_stray, first_reserved}
+use Rattle.fdp_layouts.specs.Frame.{is_stray}
 use Rattle.fdp_layouts.proofs.Search.{goes_on}
 use Rattle.fdp_layouts.proofs.span.first_reserved.Goals as goal
 

@@ -1,4 +1,3 @@
-use Rattle.std.proofs.Common.{arith, rules, ap, sym, ◌∙◌}
 use Rattle.fdp_layouts.proofs.events.EventFrame64.encode.Goals as goal
 
 pub returns : goal.returns
