@@ -1,0 +1,6 @@
+pub mod Words
+pub mod Numbers
+pub mod Shapes
+pub mod Reading
+pub mod Commands
+pub mod Trace
