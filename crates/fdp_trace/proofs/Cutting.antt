@@ -1,10 +1,11 @@
 -- Cutting bytes at the first that passes a test.
 use Rattle.std.proofs.Common.{◌≡◌, ℕ, zero, suc, ◌+◌, ◌-◌, ◌<◌, ◌≤◌, Bool, true, false, not, cond, eqb, ◌==◌, List, [], ◌∷◌, ◌++◌, length, get_or, take, drop, filter, refl, sym, ap, subst, ◌∙◌, arith, inl, inr}
 use Rattle.std.specs.List.{slice_split, onto_first}
-use Rattle.std.proofs.lemmas.List.{length-drop, length-take, get_or-drop}
+use Rattle.std.proofs.lemmas.List.{nil_from_length, length-drop, length-take, get_or-drop}
 use Rattle.std.proofs.lemmas.Bool.Decides.{nat_tests}
-use Rattle.std.proofs.Math.Seq.{take-length}
-use Rattle.fdp_trace.specs.Words.{is_blank, words_of, IsFront}
+use Rattle.std.proofs.Math.Seq.{take-length, drop-cons}
+use Rattle.fdp_trace.specs.Words.{is_blank, words_of, IsFront, is_line_feed}
+use Rattle.std.specs.Str.Lines.{lines, lines_of_parts, strip_carriage_return}
 
 abbrev onto_front : List ℕ → List (List ℕ) → List (List ℕ)
 onto_front [] parts = parts
@@ -84,3 +85,42 @@ no_cut line xs n same front e begins =
 
 pub shorter : (xs : List ℕ) (m : ℕ) → 0 < length xs → length xs ≤ m → length (take (length xs - 1) (drop 1 xs)) ≤ m
 shorter xs m some le = omega (arith, length-drop 1 xs, ap length (rest_whole 1 xs))
+
+-- ---- lines
+
+-- what splits into a first part and others
+abbrev HasFirst : List (List ℕ) → Type 0
+HasFirst parts = (y : List ℕ) × (ys : List (List ℕ)) × (parts ≡ y ∷ ys)
+
+first_part : (b : Bool) (x : ℕ) (parts others : List (List ℕ)) → HasFirst (cond b ([] ∷ others) (onto_first x parts))
+first_part true x parts others = ([], others, refl)
+first_part false x [] others = (x ∷ [], [], refl)
+first_part false x (part ∷ parts) others = (x ∷ part, parts, refl)
+
+split_some : (test : ℕ → Bool) (xs : List ℕ) → HasFirst (slice_split test xs)
+split_some test [] = ([], [], refl)
+split_some test (x ∷ xs) = first_part (test x) x (slice_split test xs) (slice_split test xs)
+
+drop_whole : (xs : List ℕ) (n : ℕ) → n ≡ length xs → drop n xs ≡ []
+drop_whole xs n e = nil_from_length (drop n xs) (omega (arith, length-drop n xs))
+
+pub line_last : (xs : List ℕ) (n : ℕ) → 0 < length xs → IsFront is_line_feed xs n → n ≡ length xs → lines xs ≡ take n xs ∷ []
+line_last xs n some front e =
+    let cut = (split_cut is_line_feed xs n front).0 in
+    let whole : slice_split is_line_feed xs ≡ take n xs ∷ [] = cut ∙ ap (λ (ys : List ℕ). take n xs ∷ later is_line_feed ys) (drop_whole xs n e) in
+    let long : (length (take n xs) == 0) ≡ false = not_empty (take n xs) (omega (arith, length-take n xs)) in
+    ap lines_of_parts whole ∙ rw long refl
+
+parts_cut : (x : List ℕ) (parts : List (List ℕ)) → HasFirst parts → lines_of_parts (x ∷ parts) ≡ strip_carriage_return x ∷ lines_of_parts parts
+parts_cut x parts (y, ys, e) = rw e refl
+
+pub line_cut : (xs : List ℕ) (n : ℕ) → IsFront is_line_feed xs n → n < length xs → lines xs ≡ strip_carriage_return (take n xs) ∷ lines (take (length xs - (n + 1)) (drop (n + 1) xs))
+line_cut xs n front lt =
+    let cut = (split_cut is_line_feed xs n front).0 in
+    let rest = drop (n + 1) xs in
+    let one : suc n ≡ n + 1 = omega arith in
+    let next : drop n xs ≡ get_or xs n 0 ∷ rest = drop-cons xs n 0 lt ∙ ap (λ (k : ℕ). get_or xs n 0 ∷ drop k xs) one in
+    let whole : slice_split is_line_feed xs ≡ take n xs ∷ slice_split is_line_feed rest = cut ∙ ap (λ (ys : List ℕ). take n xs ∷ later is_line_feed ys) next in
+    let same : take (length xs - (n + 1)) rest ≡ rest = rest_whole (n + 1) xs in
+    ap lines_of_parts whole ∙ parts_cut (take n xs) (slice_split is_line_feed rest) (split_some is_line_feed rest)
+    ∙ ap (λ (ys : List ℕ). strip_carriage_return (take n xs) ∷ lines ys) (sym same)

@@ -60,20 +60,20 @@ zero_of texts = do
   count ← field_count slba.1
   Ok (commands.Zero nsid.0 slba.0 count.0)
 
-unfoldable pub range_of : List (List ℕ) → Result (Range × List (List ℕ)) FaultKind
-range_of texts = do
-  slba ← field_64 texts
-  length ← field_32 slba.1
-  Ok (record { slba = slba.0; length = length.0 }, length.1)
+unfoldable pub range_of : List ℕ → List ℕ → Result Range FaultKind
+range_of first second = do
+  slba ← within 0 18446744073709551615 first
+  length ← within 0 4294967295 second
+  Ok (record { slba = slba; length = length })
 
 -- all words as ranges, two words each
 unfoldable pub ranges_of : List (List ℕ) → Result (List Range) FaultKind
 ranges_of [] = Ok []
-ranges_of (slba ∷ []) = range_of (slba ∷ []) >>= λ range. Ok (range.0 ∷ [])
+ranges_of (slba ∷ []) = Err kinds.Count
 ranges_of (slba ∷ length ∷ texts) = do
-  range ← range_of (slba ∷ length ∷ [])
+  range ← range_of slba length
   others ← ranges_of texts
-  Ok (range.0 ∷ others)
+  Ok (range ∷ others)
 
 unfoldable pub dealloc_of : List (List ℕ) → Result Command FaultKind
 dealloc_of texts = do

@@ -14,3 +14,6 @@ pub record IsFront (test : ℕ → Bool) (bytes : List ℕ) (n : ℕ) : Type 0 w
   pub within : n ≤ length bytes
   pub before : (k : ℕ) → k < n → test (slice_index bytes k) ≡ false
   pub there : n < length bytes → test (slice_index bytes n) ≡ true
+
+abbrev pub is_line_feed : ℕ → Bool
+is_line_feed b = b == 10

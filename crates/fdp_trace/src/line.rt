@@ -1,6 +1,7 @@
 ghost use Rattle.std.specs.Prelude.{◌≡◌, ℕ};
+ghost use Rattle.std.specs.List.{list_all};
 ghost use Rattle.std.specs.Str.{is_utf8};
-ghost use Rattle.fdp_trace.specs.Words.{words_of};
+ghost use Rattle.fdp_trace.specs.Words.{is_blank, words_of};
 ghost use Rattle.fdp_trace.specs.Shapes.{words_fit, numbers_fit};
 ghost use Rattle.fdp_trace.specs.Reading.{Gives};
 ghost use Rattle.fdp_trace.specs.Commands.{checked, command_of};
@@ -38,13 +39,22 @@ pub fn read_line(alloc: Global, line: &[u8]) -> Result<Option<Command>, LineErro
 fn is_skipped(line: &[u8]) -> bool
     ensures { result ≡ is_skipped line.now }
 {
-    line.first() == Some(&b'#') || line.iter().all(|b| is_blank(*b))
+    (!line.is_empty() && line[0] == b'#') || are_blanks(line)
+}
+
+fn are_blanks(line: &[u8]) -> bool
+    ensures { result ≡ list_all is_blank line.now }
+{
+    line.iter().all(|b| is_blank(*b))
 }
 
 fn is_text(line: &[u8]) -> bool
     ensures { result ≡ is_utf8 line.now }
 {
-    str::from_utf8(line).is_ok()
+    match str::from_utf8(line) {
+        Ok(_) => true,
+        Err(_) => false,
+    }
 }
 
 #[tactic(auto, unfolding(crate::specs::Commands::command_of))]
@@ -76,6 +86,7 @@ fn checked(alloc: Global, word: CommandWord, line: &[u8]) -> Result<Command, Lin
     spelled(alloc, word, line)
 }
 
+#[tactic(auto, unfolding(crate::specs::Shapes::words_fit))]
 fn words_fit(word: CommandWord, line: &[u8]) -> bool
     ensures { result ≡ words_fit word 0 (words_of line.now) }
 {
@@ -91,6 +102,7 @@ fn words_fit(word: CommandWord, line: &[u8]) -> bool
     true
 }
 
+#[tactic(auto, unfolding(crate::specs::Shapes::numbers_fit))]
 fn numbers_fit(word: CommandWord, line: &[u8]) -> bool
     ensures { result ≡ numbers_fit word 0 (words_of line.now) }
 {

@@ -3,8 +3,7 @@ ghost use Rattle.fdp_trace.specs.Words.{words_of};
 ghost use Rattle.fdp_trace.specs.Reading.{Gives};
 ghost use Rattle.fdp_trace.specs.Commands.{numbers_of, ranges_of, range_of};
 
-use crate::commands::{field_32, field_64};
-use crate::fault::LineError;
+use crate::fault::{FaultKind, LineError};
 use crate::number::within;
 use crate::words::next_word;
 use fdp_base::{EventTypes, Pids, Range, Ranges, Sequence};
@@ -39,12 +38,13 @@ pub fn event_types(alloc: Global, line: &[u8]) -> Result<EventTypes, LineError>
 }
 
 #[tactic(auto, unfolding(crate::specs::Commands::range_of))]
-fn range(line: &[u8]) -> Result<(Range, &[u8]), LineError>
-    ensures { Gives (λ x. (x.0, words_of x.1.now)) result (range_of (words_of line.now)) }
+fn range(first: &[u8], second: &[u8]) -> Result<Range, LineError>
+    ensures { Gives (λ range. range) result (range_of first.now second.now) }
 {
-    let (slba, rest) = field_64(line)?;
-    let (length, rest) = field_32(rest)?;
-    Ok((Range { slba, length }, rest))
+    let slba = within(first, 0, u64::MAX)?;
+    let length = within(second, 0, 0xffff_ffff)?;
+    let length = length as u32;
+    Ok(Range { slba, length })
 }
 
 /// The words of a line as ranges, two words each.
@@ -53,9 +53,11 @@ pub fn ranges(alloc: Global, line: &[u8]) -> Result<Ranges, LineError>
 {
     let mut ranges = Vec::new(alloc);
     let mut rest = line;
-    while next_word(rest).is_some() {
-        let (range, after) = range(rest)?;
-        ranges.push(range)?;
+    while let Some((slba, behind)) = next_word(rest) {
+        let Some((length, after)) = next_word(behind) else {
+            return Err(LineError::Fault(FaultKind::Count));
+        };
+        ranges.push(range(slba, length)?)?;
         rest = after;
     }
     Ok(Sequence::from_vec(ranges))

@@ -1,6 +1,7 @@
 ghost use Rattle.std.specs.Prelude.{◌≡◌, ◌^◌, ◌≤◌, ℕ, min, length, IfOk};
+ghost use Rattle.std.specs.List.{list_all};
 ghost use Rattle.std.specs.Option.{option_map};
-ghost use Rattle.std.specs.Char.{digit_value};
+ghost use Rattle.std.specs.Char.{digit_value, is_ascii_digit, is_ascii_hexdigit};
 ghost use Rattle.fdp_trace.specs.Numbers.{is_decimal, is_hexadecimal, number_of, value_of};
 ghost use Rattle.fdp_trace.specs.Reading.{Gives, within};
 
@@ -40,17 +41,30 @@ pub fn number(word: &[u8]) -> Option<u128>
 fn is_decimal(word: &[u8]) -> bool
     ensures { result ≡ is_decimal word.now }
 {
-    !word.is_empty() && word.iter().all(|b| b.is_ascii_digit()) && (word.len() == 1 || word[0] != b'0')
+    !word.is_empty() && are_digits(word) && (word.len() == 1 || word[0] != b'0')
+}
+
+fn are_digits(digits: &[u8]) -> bool
+    ensures { result ≡ list_all is_ascii_digit digits.now }
+{
+    digits.iter().all(|b| b.is_ascii_digit())
 }
 
 fn is_hexadecimal(word: &[u8]) -> bool
-    ensures value { result ≡ is_hexadecimal word.now }
+    ensures { result ≡ is_hexadecimal word.now }
 {
-    word.len() > 2 && word[0] == b'0' && word[1] == b'x' && word[2..].iter().all(|b| b.is_ascii_hexdigit())
+    word.len() > 2 && word[0] == b'0' && word[1] == b'x' && are_hex_digits(&word[2..])
+}
+
+fn are_hex_digits(digits: &[u8]) -> bool
+    ensures { result ≡ list_all is_ascii_hexdigit digits.now }
+{
+    digits.iter().all(|b| b.is_ascii_hexdigit())
 }
 
 fn value(digits: &[u8], radix: u8) -> u128
-    requires { 1 ≤ radix }
+    requires low { 1 ≤ radix }
+    requires high { radix ≤ 36 }
     ensures { result ≡ min (2 ^ 64) (value_of radix digits.now) }
 {
     let mut total = 0;

@@ -1,5 +1,6 @@
 ghost use Rattle.std.specs.Prelude.{◌≡◌, ℕ, ◌<◌, ◌∷◌, length};
-ghost use Rattle.std.specs.Str.Lines.{lines};
+ghost use Rattle.std.specs.Str.Lines.{lines, strip_carriage_return};
+ghost use Rattle.fdp_trace.specs.Words.{IsFront, is_line_feed};
 ghost use Rattle.fdp_trace.specs.Trace.{trace_of, blocks_read, ReadsTrace};
 
 use crate::fault::{FaultKind, LineError, TraceFault};
@@ -44,13 +45,32 @@ fn next_line(text: &[u8]) -> (&[u8], &[u8])
     ensures lines { lines text.now ≡ result.0.now ∷ lines result.1.now }
     ensures shorter { length result.1.now < length text.now }
 {
-    match text.iter().position(|b| *b == b'\n') {
-        Some(end) => {
-            let line = &text[..end];
-            (line.strip_suffix(b"\r").unwrap_or(line), &text[end + 1..])
-        }
-        None => (text, &[]),
+    let end = line_len(text);
+    let line = &text[..end];
+    if end == text.len() {
+        return (line, &[]);
     }
+    (without_return(line), &text[end + 1..])
+}
+
+/// The bytes in front of the first line feed.
+fn line_len(text: &[u8]) -> usize
+    ensures { IsFront is_line_feed text.now result }
+{
+    for (i, b) in text.iter().enumerate() {
+        if *b == b'\n' {
+            return i;
+        }
+    }
+    text.len()
+}
+
+/// A line without the carriage return at its end.
+fn without_return(line: &[u8]) -> &[u8]
+    ensures { result.now ≡ strip_carriage_return line.now }
+{
+    let len = line.len();
+    if len > 0 && line[len - 1] == b'\r' { &line[..len - 1] } else { line }
 }
 
 fn blocks_read(command: &Command) -> u64
