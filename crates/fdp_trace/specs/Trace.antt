@@ -85,3 +85,9 @@ abbrev pub ReadsTrace : Result (List Command) (ℕ × FaultKind) → Result (Vec
 ReadsTrace trace (Ok commands) = trace ≡ Ok commands.items
 ReadsTrace trace (Err (faults.Line line kind)) = trace ≡ Err (line, kind)
 ReadsTrace trace (Err faults.NoMemory) = Unit {0}
+
+-- the command of a line, or its number and its fault, unless memory ran out
+abbrev pub ReadsLine : ℕ → Result (Option Command) FaultKind → Result (Option Command) TraceFault → Type 0
+ReadsLine number line (Ok command) = line ≡ Ok command
+ReadsLine number line (Err (faults.Line at kind)) = (at ≡ number) × (line ≡ Err kind)
+ReadsLine number line (Err faults.NoMemory) = Unit {0}

@@ -1,7 +1,7 @@
-ghost use Rattle.std.specs.Prelude.{◌≡◌, ℕ, ◌<◌, ◌∷◌, length};
+ghost use Rattle.std.specs.Prelude.{◌≡◌, ℕ, ◌<◌, ◌||◌, ◌∷◌, nat_lt, length};
 ghost use Rattle.std.specs.Str.Lines.{lines, strip_carriage_return};
 ghost use Rattle.fdp_trace.specs.Words.{IsFront, is_line_feed};
-ghost use Rattle.fdp_trace.specs.Trace.{trace_of, blocks_read, ReadsTrace};
+ghost use Rattle.fdp_trace.specs.Trace.{trace_of, line_of, blocks_read, ReadsLine, ReadsTrace};
 
 use crate::fault::{FaultKind, LineError, TraceFault};
 use crate::line::read_line;
@@ -23,20 +23,34 @@ pub fn read_trace(alloc: Global, text: &[u8]) -> Result<Vec<Command>, TraceFault
         let (line, after) = next_line(rest);
         rest = after;
         number += 1;
-        let command = match read_line(alloc, line) {
-            Ok(command) => command,
-            Err(LineError::Memory) => return Err(TraceFault::NoMemory),
-            Err(LineError::Fault(kind)) => return Err(TraceFault::Line { line: number, kind }),
+        let found = read_numbered(alloc, line, number)?;
+        let Some(command) = found else {
+            continue;
         };
-        if let Some(command) = command {
-            blocks += blocks_read(&command);
-            if commands.len() == MOST_COMMANDS || blocks > MOST_BLOCKS {
-                return Err(TraceFault::Line { line: number, kind: FaultKind::Long });
-            }
-            commands.push(command)?;
+        blocks += blocks_read(&command);
+        if is_too_much(commands.len() + 1, blocks) {
+            let kind = FaultKind::Long;
+            return Err(TraceFault::Line { line: number, kind });
         }
+        commands.push(command)?;
     }
     Ok(commands)
+}
+
+fn read_numbered(alloc: Global, line: &[u8], number: usize) -> Result<Option<Command>, TraceFault>
+    ensures { ReadsLine number (line_of line.now) result }
+{
+    match read_line(alloc, line) {
+        Ok(command) => Ok(command),
+        Err(LineError::Fault(kind)) => Err(TraceFault::Line { line: number, kind }),
+        Err(LineError::Memory) => Err(TraceFault::NoMemory),
+    }
+}
+
+fn is_too_much(commands: usize, blocks: u64) -> bool
+    ensures { result ≡ (nat_lt 8192 commands || nat_lt 8192 blocks) }
+{
+    commands > MOST_COMMANDS || blocks > MOST_BLOCKS
 }
 
 /// The first line of a text, without its end, and the text behind it.
