@@ -4,3 +4,4 @@ pub mod Shapes
 pub mod Reading
 pub mod Commands
 pub mod Trace
+pub mod Printing

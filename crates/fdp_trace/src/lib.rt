@@ -3,12 +3,16 @@
 
 mod command_word;
 mod commands;
+mod completion;
+mod data;
 mod fault;
+mod hex;
 mod line;
 mod lists;
 mod number;
 mod trace;
 mod words;
 
+pub use completion::print_completion;
 pub use fault::{FaultKind, TraceFault};
 pub use trace::read_trace;
