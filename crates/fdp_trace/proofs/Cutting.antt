@@ -42,8 +42,8 @@ pub split_cut : (test : ℕ → Bool) (xs : List ℕ) (n : ℕ) → IsFront test
     → (slice_split test xs ≡ take n xs ∷ later test (drop n xs)) × (slice_split test (drop n xs) ≡ [] ∷ later test (drop n xs))
 split_cut test xs n front =
     let rest = split_rest test (drop n xs) (λ some.
-        let lt : n < length xs = omega (arith, length-drop n xs) in
-        get-drop n xs test ∙ front.there lt) in
+    let lt : n < length xs = omega (arith, length-drop n xs) in
+    get-drop n xs test ∙ front.there lt) in
     (split_front test n xs front.within front.before ∙ ap (onto_front (take n xs)) rest ∙ onto_empty (take n xs) (later test (drop n xs)), rest)
 
 not_empty : (xs : List ℕ) → 0 < length xs → (length xs == 0) ≡ false

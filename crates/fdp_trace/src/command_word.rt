@@ -101,7 +101,8 @@ impl CommandWord {
         match self {
             CommandWord::Write => is_text(text, b"pid"),
             CommandWord::Log => is_text(text, b"host") || is_text(text, b"ctrl"),
-            CommandWord::SetFdp | CommandWord::SetEvents => is_text(text, b"on") || is_text(text, b"off"),
+            CommandWord::SetFdp | CommandWord::SetEvents => is_text(text, b"on")
+                || is_text(text, b"off"),
             CommandWord::Read
             | CommandWord::Zero
             | CommandWord::Dealloc

@@ -105,7 +105,14 @@ fn write(line: &[u8]) -> Result<Command, LineError>
     let (seed, rest) = field_32(rest)?;
     let (dtype, dspec) = directive(rest)?;
     let payload = Payload::Pattern(seed);
-    Ok(Command::Write { nsid, slba, count, dtype, dspec, payload })
+    Ok(Command::Write {
+        nsid,
+        slba,
+        count,
+        dtype,
+        dspec,
+        payload,
+    })
 }
 
 #[tactic(auto, unfolding(crate::specs::Commands::read_of))]
@@ -135,7 +142,11 @@ fn dealloc(alloc: Global, line: &[u8]) -> Result<Command, LineError>
     let (nsid, rest) = field_32(line)?;
     let ranges = ranges(alloc, rest)?;
     let deallocate = true;
-    Ok(Command::Dealloc { nsid, deallocate, ranges })
+    Ok(Command::Dealloc {
+        nsid,
+        deallocate,
+        ranges,
+    })
 }
 
 #[tactic(auto, unfolding(crate::specs::Commands::flush_of))]
@@ -160,7 +171,11 @@ fn status(line: &[u8]) -> Result<Command, LineError>
 {
     let (nsid, rest) = field_32(line)?;
     let (dwords, _) = field_count(rest)?;
-    Ok(Command::Status { nsid, mo: 1, dwords })
+    Ok(Command::Status {
+        nsid,
+        mo: 1,
+        dwords,
+    })
 }
 
 #[tactic(auto, unfolding(crate::specs::Commands::update_of))]
@@ -181,7 +196,13 @@ fn log(line: &[u8]) -> Result<Command, LineError>
     let (dwords, rest) = field_count(rest)?;
     let lsp = class(rest)?;
     let group = 1;
-    Ok(Command::Log { lid, lsp, group, offset, dwords })
+    Ok(Command::Log {
+        lid,
+        lsp,
+        group,
+        offset,
+        dwords,
+    })
 }
 
 #[tactic(auto, unfolding(crate::specs::Commands::set_fdp_of))]
@@ -190,7 +211,11 @@ fn set_fdp(line: &[u8]) -> Result<Command, LineError>
 {
     let (enable, rest) = is_on(line)?;
     let (index, _) = field_8(rest)?;
-    Ok(Command::SetFdp { group: 1, enable, index })
+    Ok(Command::SetFdp {
+        group: 1,
+        enable,
+        index,
+    })
 }
 
 #[tactic(auto, unfolding(crate::specs::Commands::set_events_of))]
@@ -201,7 +226,12 @@ fn set_events(alloc: Global, line: &[u8]) -> Result<Command, LineError>
     let (handle, rest) = field_16(rest)?;
     let (enable, rest) = is_on(rest)?;
     let types = event_types(alloc, rest)?;
-    Ok(Command::SetEvents { nsid, handle, enable, types })
+    Ok(Command::SetEvents {
+        nsid,
+        handle,
+        enable,
+        types,
+    })
 }
 
 #[tactic(auto, unfolding(crate::specs::Commands::create_of))]

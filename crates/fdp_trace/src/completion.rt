@@ -23,7 +23,12 @@ pub fn print_completion(
     into.extend_from_slice(&lines)
 }
 
-fn completion(alloc: Global, number: u16, command: &Command, reply: &Reply) -> Result<Vec<u8>, AllocError>
+fn completion(
+    alloc: Global,
+    number: u16,
+    command: &Command,
+    reply: &Reply,
+) -> Result<Vec<u8>, AllocError>
     ensures { IfOk result (λ text. text.items ≡ completion number command.now reply.now) }
 {
     let mut text = Vec::new(alloc);
@@ -32,7 +37,13 @@ fn completion(alloc: Global, number: u16, command: &Command, reply: &Reply) -> R
     Ok(text)
 }
 
-fn push_head(alloc: Global, text: &mut Vec<u8>, number: u16, command: &Command, reply: &Reply) -> Result<(), AllocError>
+fn push_head(
+    alloc: Global,
+    text: &mut Vec<u8>,
+    number: u16,
+    command: &Command,
+    reply: &Reply,
+) -> Result<(), AllocError>
     ensures { OnOk result (text.new.items ≡ text.old.items
         ++ line (decimal number ∷ word_of command.now ∷ status_text reply.now.status ∷ hex 8 reply.now.dw0 ∷ [])) }
 {

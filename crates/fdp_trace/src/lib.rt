@@ -16,3 +16,6 @@ mod words;
 pub use completion::print_completion;
 pub use fault::{FaultKind, TraceFault};
 pub use trace::read_trace;
+
+#[cfg(test)]
+mod tests;

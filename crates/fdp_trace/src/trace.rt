@@ -9,6 +9,7 @@ use fdp_base::Command;
 use std::alloc::Global;
 
 const MOST_COMMANDS: usize = 8192;
+
 const MOST_BLOCKS: u64 = 8192;
 
 /// The commands of a trace, in time that grows with the text.
@@ -84,7 +85,11 @@ fn without_return(line: &[u8]) -> &[u8]
     ensures { result.now ≡ strip_carriage_return line.now }
 {
     let len = line.len();
-    if len > 0 && line[len - 1] == b'\r' { &line[..len - 1] } else { line }
+    if len > 0 && line[len - 1] == b'\r' {
+        &line[..len - 1]
+    } else {
+        line
+    }
 }
 
 fn blocks_read(command: &Command) -> u64

@@ -18,9 +18,12 @@ returns-in_err-found c =
 
 pub loop-rest-preserved-in_default : goal.loop-rest-preserved-in_default
 loop-rest-preserved-in_default c =
-    let t : Tally = record { lines = c.loop-rest.number; commands = vec_len c.loop-rest.commands; blocks = c.loop-rest.blocks } in
-    (no_command c.loop-rest.commands.items t (lines c.loop-rest.rest.now) c.next_line.result.0.now (lines c.next_line.result.1.now) _ c.next_line.ensures.lines (c.in_ok-found.ensures ∙ ap Ok c.in_default.is) c.loop-rest.invariant.0,
-        omega (arith, c.next_line.ensures.shorter, c.loop-rest.invariant.1), c.loop-rest.invariant.2, c.loop-rest.invariant.3)
+    let t : Tally = record { lines = c.loop-rest.number; commands = vec_len c.loop-rest.commands; blocks = c.loop-rest.blocks } in (
+      no_command c.loop-rest.commands.items t (lines c.loop-rest.rest.now) c.next_line.result.0.now (lines c.next_line.result.1.now) _ c.next_line.ensures.lines (c.in_ok-found.ensures ∙ ap Ok c.in_default.is) c.loop-rest.invariant.0,
+      omega (arith, c.next_line.ensures.shorter, c.loop-rest.invariant.1),
+      c.loop-rest.invariant.2,
+      c.loop-rest.invariant.3,
+    )
 
 pub returns-then-is_too_much : goal.returns-then-is_too_much
 returns-then-is_too_much c =
@@ -33,6 +36,9 @@ loop-rest-preserved c =
     let t : Tally = record { lines = c.loop-rest.number; commands = vec_len c.loop-rest.commands; blocks = c.loop-rest.blocks } in
     let less : is_too_much (command_more t c.in-Some.command) ≡ false = same_limits c.is_too_much.result false c.len.result (vec_len c.loop-rest.commands) c.loop-rest.blocks c.blocks_read-blocks.result (blocks_read c.in-Some.command) c.is_too_much.ensures c.len.ensures c.blocks_read-blocks.ensures c.if-is_too_much.false in
     let bounds = within_limits (vec_len c.loop-rest.commands + 1) (c.loop-rest.blocks + blocks_read c.in-Some.command) less in
-    rw (c.in_ok-push.ensures.items, c.in_ok-push.ensures.len, c.blocks_read-blocks.ensures)
-    (one_command c.loop-rest.commands.items t (lines c.loop-rest.rest.now) c.next_line.result.0.now (lines c.next_line.result.1.now) _ c.in-Some.command c.next_line.ensures.lines (c.in_ok-found.ensures ∙ ap Ok c.in-Some.is) less c.loop-rest.invariant.0,
-        omega (arith, c.next_line.ensures.shorter, c.loop-rest.invariant.1), bounds.0, bounds.1)
+    rw (c.in_ok-push.ensures.items, c.in_ok-push.ensures.len, c.blocks_read-blocks.ensures) (
+      one_command c.loop-rest.commands.items t (lines c.loop-rest.rest.now) c.next_line.result.0.now (lines c.next_line.result.1.now) _ c.in-Some.command c.next_line.ensures.lines (c.in_ok-found.ensures ∙ ap Ok c.in-Some.is) less c.loop-rest.invariant.0,
+      omega (arith, c.next_line.ensures.shorter, c.loop-rest.invariant.1),
+      bounds.0,
+      bounds.1,
+    )
