@@ -58,7 +58,7 @@ words_cut xs n front some =
     rw (e.0, e.1, long) refl
 
 -- a blank in front changes no word
-words_skip : (b : ℕ) (bs : List ℕ) → is_blank b ≡ true → words_of (b ∷ bs) ≡ words_of bs
+pub words_skip : (b : ℕ) (bs : List ℕ) → is_blank b ≡ true → words_of (b ∷ bs) ≡ words_of bs
 unfolding words_of
 words_skip b bs e = rw e refl
 

@@ -5,3 +5,4 @@ pub mod Reading
 pub mod Commands
 pub mod Trace
 pub mod Printing
+pub mod CommandText

@@ -1,6 +1,7 @@
 //! The texts of the drive: traces that are read, completions that are printed.
 #![tactic(auto)]
 
+mod command_text;
 mod command_word;
 mod commands;
 mod completion;
@@ -13,6 +14,7 @@ mod number;
 mod trace;
 mod words;
 
+pub use command_text::{print_command, printed_is_read};
 pub use completion::print_completion;
 pub use fault::{FaultKind, TraceFault};
 pub use trace::read_trace;

@@ -282,3 +282,30 @@ fn completions(rt: HostRuntime) -> Result<(), Fail> {
     assert!(rt; text.as_slice() == wanted.as_slice());
     Ok(())
 }
+
+#[test]
+fn lines(rt: HostRuntime) -> Result<(), Fail> {
+    let alloc = rt.alloc();
+    let text =
+        b"write 1 16 1 7\nwrite 0 0 65536 4294967295 pid 255\nread 1 2 3\nzero 1 2 3\ndealloc 1 2 3 4 0\n\
+        flush 1\ndelete 1\nstatus 1 65536\nupdate 1 2 3\nlog 34 0 16\nlog 35 4 1 host\nset-fdp on 0\nset-fdp off 255\n\
+        get-fdp\nset-events 1 2 on 128\nset-events 1 2 off 0 129\ncreate 96\ncreate 96 0 15\n";
+    let mut printed = Vec::new(alloc);
+    for command in &read_trace(alloc, text).ok().ok_or("a trace")? {
+        print_command(command, &mut printed)?;
+        printed.push(b'\n')?;
+    }
+    assert!(rt; printed.as_slice() == text.as_slice());
+    printed_is_read();
+    let mut other = Vec::new(alloc);
+    let admin = true;
+    let command = Command::Other {
+        admin,
+        opcode: 2,
+        flags: 0,
+        feature: 29,
+    };
+    print_command(&command, &mut other)?;
+    assert!(rt; other.as_slice() == b"entry 2 0 29".as_slice());
+    Ok(())
+}
