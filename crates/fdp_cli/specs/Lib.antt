@@ -1,3 +1,2 @@
 pub mod Serving
-pub mod Printable
 pub mod Printing

@@ -1,11 +1,10 @@
-ghost use Rattle.std.specs.Prelude.{◌≡◌, ◌≤◌, ◌^◌, ◌*◌, ◌++◌, ◌∷◌, [], All, MatchResult, OnOk, codes, decimal};
+ghost use Rattle.std.specs.Prelude.{◌≡◌, ◌≤◌, ◌^◌, ◌*◌, ◌++◌, ◌∷◌, [], MatchResult, OnOk, codes, decimal};
 ghost use Rattle.fdp_base.specs.Output.{completion_of, stats_line};
 ghost use Rattle.fdp_base.specs.FixedDrive.{output_of};
 ghost use Rattle.fdp_base.specs.Totals.{host_blocks, media_blocks};
 ghost use Rattle.fdp_cli.specs.Printing.{HoldsFirst, Prints};
 ghost use Rattle.fdp_io.specs.Sink.{HoldsFront};
 ghost use Rattle.fdp_base.specs.Text.{line};
-ghost use Rattle.fdp_cli.specs.Printable.{AnswersPrintable};
 
 use crate::sums::{host_blocks, media_blocks};
 use fdp_base::Entry;
@@ -26,7 +25,6 @@ pub enum Cut {
 
 /// Prints the completions of queue 1 and the statistics of a record, in pieces.
 pub fn print_output<K: Sink>(alloc: Global, entries: &[Entry], sink: &mut K) -> Result<(), Cut>
-    requires printable { All AnswersPrintable entries.now }
     requires host { host_blocks entries.now ≤ 2 ^ 40 }
     requires media { media_blocks entries.now ≤ 2 ^ 40 }
     ensures told { (K.state sink.new).told ≡ (K.state sink.old).told }
@@ -84,7 +82,6 @@ fn push_queue(queue: u16, into: &mut Vec<u8>) -> Result<(), AllocError>
 
 /// Appends the lines of an entry: those of its completion, where it is one of queue 1.
 fn push_entry(entry: &Entry, into: &mut Vec<u8>) -> Result<(), AllocError>
-    requires { AnswersPrintable entry.now }
     ensures { OnOk result (into.new.items ≡ into.old.items ++ completion_of 1 entry.now) }
 {
     match entry {

@@ -1,5 +1,6 @@
-pub mod Repeated
-pub mod Hex
-pub mod Head
-pub mod Pieces
-pub mod Pushed
+pub mod Cutting
+pub mod Fronts
+pub mod Steps
+pub mod Printed
+pub mod Spelling
+pub mod ReadBack

@@ -1,9 +1,25 @@
-//! Traces and completions as text.
+//! The texts of the drive: traces that are read, completions that are printed.
 #![tactic(auto)]
 
+mod command_text;
+mod command_word;
+mod commands;
 mod completion;
-mod lines;
-mod push;
+mod data;
+mod decimal;
+mod fault;
+mod hex;
+mod line;
+mod lists;
+mod number;
+mod trace;
+mod words;
 
+pub use command_text::{print_command, printed_is_read};
 pub use completion::print_completion;
-pub use push::push_decimal;
+pub use decimal::push_decimal;
+pub use fault::{FaultKind, TraceFault};
+pub use trace::read_trace;
+
+#[cfg(test)]
+mod tests;

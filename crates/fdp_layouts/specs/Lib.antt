@@ -1,0 +1,9 @@
+pub mod Frame
+pub mod Submission
+pub mod Completion
+pub mod Configurations
+pub mod Usage
+pub mod Statistics
+pub mod Events
+pub mod HandleStatus
+pub mod Range

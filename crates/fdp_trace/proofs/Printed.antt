@@ -1,0 +1,149 @@
+-- The printed text, one part after the other.
+use Rattle.std.proofs.Common.{◌≡◌, ℕ, zero, suc, ◌+◌, ◌-◌, ◌*◌, ◌/◌, ◌%◌, ◌<◌, ◌≤◌, Bool, true, false, List, [], ◌∷◌, ◌++◌, length, take, drop, refl, sym, ap, subst, ◌∙◌, append_assoc, arith, ◌==◌, inl, inr, min}
+use Rattle.std.specs.List.{flat_map}
+use Rattle.std.specs.Prelude.{bytes_eq}
+use Rattle.std.proofs.lemmas.List.{take_all, nil_from_length, append-nil, length-append, length-take, length-drop, take-append-drop}
+use Rattle.std.proofs.Math.Seq.{take-length, take-append_seam, drop-append_seam}
+use Rattle.std.proofs.lemmas.Bool.{cases_Bool, cases_lt, eqb-true}
+use Rattle.std.proofs.lemmas.Bool.Decides.{nat_tests}
+use Rattle.std.proofs.lemmas.Slice.Eq.{bytes_eq-Decides}
+use Rattle.fdp_base.specs.Text.{digit, hex, line}
+use Rattle.fdp_base.specs.Pattern.{repeated}
+use Rattle.fdp_base.specs.Output.{pieces_of}
+
+pub hex_more : (digits n : ℕ) → (digits ≡ 0 → ⊥) → hex digits n ≡ hex (digits - 1) (n / 16) ++ digit (n % 16) ∷ []
+unfolding hex
+hex_more zero n some = absurd (some refl)
+hex_more (suc k) n some =
+    let e : suc k - 1 ≡ k = omega arith in
+    ap (λ (d : ℕ). hex d (n / 16) ++ digit (n % 16) ∷ []) (sym e)
+
+pub hex_push : (text old : List ℕ) (digits n : ℕ) → (digits ≡ 0 → ⊥) → text ≡ old ++ hex (digits - 1) (n / 16) → text ++ digit (n % 16) ∷ [] ≡ old ++ hex digits n
+hex_push text old digits n some e =
+    ap (λ (t : List ℕ). t ++ digit (n % 16) ∷ []) e ∙ append_assoc old (hex (digits - 1) (n / 16)) (digit (n % 16) ∷ [])
+    ∙ ap (λ (t : List ℕ). old ++ t) (sym (hex_more digits n some))
+
+-- ---- pieces
+
+-- what is printed of the pieces that are left goes behind the text so far
+pub one_piece : (show : List ℕ → List ℕ) (n m size : ℕ) (rest text all : List ℕ) → n ≡ suc m → 0 < length rest
+    → text ++ flat_map show (pieces_of n size rest) ≡ all → (text ++ show (take size rest)) ++ flat_map show (pieces_of m size (drop size rest)) ≡ all
+unfolding pieces_of
+one_piece show n m size [] text all one more so_far = absurd (omega arith)
+one_piece show n m size (b ∷ bs) text all one more so_far =
+    append_assoc text (show (take size (b ∷ bs))) (flat_map show (pieces_of m size (drop size (b ∷ bs))))
+    ∙ ap (λ (k : ℕ). text ++ flat_map show (pieces_of k size (b ∷ bs))) (sym one)
+    ∙ so_far
+
+pub some_left : (xs : List ℕ) → (length xs == 0) ≡ false → 0 < length xs
+some_left xs e = grind (arith, nat_tests)
+
+pub none_left : (xs : List ℕ) → (length xs == 0) ≡ true → length xs ≡ 0
+none_left xs e = eqb-true (length xs) 0 e
+
+pub take_min : (xs : List ℕ) (n : ℕ) → take (min (length xs) n) xs ≡ take n xs
+take_min xs n = elim (cases_lt n (length xs)) [
+  | inl lt ↦ let k : min (length xs) n ≡ n = omega arith in ap (λ (k : ℕ). take k xs) k
+  | inr le ↦ let k : min (length xs) n ≡ length xs = omega arith in ap (λ (k : ℕ). take k xs) k ∙ take-length xs ∙ sym (take_all n xs le)
+]
+
+pub drop_min : (xs : List ℕ) (n : ℕ) → drop (min (length xs) n) xs ≡ drop n xs
+drop_min xs n = elim (cases_lt n (length xs)) [
+  | inl lt ↦ let k : min (length xs) n ≡ n = omega arith in ap (λ (k : ℕ). drop k xs) k
+  | inr le ↦ nil_from_length (drop (min (length xs) n) xs) (omega (arith, length-drop (min (length xs) n) xs)) ∙ sym (nil_from_length (drop n xs) (omega (arith, length-drop n xs)))
+]
+
+pub no_piece : (show : List ℕ → List ℕ) (n size : ℕ) (rest text all : List ℕ) → length rest ≡ 0
+    → text ++ flat_map show (pieces_of n size rest) ≡ all → text ≡ all
+unfolding pieces_of
+no_piece show zero size [] text all none so_far = sym (append-nil text) ∙ so_far
+no_piece show (suc n) size [] text all none so_far = sym (append-nil text) ∙ so_far
+no_piece show n size (b ∷ bs) text all none so_far = absurd (omega arith)
+
+pub no_more : (show : List ℕ → List ℕ) (n size : ℕ) (rest text all : List ℕ) → n ≡ 0
+    → text ++ flat_map show (pieces_of n size rest) ≡ all → text ≡ all
+unfolding pieces_of
+no_more show zero size rest text all none so_far = sym (append-nil text) ∙ so_far
+no_more show (suc n) size rest text all none so_far = absurd (omega arith)
+
+-- a block less is left
+pub room : (count i size len less : ℕ) → i < count → (count - i) * size ≤ len → less + size ≡ len → (count - (i + 1)) * size ≤ less
+room count i size len less lt fits e =
+    let k = count - (i + 1) in
+    let one : count - i ≡ suc k = omega arith in
+    let more : (count - i) * size ≡ k * size + size = ap (λ (n : ℕ). n * size) one ∙ omega arith in
+    omega (arith, more)
+
+pub no_pieces : (show : List ℕ → List ℕ) (n size : ℕ) (bytes text : List ℕ) → n ≡ 0 → text ≡ text ++ flat_map show (pieces_of n size bytes)
+unfolding pieces_of
+no_pieces show zero size bytes text none = sym (append-nil text)
+no_pieces show (suc n) size bytes text none = absurd (omega arith)
+
+-- ---- a word over and over
+
+no_both : (b : Bool) → b ≡ true → b ≡ false → ⊥
+no_both b yes' no' = cc
+
+bytes_differ : (a b : List ℕ) → (a ≡ b → ⊥) → bytes_eq a b ≡ false
+bytes_differ a b not = elim (cases_Bool (bytes_eq a b)) [
+  | inl here ↦ absurd (not ((bytes_eq-Decides a b).0 here))
+  | inr there ↦ there
+]
+
+empty_eq : (xs : List ℕ) → (length xs == 0) ≡ bytes_eq xs []
+empty_eq [] = refl
+empty_eq (x ∷ xs) = let e : (suc (length xs) == 0) ≡ false = grind (arith, nat_tests) in e
+
+bytes_same : (a b c d : List ℕ) → (a ≡ b → c ≡ d) → (c ≡ d → a ≡ b) → bytes_eq a b ≡ bytes_eq c d
+bytes_same a b c d there back =
+    elim (cases_Bool (bytes_eq a b)) [
+      | inl here ↦ here ∙ sym ((bytes_eq-Decides c d).1 (there ((bytes_eq-Decides a b).0 here)))
+      | inr not ↦ not ∙ sym (bytes_differ c d (λ e. no_both (bytes_eq a b) ((bytes_eq-Decides a b).1 (back e)) not))
+    ]
+
+same_append : (a b c d : List ℕ) → length b ≡ length d → a ++ b ≡ c ++ d → (a ≡ c) × (b ≡ d)
+same_append a b c d len e =
+    let whole = ap length e in
+    let front : length a ≡ length c = omega (arith, whole, length-append a b, length-append c d) in
+    let firsts : take (length a) (a ++ b) ≡ take (length c) (c ++ d) = rw (e, front) refl in
+    let lasts : drop (length a) (a ++ b) ≡ drop (length c) (c ++ d) = rw (e, front) refl in
+    (sym (take-append_seam a b) ∙ firsts ∙ take-append_seam c d, sym (drop-append_seam a b) ∙ lasts ∙ drop-append_seam c d)
+
+cut_word : (rest w front last : List ℕ) → 4 ≤ length rest → front ≡ take (length rest - 4) rest → last ≡ drop (length rest - 4) rest
+    → (rest ≡ front ++ last) × (length front ≡ length rest - 4) × (length last ≡ 4) × (repeated (length rest / 4) w ≡ repeated (length front / 4) w ++ w)
+unfolding repeated
+cut_word rest w front last long is-front is-last =
+    let len : length front ≡ length rest - 4 = ap length is-front ∙ omega (arith, length-take (length rest - 4) rest) in
+    let four : length last ≡ 4 = ap length is-last ∙ omega (arith, length-drop (length rest - 4) rest) in
+    let count : length rest / 4 ≡ suc (length front / 4) = omega arith in
+    (rw (is-front, is-last) (sym (take-append-drop (length rest - 4) rest)), len, four, ap (λ (n : ℕ). repeated n w) count)
+
+pub word_more : (rest w front last : List ℕ) → 4 ≤ length rest → front ≡ take (length rest - 4) rest → last ≡ drop (length rest - 4) rest → bytes_eq last w ≡ true
+    → bytes_eq front (repeated (length front / 4) w) ≡ bytes_eq rest (repeated (length rest / 4) w)
+word_more rest w front last long is-front is-last same =
+    let is : last ≡ w = (bytes_eq-Decides last w).0 same in
+    let c = cut_word rest w front last long is-front is-last in
+    bytes_same front (repeated (length front / 4) w) rest (repeated (length rest / 4) w)
+    (λ e. c.0 ∙ ap (λ (x : List ℕ). x ++ last) e ∙ ap (λ (x : List ℕ). repeated (length front / 4) w ++ x) is ∙ sym c.3)
+    (λ e. (same_append front last (repeated (length front / 4) w) w (ap length is) (sym c.0 ∙ e ∙ c.3)).0)
+
+pub word_differs : (rest w front last : List ℕ) (r : Bool) → length w ≡ 4 → 4 ≤ length rest → front ≡ take (length rest - 4) rest → last ≡ drop (length rest - 4) rest → bytes_eq last w ≡ false
+    → bytes_eq rest (repeated (length rest / 4) w) ≡ r → false ≡ r
+word_differs rest w front last r four long is-front is-last other so_far =
+    let differs : last ≡ w → ⊥ = λ e. no_both (bytes_eq last w) ((bytes_eq-Decides last w).1 e) other in
+    let c = cut_word rest w front last long is-front is-last in
+    let not : rest ≡ repeated (length rest / 4) w → ⊥ = λ e. differs (same_append front last (repeated (length front / 4) w) w (c.2 ∙ sym four) (sym c.0 ∙ e ∙ c.3)).1 in
+    sym (bytes_differ rest (repeated (length rest / 4) w) not) ∙ so_far
+
+pub word_ends : (rest w : List ℕ) (empty r : Bool) → length rest < 4 → empty ≡ (length rest == 0) → bytes_eq rest (repeated (length rest / 4) w) ≡ r → empty ≡ r
+unfolding repeated
+word_ends rest w empty r short is so_far =
+    let none : length rest / 4 ≡ 0 = omega arith in
+    is ∙ empty_eq rest ∙ sym (ap (λ (n : ℕ). bytes_eq rest (repeated n w)) none) ∙ so_far
+
+-- ---- a line of four words
+
+pub line_of_four : (old a b c d t1 t2 t3 t4 t5 t6 t7 t8 : List ℕ) → t1 ≡ old ++ a → t2 ≡ t1 ++ 32 ∷ [] → t3 ≡ t2 ++ b → t4 ≡ t3 ++ 32 ∷ [] → t5 ≡ t4 ++ c → t6 ≡ t5 ++ 32 ∷ []
+    → t7 ≡ t6 ++ d → t8 ≡ t7 ++ 10 ∷ [] → t8 ≡ old ++ line (a ∷ b ∷ c ∷ d ∷ [])
+line_of_four old a b c d t1 t2 t3 t4 t5 t6 t7 t8 e1 e2 e3 e4 e5 e6 e7 e8 =
+    rw (e8, e7, e6, e5, e4, e3, e2, e1) (simp append_assoc)

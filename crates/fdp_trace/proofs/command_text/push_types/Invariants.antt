@@ -1,0 +1,7 @@
+use Rattle.std.proofs.Common.{◌≡◌, ◌++◌, take}
+use Rattle.std.specs.Prelude.{map, decimal}
+use Rattle.fdp_trace.specs.CommandText.{spaced_behind}
+use Rattle.fdp_trace.proofs.command_text.push_types.Given as goal
+
+abbrev pub invariant-loop-number : goal.invariant-loop-number
+invariant-loop-number l = l.text.items ≡ l.fn.text.items ++ spaced_behind (map decimal (take l.number-index l.numbers))

@@ -1,0 +1,11 @@
+use Rattle.std.proofs.Common.{◌≡◌, length}
+use Rattle.fdp_trace.specs.Words.{words_of}
+use Rattle.fdp_trace.specs.Commands.{ranges_of}
+use Rattle.fdp_trace.proofs.Fronts.{with_front}
+use Rattle.fdp_trace.proofs.lists.ranges.Given as goal
+
+abbrev pub invariant-loop-slba : goal.invariant-loop-slba
+invariant-loop-slba l = with_front l.ranges.items (ranges_of (words_of l.rest)) ≡ ranges_of (words_of l.line)
+
+abbrev pub decreases-loop-slba : goal.decreases-loop-slba
+decreases-loop-slba l = length l.rest

@@ -1,0 +1,214 @@
+//! Commands in the form of a trace.
+
+ghost use Rattle.std.specs.Prelude.{◌≡◌, ◌≤◌, ◌++◌, ◌∷◌, Ok, Some, length, IfOk, OnOk, OnErr, map, flat_map, decimal, []};
+ghost use Rattle.fdp_trace.specs.CommandText.{payload_word, directive_words, range_words, on_word, class_words, argument_words, command_text, spaced_behind, IsSpelled};
+ghost use Rattle.fdp_trace.specs.Trace.{line_of};
+ghost use Rattle.fdp_base.specs.declared.command.Command.{Command};
+
+use fdp_base::{Command, Payload, Range};
+use std::alloc::{AllocError, Global};
+
+/// Adds a command as the line of a trace that spells it, without the line's end. One that no trace spells, of bytes
+/// or that the drive does not serve, has a text of its own. An `Err` leaves the text as it was.
+pub fn print_command(command: &Command, into: &mut Vec<u8>) -> Result<(), AllocError>
+    ensures ok { OnOk result (into.new.items ≡ into.old.items ++ command_text command.now) }
+    ensures err { OnErr result (into.new.items ≡ into.old.items) }
+{
+    let alloc = *into.allocator();
+    let text = text_of(alloc, command)?;
+    into.extend_from_slice(&text)
+}
+
+fn text_of(alloc: Global, command: &Command) -> Result<Vec<u8>, AllocError>
+    ensures { IfOk result (λ text. text.items ≡ command_text command.now) }
+{
+    let mut text = Vec::new(alloc);
+    text.extend_from_slice(command.word().as_bytes())?;
+    push_arguments(alloc, &mut text, command)?;
+    Ok(text)
+}
+
+fn push_arguments(alloc: Global, text: &mut Vec<u8>, command: &Command) -> Result<(), AllocError>
+    ensures { OnOk result (text.new.items ≡ text.old.items ++ spaced_behind (argument_words command.now)) }
+{
+    match command {
+        Command::Write {
+            nsid,
+            slba,
+            count,
+            dtype,
+            dspec,
+            payload,
+        } => {
+            push_blocks(alloc, text, *nsid, *slba, *count)?;
+            push_payload(alloc, text, payload)?;
+            push_directive(alloc, text, *dtype, *dspec)
+        }
+        Command::Read { nsid, slba, count } => push_blocks(alloc, text, *nsid, *slba, *count),
+        Command::Zero { nsid, slba, count } => push_blocks(alloc, text, *nsid, *slba, *count),
+        Command::Dealloc { nsid, ranges, .. } => {
+            push_number(alloc, text, u64::from(*nsid))?;
+            push_ranges(alloc, text, ranges.as_slice())
+        }
+        Command::Flush { nsid } => push_number(alloc, text, u64::from(*nsid)),
+        Command::Delete { nsid } => push_number(alloc, text, u64::from(*nsid)),
+        Command::Status { nsid, dwords, .. } => {
+            push_number(alloc, text, u64::from(*nsid))?;
+            push_number(alloc, text, u64::from(*dwords))
+        }
+        Command::Update { nsid, pids, .. } => {
+            push_number(alloc, text, u64::from(*nsid))?;
+            push_identifiers(alloc, text, pids.as_slice())
+        }
+        Command::Log {
+            lid,
+            lsp,
+            offset,
+            dwords,
+            ..
+        } => {
+            push_number(alloc, text, u64::from(*lid))?;
+            push_number(alloc, text, *offset)?;
+            push_number(alloc, text, u64::from(*dwords))?;
+            push_class(text, *lsp)
+        }
+        Command::SetFdp { enable, index, .. } => {
+            push_on(text, *enable)?;
+            push_number(alloc, text, u64::from(*index))
+        }
+        Command::GetFdp { .. } => Ok(()),
+        Command::SetEvents {
+            nsid,
+            handle,
+            enable,
+            types,
+        } => {
+            push_number(alloc, text, u64::from(*nsid))?;
+            push_number(alloc, text, u64::from(*handle))?;
+            push_on(text, *enable)?;
+            push_types(alloc, text, types.as_slice())
+        }
+        Command::Create { size, list, .. } => {
+            push_number(alloc, text, *size)?;
+            push_identifiers(alloc, text, list.as_slice())
+        }
+        Command::Other {
+            opcode,
+            flags,
+            feature,
+            ..
+        } => {
+            push_number(alloc, text, u64::from(*opcode))?;
+            push_number(alloc, text, u64::from(*flags))?;
+            push_number(alloc, text, u64::from(*feature))
+        }
+    }
+}
+
+fn push_blocks(
+    alloc: Global,
+    text: &mut Vec<u8>,
+    nsid: u32,
+    slba: u64,
+    count: u32,
+) -> Result<(), AllocError>
+    ensures { OnOk result (text.new.items ≡ text.old.items ++ spaced_behind (decimal nsid ∷ decimal slba ∷ decimal count ∷ [])) }
+{
+    push_number(alloc, text, u64::from(nsid))?;
+    push_number(alloc, text, slba)?;
+    push_number(alloc, text, u64::from(count))
+}
+
+fn push_payload(alloc: Global, text: &mut Vec<u8>, payload: &Payload) -> Result<(), AllocError>
+    ensures { OnOk result (text.new.items ≡ text.old.items ++ 32 ∷ payload_word payload.now) }
+{
+    match payload {
+        Payload::Pattern(seed) => push_number(alloc, text, u64::from(*seed)),
+        Payload::Bytes(_) => push_word(text, b"bytes"),
+    }
+}
+
+fn push_directive(
+    alloc: Global,
+    text: &mut Vec<u8>,
+    dtype: u8,
+    dspec: u16,
+) -> Result<(), AllocError>
+    ensures { OnOk result (text.new.items ≡ text.old.items ++ spaced_behind (directive_words dtype dspec)) }
+{
+    if dtype == 0 {
+        return Ok(());
+    }
+    push_word(text, b"pid")?;
+    push_number(alloc, text, u64::from(dspec))
+}
+
+fn push_class(text: &mut Vec<u8>, lsp: u8) -> Result<(), AllocError>
+    ensures { OnOk result (text.new.items ≡ text.old.items ++ spaced_behind (class_words lsp)) }
+{
+    if lsp == 0 {
+        Ok(())
+    } else {
+        push_word(text, b"host")
+    }
+}
+
+fn push_on(text: &mut Vec<u8>, enable: bool) -> Result<(), AllocError>
+    ensures { OnOk result (text.new.items ≡ text.old.items ++ 32 ∷ on_word enable) }
+{
+    if enable {
+        push_word(text, b"on")
+    } else {
+        push_word(text, b"off")
+    }
+}
+
+fn push_ranges(alloc: Global, text: &mut Vec<u8>, ranges: &[Range]) -> Result<(), AllocError>
+    ensures { OnOk result (text.new.items ≡ text.old.items ++ spaced_behind (flat_map range_words ranges.now)) }
+{
+    for range in ranges {
+        push_number(alloc, text, range.slba)?;
+        push_number(alloc, text, u64::from(range.length))?;
+    }
+    Ok(())
+}
+
+fn push_identifiers(alloc: Global, text: &mut Vec<u8>, numbers: &[u16]) -> Result<(), AllocError>
+    ensures { OnOk result (text.new.items ≡ text.old.items ++ spaced_behind (map decimal numbers.now)) }
+{
+    for number in numbers {
+        push_number(alloc, text, u64::from(*number))?;
+    }
+    Ok(())
+}
+
+fn push_types(alloc: Global, text: &mut Vec<u8>, numbers: &[u8]) -> Result<(), AllocError>
+    ensures { OnOk result (text.new.items ≡ text.old.items ++ spaced_behind (map decimal numbers.now)) }
+{
+    for number in numbers {
+        push_number(alloc, text, u64::from(*number))?;
+    }
+    Ok(())
+}
+
+/// Adds a space and a number.
+fn push_number(alloc: Global, text: &mut Vec<u8>, number: u64) -> Result<(), AllocError>
+    ensures { OnOk result (text.new.items ≡ text.old.items ++ 32 ∷ decimal number) }
+{
+    let number = number.to_string(alloc)?;
+    push_word(text, number.as_bytes())
+}
+
+/// Adds a space and a word.
+fn push_word(text: &mut Vec<u8>, word: &[u8]) -> Result<(), AllocError>
+    ensures { OnOk result (text.new.items ≡ text.old.items ++ 32 ∷ word.now) }
+{
+    text.push(b' ')?;
+    text.extend_from_slice(word)
+}
+
+/// The line that is printed of a command that a trace can spell is read as that command, where the line is not too
+/// long.
+pub fn printed_is_read()
+    ensures { (command : Command) → IsSpelled command → length (command_text command) ≤ 4096 → line_of (command_text command) ≡ Ok (Some command) }
+{}

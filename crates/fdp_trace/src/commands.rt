@@ -1,0 +1,266 @@
+//! The commands of lines, from the words behind the first.
+
+ghost use Rattle.std.specs.Prelude.{◌≡◌, ◌≤◌, ℕ, IfOk, codes};
+ghost use Rattle.fdp_trace.specs.Words.{words_of};
+ghost use Rattle.fdp_trace.specs.Reading.{Gives, field};
+ghost use Rattle.fdp_trace.specs.Commands.{field_8, field_16, field_32, field_64, field_count, choice, directive, class_of, write_of, read_of, zero_of, dealloc_of, flush_of, delete_of, status_of, update_of, log_of, set_fdp_of, set_events_of, create_of, spelled};
+
+use crate::command_word::{CommandWord, is_text};
+use crate::fault::{FaultKind, LineError};
+use crate::lists::{event_types, identifiers, ranges};
+use crate::number::within;
+use crate::words::next_word;
+use fdp_base::{Command, Payload};
+use std::alloc::Global;
+
+#[tactic(auto, unfolding(crate::specs::Reading::field))]
+fn field(line: &[u8], low: u64, high: u64) -> Result<(u64, &[u8]), LineError>
+    ensures gives { Gives (λ x. (x.0, words_of x.1.now)) result (field low high (words_of line.now)) }
+    ensures bounds { IfOk result (λ x. (low ≤ x.0) × (x.0 ≤ high)) }
+{
+    match next_word(line) {
+        Some((word, rest)) => {
+            let number = within(word, low, high)?;
+            Ok((number, rest))
+        }
+        None => Err(LineError::Fault(FaultKind::Count)),
+    }
+}
+
+fn field_8(line: &[u8]) -> Result<(u8, &[u8]), LineError>
+    ensures { Gives (λ x. (x.0, words_of x.1.now)) result (field_8 (words_of line.now)) }
+{
+    let (number, rest) = field(line, 0, 0xff)?;
+    Ok((number as u8, rest))
+}
+
+fn field_16(line: &[u8]) -> Result<(u16, &[u8]), LineError>
+    ensures { Gives (λ x. (x.0, words_of x.1.now)) result (field_16 (words_of line.now)) }
+{
+    let (number, rest) = field(line, 0, 0xffff)?;
+    Ok((number as u16, rest))
+}
+
+pub fn field_32(line: &[u8]) -> Result<(u32, &[u8]), LineError>
+    ensures { Gives (λ x. (x.0, words_of x.1.now)) result (field_32 (words_of line.now)) }
+{
+    let (number, rest) = field(line, 0, 0xffff_ffff)?;
+    Ok((number as u32, rest))
+}
+
+pub fn field_64(line: &[u8]) -> Result<(u64, &[u8]), LineError>
+    ensures { Gives (λ x. (x.0, words_of x.1.now)) result (field_64 (words_of line.now)) }
+{
+    let (number, rest) = field(line, 0, u64::MAX)?;
+    Ok((number, rest))
+}
+
+fn field_count(line: &[u8]) -> Result<(u32, &[u8]), LineError>
+    ensures { Gives (λ x. (x.0, words_of x.1.now)) result (field_count (words_of line.now)) }
+{
+    let (number, rest) = field(line, 1, 65536)?;
+    Ok((number as u32, rest))
+}
+
+#[tactic(auto, unfolding(crate::specs::Commands::choice))]
+fn is_on(line: &[u8]) -> Result<(bool, &[u8]), LineError>
+    ensures { Gives (λ x. (x.0, words_of x.1.now)) result (choice (codes "on") (words_of line.now)) }
+{
+    match next_word(line) {
+        Some((word, rest)) => Ok((is_text(word, b"on"), rest)),
+        None => Err(LineError::Fault(FaultKind::Count)),
+    }
+}
+
+#[tactic(auto, unfolding(crate::specs::Commands::directive))]
+fn directive(line: &[u8]) -> Result<(u8, u16), LineError>
+    ensures { Gives (λ x. x) result (directive (words_of line.now)) }
+{
+    match next_word(line) {
+        Some((_, rest)) => {
+            let (pid, _) = field_16(rest)?;
+            Ok((2, pid))
+        }
+        None => Ok((0, 0)),
+    }
+}
+
+#[tactic(auto, unfolding(crate::specs::Commands::class_of))]
+fn class(line: &[u8]) -> Result<u8, LineError>
+    ensures { Gives (λ x. x) result (class_of (words_of line.now)) }
+{
+    match next_word(line) {
+        Some((word, _)) if is_text(word, b"host") => Ok(1),
+        _ => Ok(0),
+    }
+}
+
+#[tactic(auto, unfolding(crate::specs::Commands::write_of))]
+fn write(line: &[u8]) -> Result<Command, LineError>
+    ensures { Gives (λ c. c) result (write_of (words_of line.now)) }
+{
+    let (nsid, rest) = field_32(line)?;
+    let (slba, rest) = field_64(rest)?;
+    let (count, rest) = field_count(rest)?;
+    let (seed, rest) = field_32(rest)?;
+    let (dtype, dspec) = directive(rest)?;
+    let payload = Payload::Pattern(seed);
+    Ok(Command::Write {
+        nsid,
+        slba,
+        count,
+        dtype,
+        dspec,
+        payload,
+    })
+}
+
+#[tactic(auto, unfolding(crate::specs::Commands::read_of))]
+fn read(line: &[u8]) -> Result<Command, LineError>
+    ensures { Gives (λ c. c) result (read_of (words_of line.now)) }
+{
+    let (nsid, rest) = field_32(line)?;
+    let (slba, rest) = field_64(rest)?;
+    let (count, _) = field_count(rest)?;
+    Ok(Command::Read { nsid, slba, count })
+}
+
+#[tactic(auto, unfolding(crate::specs::Commands::zero_of))]
+fn zero(line: &[u8]) -> Result<Command, LineError>
+    ensures { Gives (λ c. c) result (zero_of (words_of line.now)) }
+{
+    let (nsid, rest) = field_32(line)?;
+    let (slba, rest) = field_64(rest)?;
+    let (count, _) = field_count(rest)?;
+    Ok(Command::Zero { nsid, slba, count })
+}
+
+#[tactic(auto, unfolding(crate::specs::Commands::dealloc_of))]
+fn dealloc(alloc: Global, line: &[u8]) -> Result<Command, LineError>
+    ensures { Gives (λ c. c) result (dealloc_of (words_of line.now)) }
+{
+    let (nsid, rest) = field_32(line)?;
+    let ranges = ranges(alloc, rest)?;
+    let deallocate = true;
+    Ok(Command::Dealloc {
+        nsid,
+        deallocate,
+        ranges,
+    })
+}
+
+#[tactic(auto, unfolding(crate::specs::Commands::flush_of))]
+fn flush(line: &[u8]) -> Result<Command, LineError>
+    ensures { Gives (λ c. c) result (flush_of (words_of line.now)) }
+{
+    let (nsid, _) = field_32(line)?;
+    Ok(Command::Flush { nsid })
+}
+
+#[tactic(auto, unfolding(crate::specs::Commands::delete_of))]
+fn delete(line: &[u8]) -> Result<Command, LineError>
+    ensures { Gives (λ c. c) result (delete_of (words_of line.now)) }
+{
+    let (nsid, _) = field_32(line)?;
+    Ok(Command::Delete { nsid })
+}
+
+#[tactic(auto, unfolding(crate::specs::Commands::status_of))]
+fn status(line: &[u8]) -> Result<Command, LineError>
+    ensures { Gives (λ c. c) result (status_of (words_of line.now)) }
+{
+    let (nsid, rest) = field_32(line)?;
+    let (dwords, _) = field_count(rest)?;
+    Ok(Command::Status {
+        nsid,
+        mo: 1,
+        dwords,
+    })
+}
+
+#[tactic(auto, unfolding(crate::specs::Commands::update_of))]
+fn update(alloc: Global, line: &[u8]) -> Result<Command, LineError>
+    ensures { Gives (λ c. c) result (update_of (words_of line.now)) }
+{
+    let (nsid, rest) = field_32(line)?;
+    let pids = identifiers(alloc, rest)?;
+    Ok(Command::Update { nsid, mo: 1, pids })
+}
+
+#[tactic(auto, unfolding(crate::specs::Commands::log_of))]
+fn log(line: &[u8]) -> Result<Command, LineError>
+    ensures { Gives (λ c. c) result (log_of (words_of line.now)) }
+{
+    let (lid, rest) = field_8(line)?;
+    let (offset, rest) = field_64(rest)?;
+    let (dwords, rest) = field_count(rest)?;
+    let lsp = class(rest)?;
+    let group = 1;
+    Ok(Command::Log {
+        lid,
+        lsp,
+        group,
+        offset,
+        dwords,
+    })
+}
+
+#[tactic(auto, unfolding(crate::specs::Commands::set_fdp_of))]
+fn set_fdp(line: &[u8]) -> Result<Command, LineError>
+    ensures { Gives (λ c. c) result (set_fdp_of (words_of line.now)) }
+{
+    let (enable, rest) = is_on(line)?;
+    let (index, _) = field_8(rest)?;
+    Ok(Command::SetFdp {
+        group: 1,
+        enable,
+        index,
+    })
+}
+
+#[tactic(auto, unfolding(crate::specs::Commands::set_events_of))]
+fn set_events(alloc: Global, line: &[u8]) -> Result<Command, LineError>
+    ensures { Gives (λ c. c) result (set_events_of (words_of line.now)) }
+{
+    let (nsid, rest) = field_32(line)?;
+    let (handle, rest) = field_16(rest)?;
+    let (enable, rest) = is_on(rest)?;
+    let types = event_types(alloc, rest)?;
+    Ok(Command::SetEvents {
+        nsid,
+        handle,
+        enable,
+        types,
+    })
+}
+
+#[tactic(auto, unfolding(crate::specs::Commands::create_of))]
+fn create(alloc: Global, line: &[u8]) -> Result<Command, LineError>
+    ensures { Gives (λ c. c) result (create_of (words_of line.now)) }
+{
+    let (size, rest) = field_64(line)?;
+    let list = identifiers(alloc, rest)?;
+    let given = !list.as_slice().is_empty();
+    Ok(Command::Create { size, given, list })
+}
+
+/// The command of a line of this word, with the words behind it.
+pub fn spelled(alloc: Global, word: CommandWord, line: &[u8]) -> Result<Command, LineError>
+    ensures { Gives (λ c. c) result (spelled word (words_of line.now)) }
+{
+    match word {
+        CommandWord::Write => write(line),
+        CommandWord::Read => read(line),
+        CommandWord::Zero => zero(line),
+        CommandWord::Dealloc => dealloc(alloc, line),
+        CommandWord::Flush => flush(line),
+        CommandWord::Status => status(line),
+        CommandWord::Update => update(alloc, line),
+        CommandWord::Log => log(line),
+        CommandWord::SetFdp => set_fdp(line),
+        CommandWord::GetFdp => Ok(Command::GetFdp { group: 1 }),
+        CommandWord::SetEvents => set_events(alloc, line),
+        CommandWord::Create => create(alloc, line),
+        CommandWord::Delete => delete(line),
+    }
+}

@@ -1,0 +1,143 @@
+//! The lines of the data that a command answers.
+
+ghost use Rattle.std.specs.Prelude.{◌≡◌, ◌/◌, ◌++◌, OnOk, length, take, bytes_eq};
+ghost use Rattle.std.specs.Int.{from_le_bytes, w32};
+ghost use Rattle.fdp_base.specs.Pattern.{repeated};
+ghost use Rattle.fdp_trace.specs.Printing.{word_or_bytes};
+ghost use Rattle.fdp_base.specs.Output.{pieces_of, block_line, block_lines, data_line, data_lines, data_text};
+
+use crate::hex::{push_hex, push_hex_bytes};
+use fdp_base::Command;
+use std::alloc::AllocError;
+
+/// Bytes of a log or a status on one line.
+const LINE: usize = 32;
+
+/// Adds the lines of the data.
+pub fn push_data(text: &mut Vec<u8>, command: &Command, bytes: &[u8]) -> Result<(), AllocError>
+    ensures { OnOk result (text.new.items ≡ text.old.items ++ data_text command.now bytes.now) }
+{
+    match command {
+        Command::Read { count, .. } => push_blocks(text, *count, bytes),
+        Command::Status { .. } | Command::Log { .. } => push_data_lines(text, bytes),
+        Command::Write { .. }
+        | Command::Zero { .. }
+        | Command::Dealloc { .. }
+        | Command::Flush { .. }
+        | Command::Delete { .. }
+        | Command::Update { .. }
+        | Command::SetFdp { .. }
+        | Command::GetFdp { .. }
+        | Command::SetEvents { .. }
+        | Command::Create { .. }
+        | Command::Other { .. } => Ok(()),
+    }
+}
+
+/// Adds a line for each of so many blocks, which have one size.
+fn push_blocks(text: &mut Vec<u8>, count: u32, bytes: &[u8]) -> Result<(), AllocError>
+    ensures { OnOk result (text.new.items ≡ text.old.items ++ block_lines count bytes.now) }
+{
+    if count == 0 {
+        return Ok(());
+    }
+    let size = bytes.len() / count as usize;
+    let mut rest = bytes;
+    for _ in 0..count {
+        if rest.is_empty() {
+            break;
+        }
+        let (block, after) = rest.split_at(size);
+        push_block(text, block)?;
+        rest = after;
+    }
+    Ok(())
+}
+
+/// Adds lines of up to 32 bytes.
+fn push_data_lines(text: &mut Vec<u8>, bytes: &[u8]) -> Result<(), AllocError>
+    ensures { OnOk result (text.new.items ≡ text.old.items ++ data_lines bytes.now) }
+{
+    let mut rest = bytes;
+    for _ in 0..bytes.len() {
+        if rest.is_empty() {
+            break;
+        }
+        let (piece, after) = rest.split_at(rest.len().min(LINE));
+        push_data_line(text, piece)?;
+        rest = after;
+    }
+    Ok(())
+}
+
+fn push_data_line(text: &mut Vec<u8>, piece: &[u8]) -> Result<(), AllocError>
+    ensures { OnOk result (text.new.items ≡ text.old.items ++ data_line piece.now) }
+{
+    text.extend_from_slice(b"  ")?;
+    push_hex_bytes(text, piece)?;
+    text.push(b'\n')?;
+    Ok(())
+}
+
+fn push_block(text: &mut Vec<u8>, block: &[u8]) -> Result<(), AllocError>
+    ensures { OnOk result (text.new.items ≡ text.old.items ++ block_line block.now) }
+{
+    text.extend_from_slice(b"  ")?;
+    push_word_or_bytes(text, block)?;
+    text.push(b'\n')?;
+    Ok(())
+}
+
+fn push_word_or_bytes(text: &mut Vec<u8>, block: &[u8]) -> Result<(), AllocError>
+    ensures { OnOk result (text.new.items ≡ text.old.items ++ word_or_bytes block.now) }
+{
+    if is_repeated(block) {
+        push_hex(text, 8, number(&block[..block.len().min(4)]))
+    } else {
+        push_hex_bytes(text, block)
+    }
+}
+
+/// The number of up to four bytes.
+fn number(word: &[u8]) -> u32
+    ensures { result ≡ from_le_bytes w32 word.now }
+{
+    match word {
+        [a, b, c, d, ..] => u32::from_le_bytes([*a, *b, *c, *d]),
+        [a, b, c] => u32::from_le_bytes([*a, *b, *c, 0]),
+        [a, b] => u32::from_le_bytes([*a, *b, 0, 0]),
+        [a] => u32::from(*a),
+        [] => 0,
+    }
+}
+
+/// Whether bytes are their first four over and over.
+fn is_repeated(bytes: &[u8]) -> bool
+    ensures { result ≡ bytes_eq bytes.now (repeated (length bytes.now / 4) (take 4 bytes.now)) }
+{
+    if bytes.len() < 4 {
+        return bytes.is_empty();
+    }
+    is_made_of(bytes, &bytes[..4])
+}
+
+fn is_made_of(bytes: &[u8], word: &[u8]) -> bool
+    requires { length word.now ≡ 4 }
+    ensures { result ≡ bytes_eq bytes.now (repeated (length bytes.now / 4) word.now) }
+{
+    let mut rest = bytes;
+    while rest.len() >= 4 {
+        let (front, last) = rest.split_at(rest.len() - 4);
+        if !is_same(last, word) {
+            return false;
+        }
+        rest = front;
+    }
+    rest.is_empty()
+}
+
+fn is_same(left: &[u8], right: &[u8]) -> bool
+    ensures { result ≡ bytes_eq left.now right.now }
+{
+    left == right
+}

@@ -1,0 +1,64 @@
+ghost use Rattle.std.specs.Prelude.{◌≡◌};
+ghost use Rattle.fdp_trace.specs.Words.{words_of};
+ghost use Rattle.fdp_trace.specs.Reading.{Gives};
+ghost use Rattle.fdp_trace.specs.Commands.{numbers_of, ranges_of, range_of};
+
+use crate::fault::{FaultKind, LineError};
+use crate::number::within;
+use crate::words::next_word;
+use fdp_base::{EventTypes, Pids, Range, Ranges, Sequence};
+use std::alloc::Global;
+
+/// The words of a line as identifiers of 16 bits.
+pub fn identifiers(alloc: Global, line: &[u8]) -> Result<Pids, LineError>
+    ensures { Gives (λ ids. ids) result (numbers_of 65535 (words_of line.now)) }
+{
+    let mut numbers = Vec::new(alloc);
+    let mut rest = line;
+    while let Some((word, after)) = next_word(rest) {
+        let number = within(word, 0, 0xffff)?;
+        numbers.push(number as u16)?;
+        rest = after;
+    }
+    Ok(Sequence::from_vec(numbers))
+}
+
+/// The words of a line as event types.
+pub fn event_types(alloc: Global, line: &[u8]) -> Result<EventTypes, LineError>
+    ensures { Gives (λ types. types) result (numbers_of 255 (words_of line.now)) }
+{
+    let mut numbers = Vec::new(alloc);
+    let mut rest = line;
+    while let Some((word, after)) = next_word(rest) {
+        let number = within(word, 0, 0xff)?;
+        numbers.push(number as u8)?;
+        rest = after;
+    }
+    Ok(Sequence::from_vec(numbers))
+}
+
+#[tactic(auto, unfolding(crate::specs::Commands::range_of))]
+fn range(first: &[u8], second: &[u8]) -> Result<Range, LineError>
+    ensures { Gives (λ range. range) result (range_of first.now second.now) }
+{
+    let slba = within(first, 0, u64::MAX)?;
+    let length = within(second, 0, 0xffff_ffff)?;
+    let length = length as u32;
+    Ok(Range { slba, length })
+}
+
+/// The words of a line as ranges, two words each.
+pub fn ranges(alloc: Global, line: &[u8]) -> Result<Ranges, LineError>
+    ensures { Gives (λ ranges. ranges) result (ranges_of (words_of line.now)) }
+{
+    let mut ranges = Vec::new(alloc);
+    let mut rest = line;
+    while let Some((slba, behind)) = next_word(rest) {
+        let Some((length, after)) = next_word(behind) else {
+            return Err(LineError::Fault(FaultKind::Count));
+        };
+        ranges.push(range(slba, length)?)?;
+        rest = after;
+    }
+    Ok(Sequence::from_vec(ranges))
+}

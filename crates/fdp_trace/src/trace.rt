@@ -1,0 +1,114 @@
+ghost use Rattle.std.specs.Prelude.{◌≡◌, ℕ, ◌<◌, ◌||◌, ◌∷◌, nat_lt, length};
+ghost use Rattle.std.specs.Str.Lines.{lines, strip_carriage_return};
+ghost use Rattle.fdp_trace.specs.Words.{IsFront, is_line_feed};
+ghost use Rattle.fdp_trace.specs.Trace.{trace_of, line_of, blocks_read, ReadsLine, ReadsTrace};
+
+use crate::fault::{FaultKind, LineError, TraceFault};
+use crate::line::read_line;
+use fdp_base::Command;
+use std::alloc::Global;
+
+const MOST_COMMANDS: usize = 8192;
+
+const MOST_BLOCKS: u64 = 8192;
+
+/// The commands of a trace, in time that grows with the text.
+pub fn read_trace(alloc: Global, text: &[u8]) -> Result<Vec<Command>, TraceFault>
+    ensures { ReadsTrace (trace_of text.now) result }
+{
+    let mut commands = Vec::new(alloc);
+    let mut number = 0;
+    let mut blocks = 0;
+    let mut rest = text;
+    while !rest.is_empty() {
+        let (line, after) = next_line(rest);
+        rest = after;
+        number += 1;
+        let found = read_numbered(alloc, line, number)?;
+        let Some(command) = found else {
+            continue;
+        };
+        blocks += blocks_read(&command);
+        if is_too_much(commands.len() + 1, blocks) {
+            let kind = FaultKind::Long;
+            return Err(TraceFault::Line { line: number, kind });
+        }
+        commands.push(command)?;
+    }
+    Ok(commands)
+}
+
+fn read_numbered(alloc: Global, line: &[u8], number: usize) -> Result<Option<Command>, TraceFault>
+    ensures { ReadsLine number (line_of line.now) result }
+{
+    match read_line(alloc, line) {
+        Ok(command) => Ok(command),
+        Err(LineError::Fault(kind)) => Err(TraceFault::Line { line: number, kind }),
+        Err(LineError::Memory) => Err(TraceFault::NoMemory),
+    }
+}
+
+fn is_too_much(commands: usize, blocks: u64) -> bool
+    ensures { result ≡ (nat_lt 8192 commands || nat_lt 8192 blocks) }
+{
+    commands > MOST_COMMANDS || blocks > MOST_BLOCKS
+}
+
+/// The first line of a text, without its end, and the text behind it.
+fn next_line(text: &[u8]) -> (&[u8], &[u8])
+    requires { 0 < length text.now }
+    ensures lines { lines text.now ≡ result.0.now ∷ lines result.1.now }
+    ensures shorter { length result.1.now < length text.now }
+{
+    let end = line_len(text);
+    let line = &text[..end];
+    if end == text.len() {
+        return (line, &[]);
+    }
+    (without_return(line), &text[end + 1..])
+}
+
+/// The bytes in front of the first line feed.
+fn line_len(text: &[u8]) -> usize
+    ensures { IsFront is_line_feed text.now result }
+{
+    for (i, b) in text.iter().enumerate() {
+        if *b == b'\n' {
+            return i;
+        }
+    }
+    text.len()
+}
+
+/// A line without the carriage return at its end.
+fn without_return(line: &[u8]) -> &[u8]
+    ensures { result.now ≡ strip_carriage_return line.now }
+{
+    let len = line.len();
+    if len > 0 && line[len - 1] == b'\r' {
+        &line[..len - 1]
+    } else {
+        line
+    }
+}
+
+fn blocks_read(command: &Command) -> u64
+    ensures { result ≡ blocks_read command.now }
+{
+    match command {
+        Command::Read { count, .. } => u64::from(*count),
+        Command::Write { .. }
+        | Command::Zero { .. }
+        | Command::Dealloc { .. }
+        | Command::Flush { .. }
+        | Command::Delete { .. }
+        | Command::Status { .. }
+        | Command::Update { .. }
+        | Command::Log { .. }
+        | Command::SetFdp { .. }
+        | Command::GetFdp { .. }
+        | Command::SetEvents { .. }
+        | Command::Create { .. }
+        | Command::Other { .. } => 0,
+    }
+}
