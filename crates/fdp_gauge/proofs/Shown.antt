@@ -1,5 +1,5 @@
 -- A step of the teller or of a pass keeps the rule of the cell.
-use Rattle.std.proofs.Common.{◌≡◌, ◌≢◌, ◌⊎◌, ℕ, ◌+◌, ◌<◌, ◌≤◌, Bool, true, false, cond, List, [], ◌∷◌, ◌++◌, length, set, count_by, sum_by, refl, sym, ◌∙◌, ap, subst, ⊎_elim, arith}
+use Rattle.std.proofs.Common.{◌≡◌, ◌≢◌, ℕ, ◌+◌, Bool, true, cond, List, [], ◌∷◌, ◌++◌, length, set, refl, sym, ◌∙◌, ap, subst, ⊎_elim, arith}
 use mathlib.Core.Option.{some}
 use mathlib.Core.List.{IsPrefix}
 use lib.ListN.{get_elem?}
@@ -13,9 +13,6 @@ use Rattle.fdp_gauge.specs.declared.known.Known.{Known}
 use Rattle.fdp_gauge.specs.Rule.{counts_of, known, first, note, nobody, informed, Fits, Shows, Stored, Looked, Learned}
 
 -- 1 where the view is a teller's
-tells_one : Known → ℕ
-tells_one v = cond v.tells 1 0
-
 abbrev one_teller : Known → ℕ
 one_teller v = cond v.tells 1 0
 
@@ -52,10 +49,10 @@ module _ (id : ℕ) (v : Known) where
       shown = k.shown;
       each = λ j u there.
           ⊎_elim
-              (λ (was : get_elem? (set views id left) j ≡ some u).
-                  ⊎_elim (λ (here : (j ≡ id) × (left ≡ u)). subst (Fits k.list) here.1 fits_left) (λ (else : (j ≢ id) × (get_elem? views j ≡ some u)). k.each j u else.1) (at_set views id j left u was))
-              (λ (new : right ≡ u). subst (Fits k.list) new fits_right)
-              (at_snoc (set views id left) right u j there);
+          (λ (was : get_elem? (set views id left) j ≡ some u).
+          ⊎_elim (λ (here : (j ≡ id) × (left ≡ u)). subst (Fits k.list) here.1 fits_left) (λ (else : (j ≢ id) × (get_elem? views j ≡ some u)). k.each j u else.1) (at_set views id j left u was))
+          (λ (new : right ≡ u). subst (Fits k.list) new fits_right)
+          (at_snoc (set views id left) right u j there);
       one = omega (arith, sum_by_push one_teller (set views id left) right, sum_by-changed one_teller views id v left at, k.one);
     }
 
@@ -66,12 +63,12 @@ module _ (id : ℕ) (v : Known) where
       let more : IsPrefix k.list list = subst (λ (xs : List Mark). IsPrefix xs list) (f.whole tells) goes_on in (
         known true list [],
         shown_with x views k at words list (known true list []) counts (sym tells) record { seen = prefix_refl list; told = nil-prefix list; whole = λ _. refl }
-        (λ j u ne there g. record {
-          seen = prefix_trans u.seen k.list list g.seen more;
-          told = prefix_trans u.told k.list list g.told more;
-          whole = λ theirs.
-              absurd (omega (arith, two-le-sum_by one_teller views j id u v ne there at, ap {B = ℕ} (λ (b : Bool). cond b 1 0) tells, ap {B = ℕ} (λ (b : Bool). cond b 1 0) theirs, k.one));
-        }),
+            (λ j u ne there g. record {
+              seen = prefix_trans u.seen k.list list g.seen more;
+              told = prefix_trans u.told k.list list g.told more;
+              whole = λ theirs.
+                  absurd (omega (arith, two-le-sum_by one_teller views j id u v ne there at, ap {B = ℕ} (λ (b : Bool). cond b 1 0) tells, ap {B = ℕ} (λ (b : Bool). cond b 1 0) theirs, k.one));
+            }),
         refl,
       )
 
@@ -92,7 +89,7 @@ module _ (id : ℕ) (v : Known) where
       let w : Known = known v.tells both [] in
       let begins : IsPrefix v.seen both = prefix-longer v.seen v.told k.list f.seen f.told in
       let whole : v.tells ≡ true → both ≡ k.list = λ tells.
-          prefix_whole both k.list (longer-prefix v.seen v.told k.list f.seen f.told) (omega (arith, prefix_length v.seen both begins, ap (λ (xs : List Mark). length xs) (f.whole tells))) in (
+      prefix_whole both k.list (longer-prefix v.seen v.told k.list f.seen f.told) (omega (arith, prefix_length v.seen both begins, ap (λ (xs : List Mark). length xs) (f.whole tells))) in (
         w,
         shown_with x views k at x k.list w k.shown refl record { seen = longer-prefix v.seen v.told k.list f.seen f.told; told = nil-prefix k.list; whole = whole } (λ j u ne there g. g),
         (refl, begins, prefix-longer_second v.seen v.told k.list f.seen f.told, λ tells. whole tells ∙ sym (f.whole tells)),
@@ -121,12 +118,12 @@ module _ (id : ℕ) (v : Known) where
         shown = k.shown;
         each = λ j u there.
             ⊎_elim
-                (λ (here : (j ≡ other) × (nobody ≡ u)). subst (Fits k.list) here.1 record { seen = nil-prefix k.list; told = nil-prefix k.list; whole = λ tells. absurd (cc) })
-                (λ (else : (j ≢ other) × (get_elem? middle j ≡ some u)).
-                    ⊎_elim
-                        (λ (here : (j ≡ id) × (both ≡ u)). subst (Fits k.list) here.1 record { seen = f.seen; told = (k.each other w was).seen; whole = f.whole })
-                        (λ (rest : (j ≢ id) × (get_elem? views j ≡ some u)). k.each j u rest.1)
-                        (at_set views id j both u else.1))
-                (at_set middle other j nobody u there);
+            (λ (here : (j ≡ other) × (nobody ≡ u)). subst (Fits k.list) here.1 record { seen = nil-prefix k.list; told = nil-prefix k.list; whole = λ tells. absurd (cc) })
+            (λ (else : (j ≢ other) × (get_elem? middle j ≡ some u)).
+            ⊎_elim
+            (λ (here : (j ≡ id) × (both ≡ u)). subst (Fits k.list) here.1 record { seen = f.seen; told = (k.each other w was).seen; whole = f.whole })
+            (λ (rest : (j ≢ id) × (get_elem? views j ≡ some u)). k.each j u rest.1)
+            (at_set views id j both u else.1))
+            (at_set middle other j nobody u there);
         one = omega (arith, sum_by-changed one_teller middle other w nobody at_other, sum_by-changed one_teller views id v both at, k.one);
       }

@@ -1,5 +1,5 @@
 -- What contracts say of a gauge, its teller and its passes.
-use Rattle.std.specs.Prelude.{◌≡◌, ℕ, List, [], length, sum_by}
+use Rattle.std.specs.Prelude.{◌≡◌, List, length, sum_by}
 use Rattle.fdp_base.specs.declared.recorded.Mark.{Mark}
 use Rattle.fdp_base.specs.declared.recorded.Snapshot.{Snapshot}
 use Rattle.crossbeam_utils.specs.Seq.{cell_view}

@@ -3,5 +3,7 @@
 
 mod gauge;
 mod known;
+#[cfg(test)]
+mod tests;
 
 pub use gauge::{Gauge, Pass, Teller};

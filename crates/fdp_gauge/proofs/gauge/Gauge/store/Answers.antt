@@ -1,4 +1,4 @@
-use Rattle.std.proofs.Common.{◌≡◌, ap, arith, ◌∷◌, []}
+use Rattle.std.proofs.Common.{◌≡◌, arith, ◌∷◌, []}
 use Rattle.crossbeam_utils.specs.Seq.{cell_view}
 use Rattle.fdp_gauge.proofs.Shown.{stores}
 use Rattle.fdp_gauge.specs.Rule.{counts_of}
