@@ -10,25 +10,11 @@ use Rattle.fdp_base.specs.declared.recorded.Mark.{Mark}
 use Rattle.fdp_base.specs.Records.{longer}
 use Rattle.fdp_base.proofs.Records.{sum_by-changed, two-le-sum_by, prefix_refl, prefix_trans, prefix_length, prefix_whole, nil-prefix, longer-prefix, prefix-longer, prefix-longer_second}
 use Rattle.fdp_gauge.specs.declared.known.Known.{Known}
-use Rattle.fdp_gauge.specs.Rule.{counts_of, known, first, note, nobody, informed, Fits, Shows, Stored, Looked, Learned}
+use Rattle.fdp_gauge.specs.Rule.{counts_of, known, note, nobody, informed, Fits, Shows, Stored, Looked, Learned}
 
 -- 1 where the view is a teller's
 abbrev one_teller : Known → ℕ
 one_teller v = cond v.tells 1 0
-
-at_single : (x u : Known) (j : ℕ) → get_elem? (x ∷ []) j ≡ some u → x ≡ u
-at_single x u j e = ⊎_elim (λ (n : get_elem? [] j ≡ some u). absurd (nothing j n)) (λ (s : x ≡ u). s) (at_snoc [] x u j e)
-  where
-    nothing : {A : Type 0} {a : A} (j : ℕ) → get_elem? [] j ≡ some a → ⊥
-    nothing j e = cc
-
-pub opens : Shows (0 ∷ 0 ∷ 0 ∷ 0 ∷ []) (first ∷ [])
-opens = record {
-  list = [];
-  shown = refl;
-  each = λ j u there. subst (Fits []) (at_single first u j there) record { seen = prefix_refl []; told = prefix_refl []; whole = λ tells. refl };
-  one = omega arith;
-}
 
 module _ (id : ℕ) (v : Known) where
   -- a step that shows a list, by a view that tells as much as before
