@@ -1,0 +1,9 @@
+//! A board that shows the length of a record and the sums of what its entries add.
+#![tactic(auto)]
+
+mod gauge;
+mod known;
+#[cfg(test)]
+mod tests;
+
+pub use gauge::{Gauge, Pass, Teller};
