@@ -28,6 +28,7 @@ items_list (item d ds) = d ∷ items_list ds
 abbrev pub elements : Data → List Data
 elements d = option_map_or items_list (as_array d) []
 
+-- the elements of an array that is there
 abbrev pub elements_of : Option Data → List Data
 elements_of v = option_map_or elements v []
 

@@ -14,6 +14,7 @@ use Rattle.fdp_config.specs.Table.{row_of, keys}
 abbrev pub is_key : List ℕ → Bool
 is_key word = list_any (λ key. bytes_eq word (row_of key).word) keys
 
+-- the word is that of no key
 abbrev pub is_unknown : List ℕ → Bool
 is_unknown word = not (is_key word)
 
@@ -28,9 +29,11 @@ is_optional Namespaces = true
 abbrev pub is_missing : Members → Key → Bool
 is_missing doc key = is_none (value_at doc key) && not (is_optional (row_of key).shape)
 
+-- a number without a fraction
 abbrev pub is_number : Data → Bool
 is_number d = is_some (as_integer d)
 
+-- a text
 abbrev pub is_text : Data → Bool
 is_text d = is_some (as_str d)
 
@@ -38,13 +41,15 @@ is_text d = is_some (as_str d)
 abbrev pub is_array_of : (Data → Bool) → Data → Bool
 is_array_of test d = option_map_or (λ ds. list_all test (items_list ds)) (as_array d) false
 
--- the words of the keys of a namespace
+-- the word for the blocks of a namespace
 abbrev pub blocks_word : List ℕ
 blocks_word = codes "blocks"
 
+-- the word for its handles
 abbrev pub handles_word : List ℕ
 handles_word = codes "handles"
 
+-- one of the two
 abbrev pub is_namespace_key : List ℕ → Bool
 is_namespace_key word = list_any (bytes_eq word) (blocks_word ∷ handles_word ∷ [])
 
@@ -55,6 +60,7 @@ describes_namespace ms =
     && option_map_or is_number (get_member blocks_word ms) false
     && option_map_or (is_array_of is_number) (get_member handles_word ms) true
 
+-- a table that describes a namespace
 abbrev pub is_namespace : Data → Bool
 is_namespace d = option_map_or describes_namespace (as_table d) false
 

@@ -18,6 +18,7 @@ use Rattle.fdp_config.specs.Kinds.{blocks_word, handles_word}
 use Rattle.fdp_config.specs.Reading.{class_of, amount_of, config_in}
 use Rattle.fdp_config.specs.Table.{row_of}
 
+-- a number from low to high
 abbrev pub is_within : ℕ → ℕ → ℕ → Bool
 is_within low high n = nat_le low n && nat_le n high
 
@@ -56,6 +57,7 @@ blocks_fault place (negsuc n) = Some place
 abbrev pub is_handle : ℕ → Data → Bool
 is_handle count d = option_map_or (λ ruh. nat_lt ruh count) (natural (number_of (Some d))) false
 
+-- a number stands twice in the list
 unfoldable pub has_repeat : List ℕ → Bool
 has_repeat [] = false
 has_repeat (x ∷ xs) = list_any (λ y. y == x) xs || has_repeat xs
@@ -65,9 +67,11 @@ abbrev pub is_handle_list : ℕ → List Data → Bool
 is_handle_list count ds =
     nat_le (length ds) 16 && list_all (is_handle count) ds && not (has_repeat (map (λ d. amount_of (Some d)) ds))
 
+-- a list of handles that the entry at this place may not have
 abbrev pub handles_fault : ℕ → ℕ → List Data → Option ℕ
 handles_fault count place ds = if is_handle_list count ds then None else Some place
 
+-- an entry with too few blocks, or with such a list
 abbrev pub namespace_fault : ℕ → ℕ → Data → Option ℕ
 namespace_fault count place d =
     option_or (blocks_fault place (number_of (get blocks_word d))) (handles_fault count place (elements_of (get handles_word d)))
@@ -125,6 +129,7 @@ ShapeIsNumber Truth = ⊥
 ShapeIsNumber Configurations = ⊥
 ShapeIsNumber Namespaces = ⊥
 
+-- the row of the key is one of numbers
 abbrev pub IsNumber : Key → Type 0
 IsNumber key = ShapeIsNumber (row_of key).shape
 
@@ -135,5 +140,6 @@ highest Truth = 0
 highest Configurations = 0
 highest Namespaces = 0
 
+-- the highest number at the key
 abbrev pub high_of : Key → ℕ
 high_of key = highest (row_of key).shape

@@ -18,6 +18,7 @@ class_named word =
     else if bytes_eq word (codes "persistent") then Some Persistent
     else None
 
+-- the class that a text names
 abbrev pub class_of : Data → Option Class
 class_of d = option_and_then class_named (as_str d)
 
@@ -25,6 +26,7 @@ class_of d = option_and_then class_named (as_str d)
 abbrev pub amount_of : Option Data → ℕ
 amount_of v = unwrap_or (natural (number_of v)) 0
 
+-- the number at a key
 abbrev pub amount_at : Members → Key → ℕ
 amount_at doc key = amount_of (value_at doc key)
 
@@ -37,12 +39,14 @@ abbrev pub given : List ℕ → Option (List ℕ)
 given [] = None
 given (ruh ∷ rest) = Some (ruh ∷ rest)
 
+-- the namespace that an entry describes
 abbrev pub namespace_in : Data → NamespaceConfig
 namespace_in d = record {
   blocks = amount_of (get blocks_word d);
   handles = given (map (λ ruh. amount_of (Some ruh)) (elements_of (get handles_word d)));
 }
 
+-- key by key
 abbrev pub config_in : Members → DriveConfig
 config_in doc = record {
   block = amount_at doc Block;

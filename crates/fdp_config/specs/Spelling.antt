@@ -13,9 +13,11 @@ use Rattle.fdp_config.specs.declared.key.Key.TheVariants.{Block, UnitPages, Grou
 use Rattle.fdp_config.specs.Document.{IsDocument, value_at, words_in}
 use Rattle.fdp_config.specs.Kinds.{is_key, is_namespace_key, blocks_word, handles_word}
 
+-- a number of a document
 abbrev pub number : ℕ → Data
 number n = integer (pos n)
 
+-- an array of a document
 abbrev pub array_of : List Data → Data
 array_of ds = array (items_of ds)
 

@@ -5,6 +5,7 @@ use Rattle.fdp_config.specs.declared.key.Key.TheVariants.{Block, UnitPages, Grou
 use Rattle.fdp_config.specs.declared.key.Shape.{Shape}
 use Rattle.fdp_config.specs.declared.key.Shape.TheVariants.{Number, Truth, Configurations, Namespaces}
 
+-- a row of the table
 pub record Row : Type 0 where
   pub word : List ℕ
   pub shape : Shape

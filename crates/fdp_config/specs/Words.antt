@@ -6,6 +6,7 @@ use Rattle.fdp_config.specs.declared.fault.NoConfig.{NoConfig}
 use Rattle.fdp_config.specs.declared.fault.NoConfig.TheVariants.{Absent, TooLong, Faulty}
 use Rattle.fdp_config.specs.Table.{row_of}
 
+-- the words for a fault, with the key that it names
 abbrev pub fault_words : ConfigFault → List ℕ
 fault_words NotToml = codes "config toml"
 fault_words (Unknown key) = codes "config unknown " ++ key
