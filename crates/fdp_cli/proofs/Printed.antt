@@ -70,9 +70,9 @@ printing_failed old mid new buffer rest text p h = record {
       ∙ ap (λ xs. xs ++ take h.count buffer) (p.held tells)
       ∙ append_assoc old.bytes p.printed (take h.count buffer)
       ∙ ap (λ xs. old.bytes ++ xs) (
-          ap (λ xs. p.printed ++ xs) (sym (take-append-le h.count buffer rest (omega (arith, h.short))))
-          ∙ sym (take-append-add p.printed (buffer ++ rest) h.count)
-          ∙ ap (take (length p.printed + h.count)) p.all);
+      ap (λ xs. p.printed ++ xs) (sym (take-append-le h.count buffer rest (omega (arith, h.short))))
+      ∙ sym (take-append-add p.printed (buffer ++ rest) h.count)
+      ∙ ap (take (length p.printed + h.count)) p.all);
 }
 
 -- the lines of the next entry

@@ -74,7 +74,7 @@ pub ends_committed : {F : Type 0} (state : F → FlashState) (old mid new : Seen
 ends_committed state old mid new ticket next g done going p h =
     let placed : Entry = entries.Placed ticket.position 0 p.unit p.page in
     let still : (state_of mid.entries).going ≡ Some (record g { is_placed = true }) =
-        ap (λ xs. (state_of xs).going) p.step.entries_are ∙ ap (λ (s : FixedState). s.going) (state_of-push old.entries placed) ∙ ap (option_map (λ (x : Going). record x { is_placed = true })) going in
+    ap (λ xs. (state_of xs).going) p.step.entries_are ∙ ap (λ (s : FixedState). s.going) (state_of-push old.entries placed) ∙ ap (option_map (λ (x : Going). record x { is_placed = true })) going in
     let k = h (record g { is_placed = true }) still in
     record {
       es = placed ∷ entries.Host 1 g.number g.command done.reply done.moment ∷ [];
@@ -91,7 +91,7 @@ pub ends_started : {F : Type 0} (state : F → FlashState) (old mid started new 
 ends_started state old mid started new number command ticket same h ends =
     let start : Entry = entries.Started 1 number command 0 0 true in
     let going : (state_of started.entries).going ≡ Some (record { number = number; command = command; ticket = (state_of mid.entries).position + 1; is_placed = false }) =
-        ap (λ xs. (state_of xs).going) h.step.entries_are ∙ ap (λ (s : FixedState). s.going) (state_of-push mid.entries start) in
+    ap (λ xs. (state_of xs).going) h.step.entries_are ∙ ap (λ (s : FixedState). s.going) (state_of-push mid.entries start) in
     let e = ends _ going in
     record {
       es = start ∷ e.es;

@@ -15,7 +15,7 @@ loop-entry-init g c =
     let first = pushed_of _ (sym c.is_err.ensures.value ∙ c.if-is_err.false) c.push_queue.ensures in
     let queue = line (codes "queue" ∷ decimal 1 ∷ []) in
     printing_none (g.K.Sink.state c.args.sink.now) c.push_queue.new.into.items (lines ++ stats) (output_of es)
-        (ap (λ xs. xs ++ (lines ++ stats)) (first ∙ ap (λ xs. xs ++ queue) c.new-text.ensures.items) ∙ sym (append_assoc queue lines stats))
+    (ap (λ xs. xs ++ (lines ++ stats)) (first ∙ ap (λ xs. xs ++ queue) c.new-text.ensures.items) ∙ sym (append_assoc queue lines stats))
 
 pub returns-then-is_err-2-clause-ends : goal.returns-then-is_err-2-clause-ends
 returns-then-is_err-2-clause-ends g c = printing_some _ _ _ _ _ c.loop-entry.invariant
