@@ -249,5 +249,6 @@ step_called plan g m faults programs cells old first m' faults' programs' cells'
   ended = step_ends plan g m faults programs cells old first m' faults' programs' cells' new operation at spare bytes fate failed s;
   fate = rw (← s.fate_is) s.failed_is;
   cells = rw (← s.fate_is) s.cells_are;
+  faults = s.faults_are;
   programs = s.programs_are;
 }

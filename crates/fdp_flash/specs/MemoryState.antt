@@ -58,4 +58,5 @@ pub record Called (plan : Plan) (old new : FlashState) (operation : Operation) (
   pub ended : Ends old new (record { operation = operation; at = at; failed = failed }) (StopMayLeave operation old.geometry old.cells at spare bytes)
   pub fate : failed ≡ fails (fate_of plan new.moment)
   pub cells : new.cells ≡ after_call old.geometry operation at spare bytes (fate_of plan new.moment) old.cells
+  pub faults : new.faults ≡ (if failed then counted old.faults else old.faults)
   pub programs : new.programs ≡ count_of_programs old.geometry operation at.unit failed old.programs
