@@ -6,3 +6,4 @@ pub mod Commands
 pub mod Trace
 pub mod Printing
 pub mod CommandText
+pub mod FaultWord

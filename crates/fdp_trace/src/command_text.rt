@@ -5,6 +5,7 @@ ghost use Rattle.fdp_trace.specs.CommandText.{payload_word, directive_words, ran
 ghost use Rattle.fdp_trace.specs.Trace.{line_of};
 ghost use Rattle.fdp_base.specs.declared.command.Command.{Command};
 
+use crate::decimal::push_decimal;
 use fdp_base::{Command, Payload, Range};
 use std::alloc::{AllocError, Global};
 
@@ -24,11 +25,11 @@ fn text_of(alloc: Global, command: &Command) -> Result<Vec<u8>, AllocError>
 {
     let mut text = Vec::new(alloc);
     text.extend_from_slice(command.word().as_bytes())?;
-    push_arguments(alloc, &mut text, command)?;
+    push_arguments(&mut text, command)?;
     Ok(text)
 }
 
-fn push_arguments(alloc: Global, text: &mut Vec<u8>, command: &Command) -> Result<(), AllocError>
+fn push_arguments(text: &mut Vec<u8>, command: &Command) -> Result<(), AllocError>
     ensures { OnOk result (text.new.items ≡ text.old.items ++ spaced_behind (argument_words command.now)) }
 {
     match command {
@@ -40,25 +41,25 @@ fn push_arguments(alloc: Global, text: &mut Vec<u8>, command: &Command) -> Resul
             dspec,
             payload,
         } => {
-            push_blocks(alloc, text, *nsid, *slba, *count)?;
-            push_payload(alloc, text, payload)?;
-            push_directive(alloc, text, *dtype, *dspec)
+            push_blocks(text, *nsid, *slba, *count)?;
+            push_payload(text, payload)?;
+            push_directive(text, *dtype, *dspec)
         }
-        Command::Read { nsid, slba, count } => push_blocks(alloc, text, *nsid, *slba, *count),
-        Command::Zero { nsid, slba, count } => push_blocks(alloc, text, *nsid, *slba, *count),
+        Command::Read { nsid, slba, count } => push_blocks(text, *nsid, *slba, *count),
+        Command::Zero { nsid, slba, count } => push_blocks(text, *nsid, *slba, *count),
         Command::Dealloc { nsid, ranges, .. } => {
-            push_number(alloc, text, u64::from(*nsid))?;
-            push_ranges(alloc, text, ranges.as_slice())
+            push_number(text, u64::from(*nsid))?;
+            push_ranges(text, ranges.as_slice())
         }
-        Command::Flush { nsid } => push_number(alloc, text, u64::from(*nsid)),
-        Command::Delete { nsid } => push_number(alloc, text, u64::from(*nsid)),
+        Command::Flush { nsid } => push_number(text, u64::from(*nsid)),
+        Command::Delete { nsid } => push_number(text, u64::from(*nsid)),
         Command::Status { nsid, dwords, .. } => {
-            push_number(alloc, text, u64::from(*nsid))?;
-            push_number(alloc, text, u64::from(*dwords))
+            push_number(text, u64::from(*nsid))?;
+            push_number(text, u64::from(*dwords))
         }
         Command::Update { nsid, pids, .. } => {
-            push_number(alloc, text, u64::from(*nsid))?;
-            push_identifiers(alloc, text, pids.as_slice())
+            push_number(text, u64::from(*nsid))?;
+            push_identifiers(text, pids.as_slice())
         }
         Command::Log {
             lid,
@@ -67,14 +68,14 @@ fn push_arguments(alloc: Global, text: &mut Vec<u8>, command: &Command) -> Resul
             dwords,
             ..
         } => {
-            push_number(alloc, text, u64::from(*lid))?;
-            push_number(alloc, text, *offset)?;
-            push_number(alloc, text, u64::from(*dwords))?;
+            push_number(text, u64::from(*lid))?;
+            push_number(text, *offset)?;
+            push_number(text, u64::from(*dwords))?;
             push_class(text, *lsp)
         }
         Command::SetFdp { enable, index, .. } => {
             push_on(text, *enable)?;
-            push_number(alloc, text, u64::from(*index))
+            push_number(text, u64::from(*index))
         }
         Command::GetFdp { .. } => Ok(()),
         Command::SetEvents {
@@ -83,14 +84,14 @@ fn push_arguments(alloc: Global, text: &mut Vec<u8>, command: &Command) -> Resul
             enable,
             types,
         } => {
-            push_number(alloc, text, u64::from(*nsid))?;
-            push_number(alloc, text, u64::from(*handle))?;
+            push_number(text, u64::from(*nsid))?;
+            push_number(text, u64::from(*handle))?;
             push_on(text, *enable)?;
-            push_types(alloc, text, types.as_slice())
+            push_types(text, types.as_slice())
         }
         Command::Create { size, list, .. } => {
-            push_number(alloc, text, *size)?;
-            push_identifiers(alloc, text, list.as_slice())
+            push_number(text, *size)?;
+            push_identifiers(text, list.as_slice())
         }
         Command::Other {
             opcode,
@@ -98,49 +99,38 @@ fn push_arguments(alloc: Global, text: &mut Vec<u8>, command: &Command) -> Resul
             feature,
             ..
         } => {
-            push_number(alloc, text, u64::from(*opcode))?;
-            push_number(alloc, text, u64::from(*flags))?;
-            push_number(alloc, text, u64::from(*feature))
+            push_number(text, u64::from(*opcode))?;
+            push_number(text, u64::from(*flags))?;
+            push_number(text, u64::from(*feature))
         }
     }
 }
 
-fn push_blocks(
-    alloc: Global,
-    text: &mut Vec<u8>,
-    nsid: u32,
-    slba: u64,
-    count: u32,
-) -> Result<(), AllocError>
+fn push_blocks(text: &mut Vec<u8>, nsid: u32, slba: u64, count: u32) -> Result<(), AllocError>
     ensures { OnOk result (text.new.items ≡ text.old.items ++ spaced_behind (decimal nsid ∷ decimal slba ∷ decimal count ∷ [])) }
 {
-    push_number(alloc, text, u64::from(nsid))?;
-    push_number(alloc, text, slba)?;
-    push_number(alloc, text, u64::from(count))
+    push_number(text, u64::from(nsid))?;
+    push_number(text, slba)?;
+    push_number(text, u64::from(count))
 }
 
-fn push_payload(alloc: Global, text: &mut Vec<u8>, payload: &Payload) -> Result<(), AllocError>
+fn push_payload(text: &mut Vec<u8>, payload: &Payload) -> Result<(), AllocError>
     ensures { OnOk result (text.new.items ≡ text.old.items ++ 32 ∷ payload_word payload.now) }
 {
     match payload {
-        Payload::Pattern(seed) => push_number(alloc, text, u64::from(*seed)),
+        Payload::Pattern(seed) => push_number(text, u64::from(*seed)),
         Payload::Bytes(_) => push_word(text, b"bytes"),
     }
 }
 
-fn push_directive(
-    alloc: Global,
-    text: &mut Vec<u8>,
-    dtype: u8,
-    dspec: u16,
-) -> Result<(), AllocError>
+fn push_directive(text: &mut Vec<u8>, dtype: u8, dspec: u16) -> Result<(), AllocError>
     ensures { OnOk result (text.new.items ≡ text.old.items ++ spaced_behind (directive_words dtype dspec)) }
 {
     if dtype == 0 {
         return Ok(());
     }
     push_word(text, b"pid")?;
-    push_number(alloc, text, u64::from(dspec))
+    push_number(text, u64::from(dspec))
 }
 
 fn push_class(text: &mut Vec<u8>, lsp: u8) -> Result<(), AllocError>
@@ -163,40 +153,40 @@ fn push_on(text: &mut Vec<u8>, enable: bool) -> Result<(), AllocError>
     }
 }
 
-fn push_ranges(alloc: Global, text: &mut Vec<u8>, ranges: &[Range]) -> Result<(), AllocError>
+fn push_ranges(text: &mut Vec<u8>, ranges: &[Range]) -> Result<(), AllocError>
     ensures { OnOk result (text.new.items ≡ text.old.items ++ spaced_behind (flat_map range_words ranges.now)) }
 {
     for range in ranges {
-        push_number(alloc, text, range.slba)?;
-        push_number(alloc, text, u64::from(range.length))?;
+        push_number(text, range.slba)?;
+        push_number(text, u64::from(range.length))?;
     }
     Ok(())
 }
 
-fn push_identifiers(alloc: Global, text: &mut Vec<u8>, numbers: &[u16]) -> Result<(), AllocError>
+fn push_identifiers(text: &mut Vec<u8>, numbers: &[u16]) -> Result<(), AllocError>
     ensures { OnOk result (text.new.items ≡ text.old.items ++ spaced_behind (map decimal numbers.now)) }
 {
     for number in numbers {
-        push_number(alloc, text, u64::from(*number))?;
+        push_number(text, u64::from(*number))?;
     }
     Ok(())
 }
 
-fn push_types(alloc: Global, text: &mut Vec<u8>, numbers: &[u8]) -> Result<(), AllocError>
+fn push_types(text: &mut Vec<u8>, numbers: &[u8]) -> Result<(), AllocError>
     ensures { OnOk result (text.new.items ≡ text.old.items ++ spaced_behind (map decimal numbers.now)) }
 {
     for number in numbers {
-        push_number(alloc, text, u64::from(*number))?;
+        push_number(text, u64::from(*number))?;
     }
     Ok(())
 }
 
 /// Adds a space and a number.
-fn push_number(alloc: Global, text: &mut Vec<u8>, number: u64) -> Result<(), AllocError>
+fn push_number(text: &mut Vec<u8>, number: u64) -> Result<(), AllocError>
     ensures { OnOk result (text.new.items ≡ text.old.items ++ 32 ∷ decimal number) }
 {
-    let number = number.to_string(alloc)?;
-    push_word(text, number.as_bytes())
+    text.push(b' ')?;
+    push_decimal(text, number)
 }
 
 /// Adds a space and a word.

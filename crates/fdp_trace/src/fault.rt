@@ -22,8 +22,12 @@ pub enum FaultKind {
 }
 
 impl FaultKind {
+    ghost use Rattle.fdp_trace.specs.FaultWord.{kind_word};
+
     /// Its word in the fault line.
-    pub fn word(self) -> &'static str {
+    pub fn word(self) -> &'static str
+        ensures { result.now ≡ kind_word self }
+    {
         match self {
             FaultKind::Long => "long",
             FaultKind::Utf8 => "utf8",

@@ -1,0 +1,3 @@
+pub mod Phase
+pub mod Rings
+pub mod Entry

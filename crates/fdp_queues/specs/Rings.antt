@@ -1,0 +1,31 @@
+-- A queue pair as its callers see it.
+use Rattle.std.specs.Prelude.{◌≡◌, ℕ, ◌-◌, ◌*◌, ◌<◌, ◌≤◌, Bool, List}
+use Rattle.fdp_layouts.specs.declared.completion.Cqe.{Cqe}
+use Rattle.fdp_queues.specs.declared.work.Work.{Work}
+use Rattle.fdp_queues.specs.Phase.{phase_tag}
+
+-- the slots of a ring, the entries in both, oldest first, and the completions that were ever posted, up to a multiple of twice the slots
+pub record Rings : Type 0 where
+  pub depth : ℕ
+  pub submissions : List Work
+  pub completions : List Cqe
+  pub posts : ℕ
+
+-- one slot of a ring stays empty
+abbrev pub IsFullAt : ℕ → ℕ → Type 0
+IsFullAt depth entries = entries ≡ depth - 1
+
+-- a completion with its phase tag
+abbrev pub with_phase : Bool → Cqe → Cqe
+with_phase phase cqe = record cqe { status = record cqe.status { phase = phase } }
+
+-- the completion as it is posted into a ring
+abbrev pub posted : Rings → Cqe → Cqe
+posted r cqe = with_phase (phase_tag r.depth r.posts) cqe
+
+pub record AreRings (depth : ℕ) (submissions completions : ℕ) (posts : ℕ) : Type 0 where
+  pub shallow : 2 ≤ depth
+  pub deep : depth ≤ 1024
+  pub submitted : submissions < depth
+  pub completed : completions < depth
+  pub counted : posts < 2 * depth

@@ -1,0 +1,113 @@
+ghost use Rattle.std.specs.Prelude.{◌≡◌, ◌↔◌, ◌+◌, ◌-◌, ◌*◌, ◌%◌, ◌<◌, ◌≤◌, ℕ, [], ◌∷◌, ◌++◌, length, IsErr, IfOk, OnOk, OnErr, MatchOption};
+ghost use Rattle.fdp_queues.specs.Phase.{phase_tag};
+
+use crate::work::Work;
+use fdp_layouts::Cqe;
+use std::alloc::{AllocError, Global};
+use std::collections::VecDeque;
+use std::marker::Model;
+
+/// All slots of a ring but one have an entry.
+#[derive(Clone, Copy, Debug, PartialEq, Eq)]
+pub struct Full;
+
+/// A submission queue and a completion queue, each a ring of `depth` slots of which one stays empty (NVM Express Base
+/// Specification 2.1, "Memory-based Transport Queue Model"). No call but `new` takes memory, and each takes the same
+/// short time.
+#[derive(Drop)]
+pub struct QueuePair {
+    depth: u16,
+    submissions: VecDeque<Work>,
+    completions: VecDeque<Cqe>,
+    posts: u16,
+}
+
+impl Model for QueuePair {
+    ghost use Rattle.fdp_queues.specs.Rings.{Rings};
+
+    ghost Value = { Rings };
+
+    ghost use Rattle.std.specs.Prelude.{◌≤◌, ◌-◌, length};
+    ghost use Rattle.std.specs.VecDeque.{deque_capacity};
+    ghost use Rattle.fdp_queues.specs.Rings.{AreRings};
+
+    ghost view = { λ q. record { depth = q.depth; submissions = q.submissions.items; completions = q.completions.items; posts = q.posts } };
+
+    ghost invariant = { λ q. AreRings q.depth (length q.submissions.items) (length q.completions.items) q.posts
+        × (q.depth - 1 ≤ deque_capacity q.submissions) × (q.depth - 1 ≤ deque_capacity q.completions) };
+}
+
+impl QueuePair {
+    ghost use Rattle.fdp_queues.specs.Rings.{Rings, IsFullAt, posted};
+
+    /// Two empty rings of `depth` slots each, in all the memory that they will ever take.
+    pub fn new(alloc: Global, depth: u16) -> Result<Self, AllocError>
+        requires shallow { 2 ≤ depth }
+        requires deep { depth ≤ 1024 }
+        ensures { IfOk result (λ q. q ≡ record { depth = depth; submissions = []; completions = []; posts = 0 }) }
+    {
+        let slots = usize::from(depth - 1);
+        let submissions = VecDeque::with_capacity(alloc, slots)?;
+        let completions = VecDeque::with_capacity(alloc, slots)?;
+        Ok(QueuePair {
+            depth,
+            submissions,
+            completions,
+            posts: 0,
+        })
+    }
+
+    /// Puts an entry behind the others of the submission queue.
+    pub fn submit(&mut self, work: Work) -> Result<(), Full>
+        ensures ok { OnOk result (self.new ≡ record self.old { submissions = self.old.submissions ++ work ∷ [] }) }
+        ensures full { IsErr result ↔ IsFullAt self.old.depth (length self.old.submissions) }
+        ensures err { OnErr result (self.new ≡ self.old) }
+    {
+        if self.submissions.len() + 1 == usize::from(self.depth) {
+            return Err(Full);
+        }
+        self.submissions.push_back_reserved(work);
+        Ok(())
+    }
+
+    /// Takes the oldest entry of the submission queue.
+    pub fn fetch(&mut self) -> Option<Work>
+        ensures { MatchOption result ((self.old.submissions ≡ []) × (self.new ≡ self.old))
+            (λ work. self.old ≡ record self.new { submissions = work ∷ self.new.submissions }) }
+    {
+        self.submissions.pop_front()
+    }
+
+    /// Puts a completion behind the others, with the phase tag of its slot. The SQ head and the SQ identifier are what
+    /// the caller gives.
+    pub fn post(&mut self, cqe: Cqe) -> Result<(), Full>
+        ensures ok { OnOk result (self.new ≡ record self.old {
+          completions = self.old.completions ++ posted self.old cqe ∷ [];
+          posts = (self.old.posts + 1) % (2 * self.old.depth);
+        }) }
+        ensures full { IsErr result ↔ IsFullAt self.old.depth (length self.old.completions) }
+        ensures err { OnErr result (self.new ≡ self.old) }
+    {
+        if self.completions.len() + 1 == usize::from(self.depth) {
+            return Err(Full);
+        }
+        let mut tagged = cqe;
+        tagged.status.phase = self.posts < self.depth;
+        self.completions.push_back_reserved(tagged);
+        self.posts = (self.posts + 1) % (2 * self.depth);
+        Ok(())
+    }
+
+    /// Takes the oldest completion, with its phase tag.
+    pub fn reap(&mut self) -> Option<Cqe>
+        ensures { MatchOption result ((self.old.completions ≡ []) × (self.new ≡ self.old))
+            (λ cqe. self.old ≡ record self.new { completions = cqe ∷ self.new.completions }) }
+    {
+        self.completions.pop_front()
+    }
+}
+
+/// The phase tag after any number of posts is that of the number that a pair keeps of it.
+pub fn tag_after()
+    ensures { (depth posts : ℕ) → 0 < depth → phase_tag depth (posts % (2 * depth)) ≡ phase_tag depth posts }
+{}
