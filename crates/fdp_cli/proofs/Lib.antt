@@ -1,2 +1,5 @@
-pub mod Served
+pub mod Few
+pub mod Lacking
 pub mod Printed
+pub mod Served
+pub mod Shown

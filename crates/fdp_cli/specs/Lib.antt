@@ -1,2 +1,6 @@
+pub mod Asked
+pub mod Faults
+pub mod Found
 pub mod Serving
 pub mod Printing
+pub mod Top

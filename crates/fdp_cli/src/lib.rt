@@ -1,9 +1,18 @@
 //! The program over a bench and a sink: words in, a text and a status out.
 #![tactic(auto)]
 
+mod asked;
+mod fault;
+mod find;
 mod print;
 mod serving;
 mod sums;
+mod top;
 
+pub use fault::Fault;
 pub use print::{Cut, print_output};
 pub use serving::{ServeEnd, serve};
+pub use top::drive_top;
+
+#[cfg(test)]
+mod tests;

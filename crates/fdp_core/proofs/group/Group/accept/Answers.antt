@@ -28,7 +28,7 @@ returns g c =
     let well : old.failed ≡ false = subst (λ (s : Seen g.row.F.Denot). s.failed ≡ false) (sym c.self.view_is) c.requires.sound in
     let position : length old.log.entries + 1 ≡ length c.push.new.self.entries = sym (ap length c.push.ensures.entries_are ∙ length_push old.log.entries _) in
     let now : (state_of c.push.new.self.entries).going ≡ Some (record { number = c.args.number; command = c.args.command; ticket = (state_of old.log.entries).position + 1; is_placed = false }) =
-        ap (λ es. (state_of es).going) c.push.ensures.entries_are ∙ ap (λ (s : FixedState). s.going) (state_of-push old.log.entries (entries.Started 1 c.args.number c.args.command 0 0 true)) in
+    ap (λ es. (state_of es).going) c.push.ensures.entries_are ∙ ap (λ (s : FixedState). s.going) (state_of-push old.log.entries (entries.Started 1 c.args.number c.args.command 0 0 true)) in
     record {
       step = subst (λ (s : Seen g.row.F.Denot). Adds g.F.Flash.state s new (entries.Started 1 c.args.number c.args.command 0 0 true ∷ [])) c.self.view_is
           (adds g.F.Flash.state _ new _ _ _ _ _ (invariant_of-self g c) c.push.ensures (kept-same (g.F.Flash.state old.flash)) refl (λ wrong. absurd (false≢true (sym well ∙ wrong))) (λ _. refl));

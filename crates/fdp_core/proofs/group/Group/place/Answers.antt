@@ -45,9 +45,9 @@ returns-in-Ok g c going is_going =
     let well : old.failed ≡ false = subst (λ (s : Seen g.row.F.Denot). s.failed ≡ false) (sym c.self.view_is) c.requires.sound in
     let ticket = c.requires.ticket in
     let now : (state_of c.push.new.self.entries).going ≡ Some (record ticket.going { is_placed = true }) =
-        ap (λ es. (state_of es).going) c.push.ensures.entries_are
-        ∙ ap (λ (s : FixedState). s.going) (state_of-push old.log.entries (entries.Placed c.args.ticket.position 0 (old.programmed / 16) (old.programmed % 16)))
-        ∙ ap (option_map (λ (x : Going). record x { is_placed = true })) (subst (λ (s : Seen g.row.F.Denot). (state_of s.entries).going ≡ Some ticket.going) (sym c.self.view_is) ticket.going_is) in
+    ap (λ es. (state_of es).going) c.push.ensures.entries_are
+    ∙ ap (λ (s : FixedState). s.going) (state_of-push old.log.entries (entries.Placed c.args.ticket.position 0 (old.programmed / 16) (old.programmed % 16)))
+    ∙ ap (option_map (λ (x : Going). record x { is_placed = true })) (subst (λ (s : Seen g.row.F.Denot). (state_of s.entries).going ≡ Some ticket.going) (sym c.self.view_is) ticket.going_is) in
     record {
       unit = old.programmed / 16;
       page = old.programmed % 16;

@@ -1,0 +1,115 @@
+-- What a run shows.
+use Rattle.std.proofs.Common.{◌≡◌, ◌⊎◌, ℕ, ◌+◌, ◌*◌, ◌^◌, ◌≤◌, Bool, true, false, cond, IsTrue, List, [], ◌∷◌, ◌++◌, length, take, Some, None, Ok, Err, inl, inr, refl, ap, sym, ◌∙◌, subst, arith}
+use Rattle.std.proofs.lemmas.List.{append-nil, take_all}
+use Rattle.std.proofs.lemmas.List.Sums.{sum_by-cons}
+use Rattle.fdp_base.specs.declared.command.Command.{Command}
+use Rattle.fdp_base.specs.declared.command.Command.TheVariants as commands
+use Rattle.fdp_base.specs.declared.entry.Entry.{Entry}
+use Rattle.fdp_base.specs.declared.entry.Entry.TheVariants as entries
+use Rattle.fdp_base.specs.FixedDrive.{FixedState, Going, IsLegal, IsLegalFrom, IsServed, IsStep, after, output_of, state_of}
+use Rattle.fdp_base.specs.Queue.{completed, numbered}
+use Rattle.fdp_base.specs.Totals.{blocks_written, host_blocks, host_blocks_of, media_blocks, media_blocks_of}
+use Rattle.fdp_io.specs.Sink.{SinkState}
+use Rattle.fdp_core.specs.Seen.{Seen}
+use Rattle.fdp_flash.specs.FlashState.{FlashState}
+use Rattle.fdp_cli.specs.declared.print.Cut.{Cut}
+use Rattle.fdp_cli.specs.declared.print.Cut.TheVariants as cuts
+use Rattle.fdp_cli.specs.declared.serving.ServeEnd.{ServeEnd}
+use Rattle.fdp_cli.specs.declared.serving.ServeEnd.TheVariants as ends
+use Rattle.fdp_cli.specs.Printing.{HoldsSome, Prints}
+use Rattle.fdp_cli.specs.Serving.{IsIdleBelow, Serves, ServesFirst}
+use Rattle.fdp_cli.specs.Top.{Runs}
+
+none_is_some : (g : Going) → None ≡ Some g → ⊥
+none_is_some g e = cc
+
+told_true : (b : Bool) → IsTrue b → b ≡ true
+told_true b tells = tells
+
+-- no write is going at the start
+pub idle_fresh : (es : List Entry) → es ≡ [] → IsIdleBelow (state_of es) 0
+unfolding state_of
+idle_fresh es is g e = absurd (none_is_some g (sym (ap (λ xs. (state_of xs).going) is) ∙ e))
+
+-- nothing was served, and nothing printed
+pub nothing_shown : (s : SinkState) (trace : List Command) → Runs s s trace 7
+unfolding IsLegalFrom
+nothing_shown s trace = ([], tt, inr (inr (refl, (numbered trace, refl), record { count = 0; within = omega arith; front = λ told. sym (append-nil s.bytes) })))
+
+-- the trace was served, and a prefix of the output printed
+pub part_shown : (old new : SinkState) (trace : List Command) (es served : List Entry) (told : Bool) → IsTrue told → IsLegal told es → es ≡ served → completed 1 served ≡ numbered (take (length trace) trace) → HoldsSome old new (output_of es) → Runs old new trace 7
+part_shown old new trace es served told tells legal is whole some = (
+  es,
+  subst (λ b. IsLegal b es) (told_true told tells) legal,
+  inr (inr (refl, ([], sym (append-nil (completed 1 es) ∙ ap (completed 1) is ∙ whole ∙ ap numbered (take_all (length trace) trace (omega arith)))), some)),
+)
+
+small_write : (command : Command) → IsServed command → blocks_written command ≤ 1
+small_write (commands.Write nsid slba count dtype dspec payload) served = omega (arith, served.1)
+small_write (commands.Read nsid slba count) served = omega arith
+small_write (commands.Zero nsid slba count) served = omega arith
+small_write (commands.Dealloc nsid deallocate ranges) served = omega arith
+small_write (commands.Flush nsid) served = omega arith
+small_write (commands.Delete nsid) served = omega arith
+small_write (commands.Status nsid mo dwords) served = omega arith
+small_write (commands.Update nsid mo pids) served = omega arith
+small_write (commands.Log lid lsp group offset dwords) served = omega arith
+small_write (commands.SetFdp group enable index) served = omega arith
+small_write (commands.GetFdp group) served = omega arith
+small_write (commands.SetEvents nsid handle enable types) served = omega arith
+small_write (commands.Create size given list) served = omega arith
+small_write (commands.Other admin opcode flags feature) served = omega arith
+
+small_if : (b : Bool) (n : ℕ) → n ≤ 1 → (cond b n 0) ≤ 1
+small_if true n low = low
+small_if false n low = omega arith
+
+small_host : (told : Bool) (s : FixedState) (e : Entry) → IsStep told s e → host_blocks_of e ≤ 1
+small_host told s (entries.Host queue number command reply moment) step = small_if reply.applied (blocks_written command) (small_write command step.served)
+small_host told s (entries.Started queue number command rg ruh pid_valid) step = omega arith
+small_host told s (entries.Placed ticket index unit page) step = omega arith
+small_host told s (entries.Copied old new) step = omega arith
+small_host told s (entries.Moved rg blocks) step = omega arith
+small_host told s (entries.Erased unit) step = omega arith
+small_host told s (entries.Retired unit) step = omega arith
+small_host told s (entries.Aside unit) step = omega arith
+small_host told s (entries.Shut rg ruh) step = omega arith
+small_host told s (entries.Worn rg) step = omega arith
+small_host told s entries.Reopened step = omega arith
+
+small_media : (e : Entry) → media_blocks_of e ≤ 1
+small_media (entries.Host queue number command reply moment) = omega arith
+small_media (entries.Started queue number command rg ruh pid_valid) = omega arith
+small_media (entries.Placed ticket index unit page) = omega arith
+small_media (entries.Copied old new) = omega arith
+small_media (entries.Moved rg blocks) = omega arith
+small_media (entries.Erased unit) = omega arith
+small_media (entries.Retired unit) = omega arith
+small_media (entries.Aside unit) = omega arith
+small_media (entries.Shut rg ruh) = omega arith
+small_media (entries.Worn rg) = omega arith
+small_media entries.Reopened = omega arith
+
+few_host : (told : Bool) (s : FixedState) (es : List Entry) → IsLegalFrom told s es → host_blocks es ≤ length es
+unfolding IsLegalFrom
+few_host told s [] legal = omega arith
+few_host told s (e ∷ es) legal = omega (arith, small_host told s e legal.0, few_host told (after s e) es legal.1, sum_by-cons host_blocks_of e es)
+
+few_media : (es : List Entry) → media_blocks es ≤ length es
+few_media [] = omega arith
+few_media (e ∷ es) = omega (arith, small_media e, few_media es, sum_by-cons media_blocks_of e es)
+
+-- the sums of a short record are small
+pub small_host_sum : (told : Bool) (es shown : List Entry) (spent count : ℕ) → IsLegal told es → shown ≡ es → length shown ≤ 300 * spent + 1 → spent ≤ 3 * count → count ≤ 8192 → host_blocks shown ≤ 2 ^ 40
+small_host_sum told es shown spent count legal is few steps low = omega (arith, few_host told _ shown (subst (λ xs. IsLegal told xs) (sym is) legal), few, steps, low)
+
+pub small_media_sum : (shown : List Entry) (spent count : ℕ) → length shown ≤ 300 * spent + 1 → spent ≤ 3 * count → count ≤ 8192 → media_blocks shown ≤ 2 ^ 40
+small_media_sum shown spent count few steps low = omega (arith, few_media shown, few, steps, low)
+
+-- a trace that was served whole
+pub served_whole : {F : Type 0} (state : F → FlashState) (old new : Seen F) (trace : List Command) (end : ServeEnd) → end ≡ ends.Whole → Serves state old new trace (Ok end) → ServesFirst state old new trace (length trace) false
+served_whole state old new trace end is served = subst (λ e. Serves state old new trace (Ok e)) is served
+
+-- what was printed where memory was wanting
+pub printed_some : (old new : SinkState) (text : List ℕ) (cut : Cut) → cut ≡ cuts.NoMemory → Prints old new text (Err cut) → HoldsSome old new text
+printed_some old new text cut is prints = subst (λ e. Prints old new text (Err e)) is prints

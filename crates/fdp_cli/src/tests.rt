@@ -1,0 +1,185 @@
+use crate::drive_top;
+use fdp_io::{BenchMem, SinkMem};
+use std::alloc::{AllocError, Global};
+use std::test::Fail;
+
+/// What is asked for, the trace of the name `t`, the bench's and the sink's calls that fail, and the room of the sink.
+#[derive(Drop)]
+struct Run<'a> {
+    words: &'a [&'a str],
+    text: &'a [u8],
+    bench_fails: Option<u64>,
+    sink_fails: Option<u64>,
+    room: usize,
+}
+
+const RUN: [&str; 4] = ["run", "fixed", "blank", "t"];
+
+fn failing(alloc: Global, call: Option<u64>) -> Result<Vec<u64>, AllocError> {
+    let mut calls = Vec::new(alloc);
+    if let Some(call) = call {
+        calls.push(call)?;
+    }
+    Ok(calls)
+}
+
+/// Whether a run ends with a status, and its sink then holds a text.
+fn ends(alloc: Global, run: &Run, status: u8, output: &[u8]) -> Result<bool, AllocError> {
+    let mut words = Vec::new(alloc);
+    for word in run.words {
+        words.push(String::from_str(alloc, word)?)?;
+    }
+    let mut bench = BenchMem::new(alloc, failing(alloc, run.bench_fails)?);
+    bench.add(alloc, "t", run.text)?;
+    let mut sink = SinkMem::new(alloc, run.room, failing(alloc, run.sink_fails)?)?;
+    let ended = drive_top(alloc, &words, &mut bench, &mut sink);
+    Ok(ended == status && sink.bytes() == output)
+}
+
+/// Whether a trace on a fixed drive ends with a status and an output.
+fn serves(alloc: Global, text: &[u8], status: u8, output: &[u8]) -> Result<bool, AllocError> {
+    let run = Run {
+        words: &RUN,
+        text,
+        bench_fails: None,
+        sink_fails: None,
+        room: 65_536,
+    };
+    ends(alloc, &run, status, output)
+}
+
+/// Whether words on a bench with an empty trace end with a status and an output.
+fn asks(alloc: Global, words: &[&str], status: u8, output: &[u8]) -> Result<bool, AllocError> {
+    let run = Run {
+        words,
+        text: b"",
+        bench_fails: None,
+        sink_fails: None,
+        room: 65_536,
+    };
+    ends(alloc, &run, status, output)
+}
+
+const FIRST: &[u8] = b"write 1 0 1 7\nread 1 0 1\n";
+
+const FIRST_OUTPUT: &[u8] =
+    b"queue 1\n0 write 0/00 00000000\n1 read 0/00 00000000\n  00000007\nstats 512 512 0\n";
+
+#[test]
+fn a_block_reads_as_it_was_written(rt: HostRuntime) -> Result<(), Fail> {
+    assert!(rt; serves(rt.alloc(), FIRST, 0, FIRST_OUTPUT)?);
+    Ok(())
+}
+
+#[test]
+fn the_last_address_reads_as_zeros(rt: HostRuntime) -> Result<(), Fail> {
+    let output = b"queue 1\n0 read 0/00 00000000\n  00000000\n1 read 0/80 00000000\nstats 0 0 0\n";
+    assert!(rt; serves(rt.alloc(), b"read 1 15 1\nread 1 16 1\n", 0, output)?);
+    Ok(())
+}
+
+#[test]
+fn the_write_behind_the_last_page_is_refused(rt: HostRuntime) -> Result<(), Fail> {
+    let alloc = rt.alloc();
+    let mut text = Vec::new(alloc);
+    let mut output = Vec::new(alloc);
+    output.extend_from_slice(b"queue 1\n")?;
+    for value in 0..65 {
+        text.extend_from_slice(format!(in alloc; "write 1 0 1 {value}\n")?.as_bytes())?;
+        let status = if value < 64 { "0/00" } else { "0/81" };
+        let line = format!(in alloc; "{value} write {status} 00000000\n")?;
+        output.extend_from_slice(line.as_bytes())?;
+    }
+    output.extend_from_slice(b"stats 32768 32768 0\n")?;
+    assert!(rt; serves(alloc, &text, 0, &output)?);
+    Ok(())
+}
+
+#[test]
+fn traces_are_read_or_refused(rt: HostRuntime) -> Result<(), Fail> {
+    let alloc = rt.alloc();
+    let none = b"queue 1\nstats 0 0 0\n";
+    let absent = b"fault 10 not-built\n";
+    assert!(rt; serves(alloc, b"", 0, none)?);
+    assert!(rt; serves(alloc, b"# nothing\n \n", 0, none)?);
+    assert!(rt; serves(alloc, b"flush 1\n", 10, absent)?);
+    assert!(rt; serves(alloc, b"read 2 0 1\n", 10, absent)?);
+    assert!(rt; serves(alloc, b"read 1 0 2\n", 10, absent)?);
+    assert!(rt; serves(alloc, b"write 1 0 1 7 pid 0\n", 10, absent)?);
+    assert!(rt;
+        serves(
+            alloc,
+            b"write 1 0 1 7\nwrite 1 0 0 7\n",
+            3,
+            b"fault 3 trace 1 line 2 range\n"
+        )?
+    );
+    assert!(rt;
+        serves(
+            alloc,
+            b"write 1 00 1 7\n",
+            3,
+            b"fault 3 trace 1 line 1 number\n"
+        )?
+    );
+    assert!(rt; serves(alloc, b"write  1 0 1 7\r\nread 1 0 1", 0, FIRST_OUTPUT)?);
+    Ok(())
+}
+
+#[test]
+fn words_are_read_or_refused(rt: HostRuntime) -> Result<(), Fail> {
+    let alloc = rt.alloc();
+    let usage = b"fault 1 usage\n";
+    assert!(rt; asks(alloc, &[], 1, usage)?);
+    assert!(rt; asks(alloc, &["run", "fixed", "blank"], 1, usage)?);
+    assert!(rt; asks(alloc, &["run", "fixed", "blank", "t", "t"], 1, usage)?);
+    assert!(rt; asks(alloc, &["serve", "fixed", "blank", "t"], 1, usage)?);
+    assert!(rt; asks(alloc, &["run", "fixed", "blank", "-t"], 1, usage)?);
+    assert!(rt; asks(alloc, &["run", "-fixed", "blank", "t"], 1, usage)?);
+    assert!(rt;
+        asks(
+            alloc,
+            &["run", "drive", "blank", "t"],
+            10,
+            b"fault 10 not-built\n"
+        )?
+    );
+    assert!(rt;
+        asks(
+            alloc,
+            &["run", "fixed", "image", "t"],
+            10,
+            b"fault 10 not-built\n"
+        )?
+    );
+    assert!(rt;
+        asks(
+            alloc,
+            &["run", "fixed", "blank", "u"],
+            3,
+            b"fault 3 trace 1 absent\n"
+        )?
+    );
+    Ok(())
+}
+
+#[test]
+fn failed_calls_are_told(rt: HostRuntime) -> Result<(), Fail> {
+    let alloc = rt.alloc();
+    let mut run = Run {
+        words: &RUN,
+        text: FIRST,
+        bench_fails: Some(1),
+        sink_fails: None,
+        room: 65_536,
+    };
+    assert!(rt; ends(alloc, &run, 6, b"fault 6 source\n")?);
+    run.sink_fails = Some(1);
+    assert!(rt; ends(alloc, &run, 8, b"")?);
+    run.bench_fails = None;
+    assert!(rt; ends(alloc, &run, 8, b"")?);
+    run.sink_fails = None;
+    run.room = 10;
+    assert!(rt; ends(alloc, &run, 8, b"queue 1\n0 ")?);
+    Ok(())
+}
