@@ -1,5 +1,4 @@
-use Rattle.std.proofs.Common.{◌+◌, ◌*◌, ◌++◌, ◌∷◌, [], codes, ap, sym, ◌∙◌, append_assoc, flat_map, drop, decimal, arith}
-use Rattle.std.proofs.lemmas.List.{append-nil}
+use Rattle.std.proofs.Common.{◌*◌, ◌++◌, ◌∷◌, [], codes, ap, sym, ◌∙◌, append_assoc, flat_map, decimal, arith}
 use Rattle.fdp_base.specs.FixedDrive.{output_of}
 use Rattle.fdp_base.specs.Output.{completion_of, stats_line}
 use Rattle.fdp_base.specs.Text.{line}
