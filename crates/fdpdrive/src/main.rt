@@ -10,6 +10,7 @@ use std::{env, io};
 fn main(rt: HostRuntime) -> ExitCode {
     let words = match words(&rt) {
         Ok(words) => words,
+        Err(error) if error.kind() == io::ErrorKind::OutOfMemory => return ExitCode::from(7),
         Err(_) => Vec::new(rt.alloc()),
     };
     let mut bench = BenchFile::new(&rt);
