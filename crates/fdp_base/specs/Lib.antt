@@ -27,6 +27,7 @@ pub mod History
 pub mod Step
 pub mod Next
 pub mod Legal
+pub mod Applied
 pub mod LastWrite
 pub mod Seats
 pub mod RunOutput
