@@ -5,21 +5,8 @@ use Rattle.fdp_base.specs.declared.entry.Entry.{Entry}
 use Rattle.fdp_base.specs.declared.entry.Entry.TheVariants as entries
 use Rattle.fdp_base.specs.declared.recorded.Mark.{Mark}
 use Rattle.fdp_base.specs.History.{Found}
+use Rattle.fdp_base.specs.Queue.{starting_queue}
 use Rattle.fdp_base.specs.Totals.{erases_of, host_blocks_of, media_blocks_of}
-
--- the queue in which an entry lets a write go, 0 for another entry
-abbrev pub starting_queue : Entry → ℕ
-starting_queue (entries.Host queue number command reply moment) = 0
-starting_queue (entries.Started queue number command rg ruh pid_valid) = queue
-starting_queue (entries.Placed ticket index unit page) = 0
-starting_queue (entries.Copied old new) = 0
-starting_queue (entries.Moved rg blocks) = 0
-starting_queue (entries.Erased unit) = 0
-starting_queue (entries.Retired unit) = 0
-starting_queue (entries.Aside unit) = 0
-starting_queue (entries.Shut rg ruh) = 0
-starting_queue (entries.Worn rg) = 0
-starting_queue entries.Reopened = 0
 
 -- the queue of the write with this ticket, which is the position of its Started entry
 abbrev pub queue_of_ticket : Found → List Entry → ℕ → ℕ
