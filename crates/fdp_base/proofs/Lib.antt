@@ -1,2 +1,4 @@
 pub mod FixedHistory
+pub mod Pushes
+pub mod LastWrites
 pub mod Records

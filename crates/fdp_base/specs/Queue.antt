@@ -1,5 +1,5 @@
 -- The order of a queue's commands in a history.
-use Rattle.std.specs.Prelude.{◌≡◌, ℕ, List, ◌++◌, Option, Some, None, nat_eq, if◌then◌else◌, filter_map}
+use Rattle.std.specs.Prelude.{◌≡◌, ◌≢◌, ℕ, All, List, [], ◌++◌, Option, Some, None, nat_eq, if◌then◌else◌, filter_map}
 use Rattle.std.specs.List.{enumerate_from}
 use Rattle.fdp_base.specs.declared.command.Command.{Command}
 use Rattle.fdp_base.specs.declared.entry.Entry.{Entry}
@@ -34,3 +34,22 @@ KeepsQueueOrder queue trace es = (rest : List (ℕ × Command)) × (numbered tra
 -- a queue has completed its whole trace, in order, each command once
 abbrev pub HoldsWhole : ℕ → List Command → List Entry → Type 0
 HoldsWhole queue trace es = completed queue es ≡ numbered trace
+
+-- the queue in which an entry lets a write go, 0 for another entry
+abbrev pub starting_queue : Entry → ℕ
+starting_queue (entries.Host queue number command reply moment) = 0
+starting_queue (entries.Started queue number command rg ruh pid_valid) = queue
+starting_queue (entries.Placed ticket index unit page) = 0
+starting_queue (entries.Copied old new) = 0
+starting_queue (entries.Moved rg blocks) = 0
+starting_queue (entries.Erased unit) = 0
+starting_queue (entries.Retired unit) = 0
+starting_queue (entries.Aside unit) = 0
+starting_queue (entries.Shut rg ruh) = 0
+starting_queue (entries.Worn rg) = 0
+starting_queue entries.Reopened = 0
+
+-- a queue without a trace completes nothing, and lets no write go
+pub record IsSilent (queue : ℕ) (es : List Entry) : Type 0 where
+  pub completes : completed queue es ≡ []
+  pub starts : All (λ e. starting_queue e ≢ queue) es

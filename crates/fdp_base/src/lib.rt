@@ -6,6 +6,7 @@ mod config;
 mod entry;
 mod event;
 mod fixed;
+mod laws;
 mod payload;
 mod recorded;
 mod sequence;
@@ -18,6 +19,10 @@ pub use config::{Class, DriveConfig, Geometry, NamespaceConfig};
 pub use entry::{BlockName, Entry, Reply, Spot, Totals};
 pub use event::{Event, EventKind};
 pub use fixed::{FIXED_BLOCKS, FIXED_PAGES};
+pub use laws::{
+    history_grows_by_steps, history_is_summed_up, only_commands_change_data,
+    reads_give_the_last_write,
+};
 pub use payload::Payload;
 pub use recorded::{Mark, Recorded, Snapshot};
 pub use sequence::{BlockNames, Bytes, Classes, EventTypes, HandleList, Pids, Ranges, Sequence};
