@@ -14,7 +14,7 @@ use Rattle.fdp_base.proofs.FixedHistory.{state_of-push}
 use Rattle.fdp_flash.specs.FlashState.{FlashState}
 use Rattle.fdp_core.specs.declared.answer.Done.{Done}
 use Rattle.fdp_core.specs.declared.answer.Ticket.{Ticket}
-use Rattle.fdp_core.specs.Seen.{Completes, Grows, Matches, PlacesPage, Seen, Starts}
+use Rattle.fdp_core.specs.Seen.{Completes, Grows, HoldsHistory, Matches, PlacesPage, Seen, Starts}
 use Rattle.fdp_core.proofs.Grown.{grows-joined, grows-none, grows-step}
 use Rattle.fdp_cli.specs.Serving.{EndsWrite, IsIdleBelow, ServesFirst, ServesOne}
 
@@ -39,7 +39,7 @@ one_going going g h p q = cc
 pub grows-reserved : {F : Type 0} (state : F → FlashState) (old mid new : Seen F) (es : List Entry) → mid ≡ record old { spare = mid.spare } → Grows state mid new es → Grows state old new es
 grows-reserved state old mid new es same h =
     let k = subst (λ (s : Seen _). Grows state s new es) same h in
-    record { entries_are = k.entries_are; legal = k.legal; flash_is = k.flash_is }
+    record { entries_are = k.entries_are; legal = k.legal; flash_is = k.flash_is; cells = k.cells }
 
 -- the first step of a command completed it
 pub ends_at_once : {F : Type 0} (state : F → FlashState) (old mid new : Seen F) (number : ℕ) (command : Command) (done : Done) →
@@ -116,7 +116,7 @@ numbered-more trace n command low is =
 pub first-none : {F : Type 0} (state : F → FlashState) (old : Seen F) (trace : List Command) → old.failed ≡ false → ServesFirst state old old trace 0 false
 first-none state old trace well = record {
   es = [];
-  grown = grows-none state old old refl refl well;
+  grown = grows-none state old well;
   completes = refl;
   steps = omega arith;
   well = well;
@@ -141,6 +141,7 @@ first-reserved state old mid new trace n p same = record {
     entries_are = ap (λ (s : Seen _). s.entries) same ∙ p.grown.entries_are;
     legal = λ legal. subst (λ (s : Seen _). IsLegal (state s.flash).told s.entries) (sym same) (p.grown.legal legal);
     flash_is = subst (λ (s : Seen _). Matches (state old.flash) (state s.flash) p.es s.failed) (sym same) p.grown.flash_is;
+    cells = λ held. subst (λ (s : Seen _). HoldsHistory (state s.flash) s.entries s.failed) (sym same) (p.grown.cells held);
   };
   completes = p.completes;
   steps = omega (arith, p.steps, ap (λ (s : Seen _). s.spent) same);
