@@ -26,19 +26,8 @@ use Rattle.fdp_cli.specs.declared.print.Cut.TheVariants as cuts
 use Rattle.fdp_cli.specs.declared.serving.ServeEnd.{ServeEnd}
 use Rattle.fdp_cli.specs.declared.serving.ServeEnd.TheVariants as ends
 use Rattle.fdp_cli.specs.Printing.{HoldsSome, Prints}
-use Rattle.fdp_cli.specs.Serving.{IsIdleBelow, Serves, ServesFirst}
+use Rattle.fdp_cli.specs.Serving.{Serves, ServesFirst}
 use Rattle.fdp_cli.specs.Session.{IsFresh, IsRecordOf}
-
-none_is_some : (g : Going) → None ≡ Some g → ⊥
-none_is_some g e = cc
-
-told_true : (b : Bool) → IsTrue b → b ≡ true
-told_true b tells = tells
-
--- no write is going at the start
-pub idle_fresh : (es : List Entry) → es ≡ [] → IsIdleBelow (state_of es) 0
-unfolding state_of
-idle_fresh es is g e = absurd (none_is_some g (sym (ap (λ xs. (state_of xs).going) is) ∙ e))
 
 -- a small count of 64 bits counts each of so many
 small_count : (n : ℕ) → n ≤ 2 ^ 40 → counted_more 0 n ≡ n
