@@ -1,5 +1,5 @@
 -- What a run shows.
-use Rattle.std.proofs.Common.{◌≡◌, ℕ, ◌+◌, ◌*◌, ◌^◌, ◌≤◌, Bool, true, false, cond, IsTrue, List, [], ◌∷◌, length, take, Some, None, Ok, Err, inr, refl, ap, sym, ◌∙◌, subst, arith, zero, suc, ◌++◌, replicate}
+use Rattle.std.proofs.Common.{◌≡◌, ℕ, ◌+◌, ◌*◌, ◌^◌, ◌≤◌, Bool, true, false, cond, IsTrue, List, [], ◌∷◌, length, Ok, Err, refl, ap, sym, ◌∙◌, subst, arith, zero, suc, ◌++◌, replicate}
 use Rattle.std.specs.List.{list_any}
 use Rattle.std.proofs.lemmas.List.{take_all}
 use Rattle.std.proofs.lemmas.List.Sums.{sum_by-cons}
@@ -8,7 +8,7 @@ use Rattle.fdp_base.specs.declared.command.Command.TheVariants as commands
 use Rattle.fdp_base.specs.declared.config.TheConstants.Geometry.{FIXED}
 use Rattle.fdp_base.specs.declared.entry.Entry.{Entry}
 use Rattle.fdp_base.specs.declared.entry.Entry.TheVariants as entries
-use Rattle.fdp_base.specs.FixedDrive.{FixedState, Going, IsLegal, IsLegalFrom, IsServed, IsStep, after, output_of, state_of}
+use Rattle.fdp_base.specs.FixedDrive.{FixedState, IsLegal, IsLegalFrom, IsServed, IsStep, after}
 use Rattle.fdp_base.specs.Queue.{completed, numbered}
 use Rattle.fdp_base.specs.Totals.{blocks_written, host_blocks, host_blocks_of, media_blocks, media_blocks_of}
 use Rattle.fdp_io.specs.Sink.{HoldsFront, SinkState}

@@ -1,9 +1,9 @@
 -- What serving a trace does to the history of a group.
-use Rattle.std.specs.Prelude.{◌≡◌, ℕ, ◌+◌, ◌*◌, ◌≤◌, ◌<◌, Bool, true, false, List, [], ◌∷◌, length, take, Some, Result, Ok, Err}
+use Rattle.std.specs.Prelude.{◌≡◌, ℕ, ◌+◌, ◌*◌, ◌≤◌, Bool, true, false, List, [], ◌∷◌, length, take, Result, Ok, Err}
 use Rattle.std.specs.declared.alloc.AllocError.{AllocError}
 use Rattle.fdp_base.specs.declared.command.Command.{Command}
 use Rattle.fdp_base.specs.declared.entry.Entry.{Entry}
-use Rattle.fdp_base.specs.FixedDrive.{FixedState, Going, state_of}
+use Rattle.fdp_base.specs.FixedDrive.{Going, state_of}
 use Rattle.fdp_base.specs.Queue.{completed, numbered}
 use Rattle.fdp_flash.specs.FlashState.{FlashState}
 use Rattle.fdp_core.specs.Idle.{IsIdleBelow}
