@@ -1,5 +1,5 @@
 -- What a run shows.
-use Rattle.std.proofs.Common.{◌≡◌, ℕ, ◌+◌, ◌*◌, ◌^◌, ◌≤◌, Bool, true, false, cond, IsTrue, List, [], ◌∷◌, length, take, Some, None, Ok, Err, inr, refl, ap, sym, ◌∙◌, subst, arith, zero, suc, ◌++◌, replicate}
+use Rattle.std.proofs.Common.{◌≡◌, ℕ, ◌+◌, ◌*◌, ◌^◌, ◌≤◌, Bool, true, false, cond, IsTrue, List, [], ◌∷◌, length, Ok, Err, refl, ap, sym, ◌∙◌, subst, arith, zero, suc, ◌++◌, replicate}
 use Rattle.std.specs.List.{list_any}
 use Rattle.std.proofs.lemmas.List.{take_all}
 use Rattle.std.proofs.lemmas.List.Sums.{sum_by-cons}
@@ -8,7 +8,7 @@ use Rattle.fdp_base.specs.declared.command.Command.TheVariants as commands
 use Rattle.fdp_base.specs.declared.config.TheConstants.Geometry.{FIXED}
 use Rattle.fdp_base.specs.declared.entry.Entry.{Entry}
 use Rattle.fdp_base.specs.declared.entry.Entry.TheVariants as entries
-use Rattle.fdp_base.specs.FixedDrive.{FixedState, Going, IsLegal, IsLegalFrom, IsServed, IsStep, after, output_of, state_of}
+use Rattle.fdp_base.specs.FixedDrive.{FixedState, IsLegal, IsLegalFrom, IsServed, IsStep, after}
 use Rattle.fdp_base.specs.Queue.{completed, numbered}
 use Rattle.fdp_base.specs.Totals.{blocks_written, host_blocks, host_blocks_of, media_blocks, media_blocks_of}
 use Rattle.fdp_io.specs.Sink.{HoldsFront, SinkState}
@@ -26,19 +26,8 @@ use Rattle.fdp_cli.specs.declared.print.Cut.TheVariants as cuts
 use Rattle.fdp_cli.specs.declared.serving.ServeEnd.{ServeEnd}
 use Rattle.fdp_cli.specs.declared.serving.ServeEnd.TheVariants as ends
 use Rattle.fdp_cli.specs.Printing.{HoldsSome, Prints}
-use Rattle.fdp_cli.specs.Serving.{IsIdleBelow, Serves, ServesFirst}
+use Rattle.fdp_cli.specs.Serving.{Serves, ServesFirst}
 use Rattle.fdp_cli.specs.Session.{IsFresh, IsRecordOf}
-
-none_is_some : (g : Going) → None ≡ Some g → ⊥
-none_is_some g e = cc
-
-told_true : (b : Bool) → IsTrue b → b ≡ true
-told_true b tells = tells
-
--- no write is going at the start
-pub idle_fresh : (es : List Entry) → es ≡ [] → IsIdleBelow (state_of es) 0
-unfolding state_of
-idle_fresh es is g e = absurd (none_is_some g (sym (ap (λ xs. (state_of xs).going) is) ∙ e))
 
 -- a small count of 64 bits counts each of so many
 small_count : (n : ℕ) → n ≤ 2 ^ 40 → counted_more 0 n ≡ n

@@ -1,5 +1,5 @@
 -- One group on its flash, from the blank flash to the end of a trace.
-use Rattle.std.specs.Prelude.{◌≡◌, ℕ, false, true, IsTrue, List, replicate, Ok}
+use Rattle.std.specs.Prelude.{◌≡◌, false, true, IsTrue, List, replicate, Ok}
 use Rattle.std.specs.List.{list_any}
 use Rattle.fdp_base.specs.declared.command.Command.{Command}
 use Rattle.fdp_base.specs.declared.config.TheConstants.Geometry.{FIXED}

@@ -20,7 +20,6 @@ use Rattle.fdp_core.specs.declared.room.Replies.{Replies}
 use Rattle.fdp_core.specs.Logged.{Logged, IsLonger}
 use Rattle.fdp_core.specs.Media.{IsReadFrom, ReadsBlock}
 use Rattle.fdp_core.specs.Replies.{read_reply}
-use Rattle.fdp_core.specs.Pages.{cells_of}
 use Rattle.fdp_core.specs.Seen.{Adds, Completes, IsKept, Seen, counted_more, tells_failure}
 use Rattle.fdp_core.specs.Sound.{IsSound}
 

@@ -1,5 +1,5 @@
 -- Steps that follow one another.
-use Rattle.std.proofs.Common.{◌≡◌, ℕ, zero, suc, ◌+◌, ◌≤◌, Bool, true, false, ◌||◌, List, [], ◌++◌, refl, ap, sym, ◌∙◌, subst, append_assoc, arith, IsTrue}
+use Rattle.std.proofs.Common.{◌≡◌, ℕ, zero, suc, ◌+◌, ◌≤◌, false, ◌||◌, List, [], ◌++◌, refl, ap, sym, ◌∙◌, append_assoc, arith}
 use Rattle.std.specs.List.{list_any}
 use Rattle.std.proofs.lemmas.Bool.{false≢true}
 use Rattle.std.proofs.lemmas.List.Folds.{list_any-append}
@@ -7,10 +7,9 @@ use Rattle.std.proofs.lemmas.List.{append-nil}
 use Rattle.std.proofs.lemmas.List.Sums.{sum_by-append}
 use Rattle.fdp_base.specs.declared.entry.Entry.{Entry}
 use Rattle.fdp_base.specs.Counts.{counted}
-use Rattle.fdp_base.specs.FixedDrive.{IsLegal}
 use Rattle.fdp_base.specs.Totals.{media_blocks, media_blocks_of}
 use Rattle.fdp_flash.specs.FlashState.{FlashState, Faulted}
-use Rattle.fdp_core.specs.Seen.{Adds, Grows, IsKept, Matches, Seen, counted_more, tells_failure}
+use Rattle.fdp_core.specs.Seen.{Adds, Grows, IsKept, Seen, counted_more, tells_failure}
 use Rattle.fdp_core.proofs.Added.{kept-same}
 
 counted_more-add : (p a b : ℕ) → counted_more (counted_more p a) b ≡ counted_more p (a + b)

@@ -1,6 +1,7 @@
 use Rattle.std.proofs.Common.{length, refl, ap, inl, inr, arith}
 use Rattle.fdp_core.specs.Seen.{Seen}
-use Rattle.fdp_cli.proofs.Shown.{idle_fresh, printed_front, printed_some, recorded, served_whole, small_host_sum, small_media_sum}
+use Rattle.fdp_core.proofs.Idle.{idle_fresh}
+use Rattle.fdp_cli.proofs.Shown.{printed_front, printed_some, recorded, served_whole, small_host_sum, small_media_sum}
 use Rattle.fdp_cli.proofs.top.run.Goals as goal
 
 pub serve-requires-clause-idle : goal.serve-requires-clause-idle
