@@ -1,45 +1,27 @@
 -- The steps of one command, joined.
-use Rattle.std.proofs.Common.{◌≡◌, ℕ, suc, ◌+◌, get_or, take, length-take, ◌<◌, Bool, true, false, cond, List, [], ◌∷◌, ◌++◌, length, refl, ap, sym, ◌∙◌, subst, arith, append_assoc, Some, None, Option}
-use Rattle.std.specs.Option.{option_map}
+use Rattle.std.proofs.Common.{◌≡◌, ℕ, suc, ◌+◌, get_or, take, length-take, ◌<◌, Bool, true, false, List, [], ◌∷◌, ◌++◌, length, refl, ap, sym, ◌∙◌, subst, arith, Some}
 use Rattle.std.specs.List.{enumerate_from}
 use Rattle.std.proofs.lemmas.List.{take_more}
 use Rattle.std.proofs.lemmas.List.Elements.{filter_map-append}
 use Rattle.fdp_base.specs.declared.command.Command.{Command}
 use Rattle.fdp_base.specs.declared.entry.Entry.{Entry}
 use Rattle.fdp_base.specs.declared.entry.Entry.TheVariants as entries
-use Rattle.fdp_base.specs.declared.entry.Reply.{Reply}
-use Rattle.fdp_base.specs.FixedDrive.{FixedState, Going, IsLegal, is_write, state_of}
+use Rattle.fdp_base.specs.FixedDrive.{Going, IsLegal, state_of}
 use Rattle.fdp_base.specs.Queue.{completed, completed_by, numbered}
-use Rattle.fdp_base.proofs.FixedHistory.{state_of-push}
 use Rattle.fdp_flash.specs.FlashState.{FlashState}
 use Rattle.fdp_core.specs.declared.answer.Done.{Done}
 use Rattle.fdp_core.specs.declared.answer.Ticket.{Ticket}
-use Rattle.fdp_core.specs.Seen.{Completes, Grows, Matches, PlacesPage, Seen, Starts}
+use Rattle.fdp_core.specs.Seen.{Completes, Grows, HoldsHistory, Matches, PlacesPage, Seen, Starts}
+use Rattle.fdp_core.specs.Idle.{IsIdleBelow}
+use Rattle.fdp_core.proofs.Idle.{going-placed, going-started, idle-completed, idle-shut, idle_going, idle_more}
 use Rattle.fdp_core.proofs.Grown.{grows-joined, grows-none, grows-step}
-use Rattle.fdp_cli.specs.Serving.{EndsWrite, IsIdleBelow, ServesFirst, ServesOne}
-
--- a write that is no longer going
-below_forgotten : (b : Bool) (going : Option Going) (k : ℕ) → ((g : Going) → going ≡ Some g → g.number < k) → (g : Going) → cond b None going ≡ Some g → g.number < k
-below_forgotten true going k below g e = absurd (cc)
-below_forgotten false going k below g e = below g e
-
--- the end of a command starts no write
-idle-host : (es es' : List Entry) (number : ℕ) (command : Command) (reply : Reply) (moment k : ℕ) → es' ≡ es ++ entries.Host 1 number command reply moment ∷ [] → IsIdleBelow (state_of es) k → IsIdleBelow (state_of es') k
-idle-host es es' number command reply moment k es_is idle g e =
-    below_forgotten (is_write command) (state_of es).going k idle g
-    (sym (ap (λ xs. (state_of xs).going) es_is ∙ ap (λ (s : FixedState). s.going) (state_of-push es (entries.Host 1 number command reply moment))) ∙ e)
-
-idle_more : (s : FixedState) (k : ℕ) → IsIdleBelow s k → IsIdleBelow s (k + 1)
-idle_more s k idle g e = let low = idle g e in omega arith
-
-one_going : (going : Option Going) (g h : Going) → going ≡ Some g → going ≡ Some h → g ≡ h
-one_going going g h p q = cc
+use Rattle.fdp_cli.specs.Serving.{EndsWrite, ServesFirst, ServesOne}
 
 -- the memory that was reserved is not seen
 pub grows-reserved : {F : Type 0} (state : F → FlashState) (old mid new : Seen F) (es : List Entry) → mid ≡ record old { spare = mid.spare } → Grows state mid new es → Grows state old new es
 grows-reserved state old mid new es same h =
     let k = subst (λ (s : Seen _). Grows state s new es) same h in
-    record { entries_are = k.entries_are; legal = k.legal; flash_is = k.flash_is }
+    record { entries_are = k.entries_are; legal = k.legal; flash_is = k.flash_is; cells = k.cells }
 
 -- the first step of a command completed it
 pub ends_at_once : {F : Type 0} (state : F → FlashState) (old mid new : Seen F) (number : ℕ) (command : Command) (done : Done) →
@@ -50,39 +32,32 @@ ends_at_once state old mid new number command done same idle h = record {
   completes = refl;
   steps = omega (arith, h.step.spent_is, ap (λ (s : Seen _). s.spent) same);
   idle = idle_more (state_of new.entries) number
-      (idle-host old.entries new.entries number command done.reply done.moment number (h.step.entries_are ∙ ap (λ (s : Seen _). s.entries ++ entries.Host 1 number command done.reply done.moment ∷ []) same) idle);
+      (idle-completed state mid new number number command done h (subst (λ (s : Seen _). IsIdleBelow (state_of s.entries) number) (sym same) idle));
 }
 
 -- the write ended when its handle was shut
 pub ends_shut : {F : Type 0} (state : F → FlashState) (old new : Seen F) (g : Going) (done : Done) → (state_of old.entries).going ≡ Some g → Completes state old new g.number g.command (entries.Shut 0 0 ∷ []) done → EndsWrite state old new g
-ends_shut state old new g done going h =
-    let shut : List Entry = old.entries ++ entries.Shut 0 0 ∷ [] in
-    let still : (state_of shut).going ≡ Some g = ap (λ (s : FixedState). s.going) (state_of-push old.entries (entries.Shut 0 0)) ∙ going in
-    record {
-      es = entries.Shut 0 0 ∷ entries.Host 1 g.number g.command done.reply done.moment ∷ [];
-      grown = grows-step state old new _ h.step;
-      completes = refl;
-      steps = omega (arith, h.step.spent_is);
-      idle = idle-host shut new.entries g.number g.command done.reply done.moment (g.number + 1)
-          (h.step.entries_are ∙ sym (append_assoc old.entries (entries.Shut 0 0 ∷ []) (entries.Host 1 g.number g.command done.reply done.moment ∷ [])))
-          (λ w e. omega (arith, ap (λ (x : Going). x.number) (one_going (state_of shut).going w g e still)));
-    }
+ends_shut state old new g done going h = record {
+  es = entries.Shut 0 0 ∷ entries.Host 1 g.number g.command done.reply done.moment ∷ [];
+  grown = grows-step state old new _ h.step;
+  completes = refl;
+  steps = omega (arith, h.step.spent_is);
+  idle = idle-shut state old new g done going h;
+}
 
 -- the page of the write was placed, and the write committed
 pub ends_committed : {F : Type 0} (state : F → FlashState) (old mid new : Seen F) (ticket next : Ticket) (g : Going) (done : Done) → (state_of old.entries).going ≡ Some g →
     PlacesPage state old mid ticket next → ((w : Going) → (state_of mid.entries).going ≡ Some w → Completes state mid new w.number w.command [] done) → EndsWrite state old new g
 ends_committed state old mid new ticket next g done going p h =
     let placed : Entry = entries.Placed ticket.position 0 p.unit p.page in
-    let still : (state_of mid.entries).going ≡ Some (record g { is_placed = true }) =
-    ap (λ xs. (state_of xs).going) p.step.entries_are ∙ ap (λ (s : FixedState). s.going) (state_of-push old.entries placed) ∙ ap (option_map (λ (x : Going). record x { is_placed = true })) going in
+    let still = going-placed state old mid ticket next g going p in
     let k = h (record g { is_placed = true }) still in
     record {
       es = placed ∷ entries.Host 1 g.number g.command done.reply done.moment ∷ [];
       grown = grows-joined state old mid new (placed ∷ []) (entries.Host 1 g.number g.command done.reply done.moment ∷ []) (grows-step state old mid _ p.step) p.well (grows-step state mid new _ k.step);
       completes = refl;
       steps = omega (arith, p.step.spent_is, k.step.spent_is);
-      idle = idle-host mid.entries new.entries g.number g.command done.reply done.moment (g.number + 1) k.step.entries_are
-          (λ w e. omega (arith, ap (λ (x : Going). x.number) (one_going (state_of mid.entries).going w (record g { is_placed = true }) e still)));
+      idle = idle-completed state mid new g.number (g.number + 1) g.command done k (idle_going (state_of mid.entries) (record g { is_placed = true }) still);
     }
 
 -- a write was started, and ended
@@ -90,9 +65,7 @@ pub ends_started : {F : Type 0} (state : F → FlashState) (old mid started new 
     mid ≡ record old { spare = mid.spare } → Starts state mid started number command ticket → ((g : Going) → (state_of started.entries).going ≡ Some g → EndsWrite state started new g) → ServesOne state old new number command
 ends_started state old mid started new number command ticket same h ends =
     let start : Entry = entries.Started 1 number command 0 0 true in
-    let going : (state_of started.entries).going ≡ Some (record { number = number; command = command; ticket = (state_of mid.entries).position + 1; is_placed = false }) =
-    ap (λ xs. (state_of xs).going) h.step.entries_are ∙ ap (λ (s : FixedState). s.going) (state_of-push mid.entries start) in
-    let e = ends _ going in
+    let e = ends _ (going-started state mid started number command ticket h) in
     record {
       es = start ∷ e.es;
       grown = grows-reserved state old mid new _ same (grows-joined state mid started new (start ∷ []) e.es (grows-step state mid started _ h.step) h.well e.grown);
@@ -116,7 +89,7 @@ numbered-more trace n command low is =
 pub first-none : {F : Type 0} (state : F → FlashState) (old : Seen F) (trace : List Command) → old.failed ≡ false → ServesFirst state old old trace 0 false
 first-none state old trace well = record {
   es = [];
-  grown = grows-none state old old refl refl well;
+  grown = grows-none state old well;
   completes = refl;
   steps = omega arith;
   well = well;
@@ -141,6 +114,7 @@ first-reserved state old mid new trace n p same = record {
     entries_are = ap (λ (s : Seen _). s.entries) same ∙ p.grown.entries_are;
     legal = λ legal. subst (λ (s : Seen _). IsLegal (state s.flash).told s.entries) (sym same) (p.grown.legal legal);
     flash_is = subst (λ (s : Seen _). Matches (state old.flash) (state s.flash) p.es s.failed) (sym same) p.grown.flash_is;
+    cells = λ held. subst (λ (s : Seen _). HoldsHistory (state s.flash) s.entries s.failed) (sym same) (p.grown.cells held);
   };
   completes = p.completes;
   steps = omega (arith, p.steps, ap (λ (s : Seen _). s.spent) same);

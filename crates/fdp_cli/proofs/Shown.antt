@@ -1,48 +1,77 @@
 -- What a run shows.
-use Rattle.std.proofs.Common.{◌≡◌, ℕ, ◌+◌, ◌*◌, ◌^◌, ◌≤◌, Bool, true, false, cond, IsTrue, List, [], ◌∷◌, length, take, Some, None, Ok, Err, inr, refl, ap, sym, ◌∙◌, subst, arith}
-use Rattle.std.proofs.lemmas.List.{append-nil, take_all}
+use Rattle.std.proofs.Common.{◌≡◌, ℕ, ◌+◌, ◌*◌, ◌^◌, ◌≤◌, Bool, true, false, cond, IsTrue, List, [], ◌∷◌, length, Ok, Err, refl, ap, sym, ◌∙◌, subst, arith, zero, suc, ◌++◌, replicate}
+use Rattle.std.specs.List.{list_any}
+use Rattle.std.proofs.lemmas.List.{take_all}
 use Rattle.std.proofs.lemmas.List.Sums.{sum_by-cons}
 use Rattle.fdp_base.specs.declared.command.Command.{Command}
 use Rattle.fdp_base.specs.declared.command.Command.TheVariants as commands
+use Rattle.fdp_base.specs.declared.config.TheConstants.Geometry.{FIXED}
 use Rattle.fdp_base.specs.declared.entry.Entry.{Entry}
 use Rattle.fdp_base.specs.declared.entry.Entry.TheVariants as entries
-use Rattle.fdp_base.specs.FixedDrive.{FixedState, Going, IsLegal, IsLegalFrom, IsServed, IsStep, after, output_of, state_of}
+use Rattle.fdp_base.specs.FixedDrive.{FixedState, IsLegal, IsLegalFrom, IsServed, IsStep, after}
 use Rattle.fdp_base.specs.Queue.{completed, numbered}
 use Rattle.fdp_base.specs.Totals.{blocks_written, host_blocks, host_blocks_of, media_blocks, media_blocks_of}
-use Rattle.fdp_io.specs.Sink.{SinkState}
-use Rattle.fdp_core.specs.Seen.{Seen}
+use Rattle.fdp_io.specs.Sink.{HoldsFront, SinkState}
+use Rattle.fdp_core.specs.Pages.{cells_of, pages_from}
+use Rattle.fdp_core.specs.Seen.{HoldsHistory, Seen, counted_more, new_over, tells_failure}
+use Rattle.fdp_base.specs.Counts.{counted}
+use Rattle.fdp_flash.specs.declared.memory.FlashMem.{FlashMem}
+use Rattle.fdp_flash.specs.declared.cell.Cell.TheVariants.{Blank}
+use Rattle.fdp_flash.specs.declared.plan.Plan.{Plan}
+use Rattle.fdp_flash.specs.FlashMem.{BeginsWith, plan_of, state_of as memory_state}
+use Rattle.fdp_flash.specs.Plan.{plan_is_empty}
 use Rattle.fdp_flash.specs.FlashState.{FlashState}
 use Rattle.fdp_cli.specs.declared.print.Cut.{Cut}
 use Rattle.fdp_cli.specs.declared.print.Cut.TheVariants as cuts
 use Rattle.fdp_cli.specs.declared.serving.ServeEnd.{ServeEnd}
 use Rattle.fdp_cli.specs.declared.serving.ServeEnd.TheVariants as ends
 use Rattle.fdp_cli.specs.Printing.{HoldsSome, Prints}
-use Rattle.fdp_cli.specs.Serving.{IsIdleBelow, Serves, ServesFirst}
-use Rattle.fdp_cli.specs.Top.{Runs}
+use Rattle.fdp_cli.specs.Serving.{Serves, ServesFirst}
+use Rattle.fdp_cli.specs.Session.{IsFresh, IsRecordOf}
 
-none_is_some : (g : Going) → None ≡ Some g → ⊥
-none_is_some g e = cc
+-- a small count of 64 bits counts each of so many
+small_count : (n : ℕ) → n ≤ 2 ^ 40 → counted_more 0 n ≡ n
+unfolding counted_more
+small_count zero low = refl
+small_count (suc n) low = let before = small_count n (omega (arith, low)) in ap counted before ∙ omega (arith, low)
 
-told_true : (b : Bool) → IsTrue b → b ≡ true
-told_true b tells = tells
+-- the group that was made over a blank flash
+pub fresh_over : (plan : Plan) (flash : FlashMem) (group : Seen FlashMem) → BeginsWith FIXED (replicate 64 Blank) plan flash → IsTrue (plan_is_empty plan) → group ≡ new_over flash → IsFresh group
+fresh_over plan flash group begins empty is =
+    let same : group.flash ≡ flash = ap (λ (s : Seen FlashMem). s.flash) is in
+    let plan_is : plan_of flash ≡ plan = begins.plan_is in
+    subst IsFresh (sym is) (record {
+      is_new = refl;
+      blank = subst (λ (p : Plan). BeginsWith FIXED (replicate 64 Blank) p flash) (sym plan_is) begins;
+      no_failures = subst (λ (p : Plan). IsTrue (plan_is_empty p)) (sym plan_is) empty;
+    })
 
--- no write is going at the start
-pub idle_fresh : (es : List Entry) → es ≡ [] → IsIdleBelow (state_of es) 0
-unfolding state_of
-idle_fresh es is g e = absurd (none_is_some g (sym (ap (λ xs. (state_of xs).going) is) ∙ e))
+-- what the flash holds at the start
+held_fresh : (group : Seen FlashMem) → IsFresh group → HoldsHistory (memory_state group.flash) group.entries group.failed
+unfolding pages_from
+held_fresh group f still tells = f.blank.cells_are ∙ ap cells_of (sym (ap (λ (s : Seen FlashMem). s.entries) f.is_new))
 
--- nothing was served, and nothing printed
-pub nothing_shown : (s : SinkState) (trace : List Command) → Runs s s trace 7
+-- the record of a group that served the whole trace
+pub record_of : (old new : Seen FlashMem) (trace : List Command) (es : List Entry) → IsFresh old → ServesFirst memory_state old new trace (length trace) false → new.entries ≡ es → media_blocks es ≤ 2 ^ 40 → IsRecordOf trace es
 unfolding IsLegalFrom
-nothing_shown s trace = ([], tt, inr (inr (refl, (numbered trace, refl), record { count = 0; within = omega arith; front = λ told. sym (append-nil s.bytes) })))
-
--- the trace was served, and a prefix of the output printed
-pub part_shown : (old new : SinkState) (trace : List Command) (es served : List Entry) (told : Bool) → IsTrue told → IsLegal told es → es ≡ served → completed 1 served ≡ numbered (take (length trace) trace) → HoldsSome old new (output_of es) → Runs old new trace 7
-part_shown old new trace es served told tells legal is whole some = (
-  es,
-  subst (λ b. IsLegal b es) (told_true told tells) legal,
-  inr (inr (refl, ([], sym (append-nil (completed 1 es) ∙ ap (completed 1) is ∙ whole ∙ ap numbered (take_all (length trace) trace (omega arith)))), some)),
-)
+record_of old new trace es fresh served is small =
+    let none : old.entries ≡ [] = ap (λ (s : Seen FlashMem). s.entries) fresh.is_new in
+    let all : es ≡ served.es = sym is ∙ served.grown.entries_are ∙ ap (λ xs. xs ++ served.es) none in
+    record {
+      old = old;
+      new = new;
+      fresh = fresh;
+      served = served;
+      entries_are = is;
+      legal = subst (λ xs. IsLegal true xs) is (served.grown.legal (subst (λ xs. IsLegal true xs) (sym none) tt));
+      whole = ap (completed 1) all ∙ served.completes ∙ ap numbered (take_all (length trace) trace (omega arith));
+      unfailing = ap (list_any tells_failure) all ∙ served.grown.flash_is.told_by ∙ served.well;
+      held = record {
+        no_faults = served.grown.flash_is.no_fault served.well ∙ fresh.blank.faults;
+        programs = served.grown.flash_is.programs ∙ ap (λ n. counted_more n (media_blocks served.es)) fresh.blank.programs ∙ ap (λ xs. counted_more 0 (media_blocks xs)) (sym all) ∙ small_count (media_blocks es) small;
+        cells = served.grown.cells (held_fresh old fresh) served.well refl ∙ ap cells_of is;
+      };
+    }
 
 small_write : (command : Command) → IsServed command → blocks_written command ≤ 1
 small_write (commands.Write nsid slba count dtype dspec payload) served = omega (arith, served.1)
@@ -110,6 +139,18 @@ small_media_sum shown spent count few steps low = omega (arith, few_media shown,
 pub served_whole : {F : Type 0} (state : F → FlashState) (old new : Seen F) (trace : List Command) (end : ServeEnd) → end ≡ ends.Whole → Serves state old new trace (Ok end) → ServesFirst state old new trace (length trace) false
 served_whole state old new trace end is served = subst (λ e. Serves state old new trace (Ok e)) is served
 
+-- the record of the group that was made over a blank flash and then served the whole trace
+pub recorded : (plan : Plan) (flash : FlashMem) (old new : Seen FlashMem) (trace : List Command) (end : ServeEnd) (es : List Entry) →
+    BeginsWith FIXED (replicate 64 Blank) plan flash → IsTrue (plan_is_empty plan) → old ≡ new_over flash →
+    end ≡ ends.Whole → Serves memory_state old new trace (Ok end) → es ≡ new.entries → length es ≤ 300 * new.spent + 1 → length trace ≤ 8192 → IsRecordOf trace es
+recorded plan flash old new trace end es begins empty made is serves shown few short =
+    let served = served_whole memory_state old new trace end is serves in
+    record_of old new trace es (fresh_over plan flash old begins empty made) served (sym shown)
+    (small_media_sum es new.spent (length trace) few (omega (arith, served.steps, ap (λ (s : Seen FlashMem). s.spent) made)) short)
+
 -- what was printed where memory was wanting
 pub printed_some : (old new : SinkState) (text : List ℕ) (cut : Cut) → cut ≡ cuts.NoMemory → Prints old new text (Err cut) → HoldsSome old new text
 printed_some old new text cut is prints = subst (λ e. Prints old new text (Err e)) is prints
+
+pub printed_front : (old new : SinkState) (text : List ℕ) (cut : Cut) → cut ≡ cuts.Sink → Prints old new text (Err cut) → HoldsFront old new text
+printed_front old new text cut is prints = subst (λ e. Prints old new text (Err e)) is prints

@@ -1,18 +1,15 @@
 -- What serving a trace does to the history of a group.
-use Rattle.std.specs.Prelude.{◌≡◌, ℕ, ◌+◌, ◌*◌, ◌≤◌, ◌<◌, Bool, true, false, List, [], ◌∷◌, length, take, Some, Result, Ok, Err}
+use Rattle.std.specs.Prelude.{◌≡◌, ℕ, ◌+◌, ◌*◌, ◌≤◌, Bool, true, false, List, [], ◌∷◌, length, take, Result, Ok, Err}
 use Rattle.std.specs.declared.alloc.AllocError.{AllocError}
 use Rattle.fdp_base.specs.declared.command.Command.{Command}
 use Rattle.fdp_base.specs.declared.entry.Entry.{Entry}
-use Rattle.fdp_base.specs.FixedDrive.{FixedState, Going, state_of}
+use Rattle.fdp_base.specs.FixedDrive.{Going, state_of}
 use Rattle.fdp_base.specs.Queue.{completed, numbered}
 use Rattle.fdp_flash.specs.FlashState.{FlashState}
+use Rattle.fdp_core.specs.Idle.{IsIdleBelow}
 use Rattle.fdp_core.specs.Seen.{Grows, Seen}
 use Rattle.fdp_cli.specs.declared.serving.ServeEnd.{ServeEnd}
 use Rattle.fdp_cli.specs.declared.serving.ServeEnd.TheVariants as ends
-
--- no write is going with this number or a later one
-abbrev pub IsIdleBelow : FixedState → ℕ → Type 0
-IsIdleBelow s number = (g : Going) → s.going ≡ Some g → g.number < number
 
 -- the entries of one command were added: they complete this command, once
 pub record ServesOne {F : Type 0} (state : F → FlashState) (old new : Seen F) (number : ℕ) (command : Command) : Type 0 where

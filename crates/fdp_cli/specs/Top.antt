@@ -1,16 +1,16 @@
 -- The status of a run, and what the sink then holds.
-use Rattle.std.specs.Prelude.{String, ◌≡◌, ◌⊎◌, ℕ, true, List}
+use Rattle.std.specs.Prelude.{String, ◌≡◌, ◌⊎◌, ℕ, List}
 use Rattle.std.specs.declared.alloc.Global.{Global}
 use Rattle.fdp_base.specs.declared.command.Command.{Command}
 use Rattle.fdp_base.specs.declared.entry.Entry.{Entry}
-use Rattle.fdp_base.specs.FixedDrive.{IsLegal, output_of}
-use Rattle.fdp_base.specs.Queue.{HoldsWhole, KeepsQueueOrder}
+use Rattle.fdp_base.specs.FixedDrive.{output_of}
 use Rattle.fdp_io.specs.Bench.{BenchState}
 use Rattle.fdp_io.specs.Sink.{Holds, HoldsFront, SinkState}
 use Rattle.fdp_cli.specs.declared.fault.Fault.{Fault}
 use Rattle.fdp_cli.specs.Faults.{fault_text, status_of}
 use Rattle.fdp_cli.specs.Found.{Finds, Lacks}
 use Rattle.fdp_cli.specs.Printing.{HoldsSome}
+use Rattle.fdp_cli.specs.Session.{IsRecordOf}
 
 -- the line of the fault was printed; or a write of the sink failed, or memory was wanting
 abbrev pub Refuses : SinkState → SinkState → Fault → ℕ → Type 0
@@ -19,17 +19,18 @@ Refuses old new fault status =
     ⊎ ((status ≡ 8) × HoldsFront old new (fault_text fault))
     ⊎ ((status ≡ 7) × HoldsSome old new (fault_text fault))
 
--- what is printed of a record that served the trace: its whole output, or a prefix where a write of the sink failed
--- or memory was wanting; where memory was wanting before that, only the first commands may have been served
-abbrev pub Shows : SinkState → SinkState → List Command → List Entry → ℕ → Type 0
-Shows old new trace es status =
-    ((status ≡ 0) × HoldsWhole 1 trace es × Holds old new (output_of es))
-    ⊎ ((status ≡ 8) × HoldsWhole 1 trace es × HoldsFront old new (output_of es))
-    ⊎ ((status ≡ 7) × KeepsQueueOrder 1 trace es × HoldsSome old new (output_of es))
+-- one group served the whole trace on its flash, and the sink shows this of the output of its record
+abbrev pub Shows : List Command → (List ℕ → Type 0) → Type 0
+Shows trace Printed = (es : List Entry) × IsRecordOf trace es × Printed (output_of es)
 
--- there is one legal history of the fixed drive, and the sink shows it
+-- the sink received the whole output (0), or a prefix of it where a write failed (8) or memory was wanting (7); or
+-- memory was wanting before the output was due, and nothing was printed (7)
 abbrev pub Runs : SinkState → SinkState → List Command → ℕ → Type 0
-Runs old new trace status = (es : List Entry) × IsLegal true es × Shows old new trace es status
+Runs old new trace status =
+    ((status ≡ 0) × Shows trace (λ text. Holds old new text))
+    ⊎ ((status ≡ 8) × Shows trace (λ text. HoldsFront old new text))
+    ⊎ ((status ≡ 7) × Shows trace (λ text. HoldsSome old new text))
+    ⊎ ((status ≡ 7) × (new ≡ old))
 
 -- a trace was found and served, or there was a fault
 abbrev pub Answers : BenchState → BenchState → List (String Global) → SinkState → SinkState → ℕ → Type 0

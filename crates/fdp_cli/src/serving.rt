@@ -1,7 +1,8 @@
 ghost use Rattle.std.specs.Prelude.{◌≡◌, ◌+◌, ◌*◌, ◌≤◌, ◌<◌, ◌^◌, false, true, All, Some, IfOk, MatchResult, length};
 ghost use Rattle.fdp_base.specs.FixedDrive.{Going, IsServed, state_of};
+ghost use Rattle.fdp_core.specs.Idle.{IsIdleBelow};
 ghost use Rattle.fdp_core.specs.Seen.{IsTicketOf};
-ghost use Rattle.fdp_cli.specs.Serving.{EndsWrite, IsIdleBelow, Serves, ServesOne};
+ghost use Rattle.fdp_cli.specs.Serving.{EndsWrite, Serves, ServesOne};
 
 use fdp_base::Command;
 use fdp_core::{Begun, Group, Placed, Room, Ticket};

@@ -1,5 +1,4 @@
-ghost use Rattle.std.specs.Prelude.{◌≡◌, ◌≤◌, All, IsTrue, length};
-ghost use Rattle.fdp_flash.specs.Plan.{plan_is_empty};
+ghost use Rattle.std.specs.Prelude.{◌≤◌, All, length};
 ghost use Rattle.fdp_base.specs.FixedDrive.{IsServed};
 ghost use Rattle.fdp_io.specs.Bench.{SameTexts};
 ghost use Rattle.fdp_cli.specs.Top.{Answers, Refuses, Runs};
@@ -8,7 +7,7 @@ use crate::fault::{Fault, push_fault};
 use crate::find::find;
 use crate::print::{Cut, print_output};
 use crate::serving::{ServeEnd, serve};
-use fdp_base::{Command, Geometry, Sequence};
+use fdp_base::{Command, Geometry};
 use fdp_core::Group;
 use fdp_flash::{FlashMem, Plan};
 use fdp_io::{Bench, Sink, write_all};
@@ -55,7 +54,7 @@ fn run<K: Sink>(alloc: Global, trace: &[Command], sink: &mut K) -> u8
     requires few { length trace.now ≤ 8192 }
     ensures { Runs (K.state sink.old) (K.state sink.new) trace.now result }
 {
-    let Ok(flash) = FlashMem::new(alloc, Geometry::FIXED, no_plan(alloc)) else {
+    let Ok(flash) = FlashMem::new(alloc, Geometry::FIXED, Plan::empty(alloc)) else {
         return 7;
     };
     let Ok(mut group) = Group::fixed(alloc, flash) else {
@@ -69,16 +68,5 @@ fn run<K: Sink>(alloc: Global, trace: &[Command], sink: &mut K) -> u8
         },
         Ok(ServeEnd::Broken) => unreachable!(),
         Err(_error) => 7,
-    }
-}
-
-/// No call fails, and none is kept.
-fn no_plan(alloc: Global) -> Plan
-    ensures { IsTrue (plan_is_empty result) }
-{
-    Plan {
-        calls: 0,
-        failing: Sequence::new(alloc),
-        stop: None,
     }
 }

@@ -1,6 +1,9 @@
 -- From what a call did to the parts, to what contracts say of it.
-use Rattle.std.proofs.Common.{◌≡◌, ℕ, Bool, true, false, List, [], ◌∷◌, ◌++◌, length, refl, ap, sym, ◌∙◌, subst, Option, IsTrue, arith}
+use Rattle.std.proofs.Common.{◌≡◌, ℕ, Bool, true, false, ◌||◌, List, [], ◌∷◌, ◌++◌, length, refl, ap, sym, ◌∙◌, subst, Option, IsTrue, arith}
+use Rattle.std.specs.List.{list_any}
+use Rattle.std.proofs.Math.Bool.{or-false}
 use Rattle.std.proofs.lemmas.Bool.{false≢true}
+use Rattle.std.proofs.lemmas.List.Folds.{list_any-append}
 use Rattle.std.proofs.lemmas.List.Sums.{sum_by-append}
 use Rattle.fdp_base.specs.declared.command.Command.{Command}
 use Rattle.fdp_base.specs.declared.entry.Entry.{Entry}
@@ -17,8 +20,7 @@ use Rattle.fdp_core.specs.declared.room.Replies.{Replies}
 use Rattle.fdp_core.specs.Logged.{Logged, IsLonger}
 use Rattle.fdp_core.specs.Media.{IsReadFrom, ReadsBlock}
 use Rattle.fdp_core.specs.Replies.{read_reply}
-use Rattle.fdp_core.specs.Pages.{cells_of}
-use Rattle.fdp_core.specs.Seen.{Adds, Completes, IsKept, Seen, counted_more}
+use Rattle.fdp_core.specs.Seen.{Adds, Completes, IsKept, Seen, counted_more, tells_failure}
 use Rattle.fdp_core.specs.Sound.{IsSound}
 
 abbrev pub logged : {F : Type 0} → Seen F → Logged
@@ -34,8 +36,9 @@ pub adds : {F : Type 0} (state : F → FlashState) (old new : Seen F) (es : List
     (state new.flash).programs ≡ counted_more (state old.flash).programs (media_blocks es) →
     (IsTrue new.failed → Faulted (state old.flash) (state new.flash)) →
     (new.failed ≡ false → (state new.flash).faults ≡ (state old.flash).faults) →
+    list_any tells_failure es ≡ new.failed →
     Adds state old new es
-adds state old new es map fl n block so longer kept programs fault no_fault = record {
+adds state old new es map fl n block so longer kept programs fault no_fault told_by = record {
   entries_are = longer.entries_are;
   legal = so.legal;
   spare_is = longer.spare_is;
@@ -45,6 +48,7 @@ adds state old new es map fl n block so longer kept programs fault no_fault = re
     programs = programs;
     fault = fault;
     no_fault = no_fault;
+    told_by = told_by;
   };
   cells = so.cells;
 }
@@ -68,6 +72,12 @@ no_program p before number moment command reply none =
     let zero_more : media_blocks (before ++ entries.Host 1 number command reply moment ∷ []) ≡ 0 = omega (arith, sum_by-append media_blocks_of before (entries.Host 1 number command reply moment ∷ []), none) in
     sym (ap (counted_more p) zero_more)
 
+-- the entries before a completion tell of a failed call, or its reply does
+told_at_end : (before : List Entry) (number moment : ℕ) (command : Command) (reply : Reply) (failed : Bool) → (list_any tells_failure before || is_media reply.status) ≡ failed →
+    list_any tells_failure (before ++ entries.Host 1 number command reply moment ∷ []) ≡ failed
+told_at_end before number moment command reply failed is =
+    list_any-append tells_failure before (entries.Host 1 number command reply moment ∷ []) ∙ ap (λ b. list_any tells_failure before || b) (or-false (is_media reply.status)) ∙ is
+
 -- a step that completes a command without a program
 pub completes : {F : Type 0} (state : F → FlashState) (old new : Seen F) (number : ℕ) (command : Command) (before : List Entry) (done : Done) (moment : ℕ) (history reply : Reply) (map : List (Option Mapped)) (fl : Option Flight) (n : ℕ) (block : List ℕ) →
     IsSound (state new.flash) new.entries map fl n new.failed block →
@@ -76,13 +86,15 @@ pub completes : {F : Type 0} (state : F → FlashState) (old new : Seen F) (numb
     IsKept (state old.flash) (state new.flash) →
     (state new.flash).programs ≡ (state old.flash).programs →
     media_blocks before ≡ 0 →
+    (list_any tells_failure before || is_media reply.status) ≡ new.failed →
     (IsTrue new.failed → Faulted (state old.flash) (state new.flash)) →
     (new.failed ≡ false → (state new.flash).faults ≡ (state old.flash).faults) →
     Completes state old new number command before done
-completes state old new number command before done moment history reply map fl n block so longer history_is reply_is position same_moment moment_is failed kept programs none fault no_fault = record {
+completes state old new number command before done moment history reply map fl n block so longer history_is reply_is position same_moment moment_is failed kept programs none told_by fault no_fault = record {
   step = adds state old new (before ++ entries.Host 1 number command done.reply done.moment ∷ []) map fl n block so
       (with_reply before number moment done.moment command history done.reply (logged old) (logged new) (history_is ∙ sym reply_is) (sym same_moment) longer)
-      kept (programs ∙ no_program (state old.flash).programs before number done.moment command done.reply none) fault no_fault;
+      kept (programs ∙ no_program (state old.flash).programs before number done.moment command done.reply none) fault no_fault
+      (told_at_end before number done.moment command done.reply new.failed (ap (λ (r : Reply). list_any tells_failure before || is_media r.status) reply_is ∙ told_by));
   position_is = position;
   moment_is = same_moment ∙ moment_is;
   failed_is = failed ∙ ap (λ (r : Reply). is_media r.status) (sym reply_is);
@@ -97,10 +109,12 @@ pub completes_well : {F : Type 0} (state : F → FlashState) (old new : Seen F) 
     IsKept (state old.flash) (state new.flash) →
     (state new.flash).programs ≡ (state old.flash).programs →
     media_blocks before ≡ 0 →
+    list_any tells_failure before ≡ false →
     (state new.flash).faults ≡ (state old.flash).faults →
     Completes state old new number command before done
-completes_well state old new number command before done moment history reply map fl n block so longer history_is reply_is position same_moment moment_is well no_media kept programs none faults =
-    completes state old new number command before done moment history reply map fl n block so longer history_is reply_is position same_moment moment_is (well ∙ sym no_media) kept programs none (λ wrong. absurd (false≢true (sym well ∙ wrong))) (λ _. faults)
+completes_well state old new number command before done moment history reply map fl n block so longer history_is reply_is position same_moment moment_is well no_media kept programs none quiet faults =
+    completes state old new number command before done moment history reply map fl n block so longer history_is reply_is position same_moment moment_is (well ∙ sym no_media) kept programs none
+    (ap (λ b. b || is_media reply.status) quiet ∙ no_media ∙ sym well) (λ wrong. absurd (false≢true (sym well ∙ wrong))) (λ _. faults)
 
 -- a read, whichever way it went
 pub read_completes : {F : Type 0} (state : F → FlashState) (old new : Seen F) (number : ℕ) (command : Command) (done : Done) (moment : ℕ) (m : Option Mapped) (lba : ℕ) (replies : Replies) (map : List (Option Mapped)) (fl : Option Flight) (n : ℕ) (block : List ℕ) →
@@ -114,7 +128,7 @@ read_completes state old new number command done moment m lba replies map fl n b
     by : (failed : Bool) → new.failed ≡ failed → ReadsBlock (state old.flash) (state new.flash) m lba replies failed → Completes state old new number command [] done
     by true broken answer =
         completes state old new number command [] done moment replies.history (bare statuses.UNRECOVERED_READ_ERROR) map fl n block so longer answer.twice.history_is (reply ∙ answer.twice.answer_is) position same_moment moment_is broken
-        reads.kept reads.programs refl (λ _. answer.fault) (λ wrong. absurd (false≢true (sym wrong ∙ broken)))
+        reads.kept reads.programs refl (sym broken) (λ _. answer.fault) (λ wrong. absurd (false≢true (sym wrong ∙ broken)))
     by false well answer =
         completes_well state old new number command [] done moment replies.history (read_reply answer.bytes) map fl n block so longer answer.twice.history_is (reply ∙ answer.twice.answer_is) position same_moment moment_is well refl
-        reads.kept reads.programs refl answer.no_fault
+        reads.kept reads.programs refl refl answer.no_fault

@@ -1,14 +1,15 @@
 -- Steps that follow one another.
-use Rattle.std.proofs.Common.{◌≡◌, ℕ, zero, suc, ◌+◌, ◌≤◌, Bool, true, false, List, [], ◌++◌, refl, ap, sym, ◌∙◌, subst, append_assoc, arith, IsTrue}
+use Rattle.std.proofs.Common.{◌≡◌, ℕ, zero, suc, ◌+◌, ◌≤◌, false, ◌||◌, List, [], ◌++◌, refl, ap, sym, ◌∙◌, append_assoc, arith}
+use Rattle.std.specs.List.{list_any}
 use Rattle.std.proofs.lemmas.Bool.{false≢true}
+use Rattle.std.proofs.lemmas.List.Folds.{list_any-append}
 use Rattle.std.proofs.lemmas.List.{append-nil}
 use Rattle.std.proofs.lemmas.List.Sums.{sum_by-append}
 use Rattle.fdp_base.specs.declared.entry.Entry.{Entry}
 use Rattle.fdp_base.specs.Counts.{counted}
-use Rattle.fdp_base.specs.FixedDrive.{IsLegal}
 use Rattle.fdp_base.specs.Totals.{media_blocks, media_blocks_of}
 use Rattle.fdp_flash.specs.FlashState.{FlashState, Faulted}
-use Rattle.fdp_core.specs.Seen.{Adds, Grows, IsKept, Matches, Seen, counted_more}
+use Rattle.fdp_core.specs.Seen.{Adds, Grows, IsKept, Seen, counted_more, tells_failure}
 use Rattle.fdp_core.proofs.Added.{kept-same}
 
 counted_more-add : (p a b : ℕ) → counted_more (counted_more p a) b ≡ counted_more p (a + b)
@@ -26,23 +27,24 @@ kept-joined a b c p q = record {
 }
 
 -- no step
-pub grows-none : {F : Type 0} (state : F → FlashState) (old new : Seen F) → new.entries ≡ old.entries → new.flash ≡ old.flash → new.failed ≡ false → Grows state old new []
+pub grows-none : {F : Type 0} (state : F → FlashState) (s : Seen F) → s.failed ≡ false → Grows state s s []
 unfolding counted_more
-grows-none {F} state old new entries flash well =
-    record {
-      entries_are = entries ∙ sym (append-nil old.entries);
-      legal = λ legal. subst (λ (x : F). IsLegal (state x).told new.entries) (sym flash) (subst (λ (es : List Entry). IsLegal (state old.flash).told es) (sym entries) legal);
-      flash_is = record {
-        kept = subst (λ (x : F). IsKept (state old.flash) (state x)) (sym flash) (kept-same (state old.flash));
-        programs = ap (λ (x : F). (state x).programs) flash;
-        fault = λ wrong. absurd (false≢true (sym well ∙ wrong));
-        no_fault = λ _. ap (λ (x : F). (state x).faults) flash;
-      };
-    }
+grows-none state s well = record {
+  entries_are = sym (append-nil s.entries);
+  legal = λ legal. legal;
+  flash_is = record {
+    kept = kept-same (state s.flash);
+    programs = refl;
+    fault = λ wrong. absurd (false≢true (sym well ∙ wrong));
+    no_fault = λ _. refl;
+    told_by = sym well;
+  };
+  cells = λ held. held;
+}
 
 -- one step
 pub grows-step : {F : Type 0} (state : F → FlashState) (old new : Seen F) (es : List Entry) → Adds state old new es → Grows state old new es
-grows-step state old new es a = record { entries_are = a.entries_are; legal = λ _. a.legal; flash_is = a.flash_is }
+grows-step state old new es a = record { entries_are = a.entries_are; legal = λ _. a.legal; flash_is = a.flash_is; cells = λ _. a.cells }
 
 faulted-earlier : (a b c : FlashState) → a.faults ≤ b.faults → b.reliable ≡ a.reliable → Faulted b c → Faulted a c
 faulted-earlier a b c faults reliable h = let rose = h.rose in record { rose = omega arith; unreliable = sym reliable ∙ h.unreliable }
@@ -58,5 +60,7 @@ grows-joined state a b c es fs p well q = record {
         ∙ ap (counted_more (state a.flash).programs) (sym (sum_by-append media_blocks_of es fs));
     fault = λ failed. faulted-earlier (state a.flash) (state b.flash) (state c.flash) p.flash_is.kept.faults p.flash_is.kept.reliable (q.flash_is.fault failed);
     no_fault = λ still. q.flash_is.no_fault still ∙ p.flash_is.no_fault well;
+    told_by = list_any-append tells_failure es fs ∙ ap (λ b. b || list_any tells_failure fs) (p.flash_is.told_by ∙ well) ∙ q.flash_is.told_by;
   };
+  cells = λ held. q.cells (p.cells held);
 }

@@ -3,3 +3,4 @@ pub mod Steps
 pub mod Added
 pub mod Fresh
 pub mod Grown
+pub mod Idle

@@ -4,3 +4,4 @@ pub mod Pages
 pub mod Seen
 pub mod Media
 pub mod Sound
+pub mod Idle

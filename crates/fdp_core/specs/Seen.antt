@@ -1,5 +1,6 @@
 -- A group as contracts see it, and what each step does.
 use Rattle.std.specs.Prelude.{◌≡◌, ℕ, zero, suc, ◌+◌, ◌≤◌, Bool, true, false, IsTrue, List, [], ◌∷◌, ◌++◌, length, Some}
+use Rattle.std.specs.List.{list_any}
 use Rattle.fdp_base.specs.declared.command.Command.{Command}
 use Rattle.fdp_base.specs.declared.entry.Entry.{Entry}
 use Rattle.fdp_base.specs.declared.entry.Entry.TheVariants as entries
@@ -25,6 +26,24 @@ pub record Seen (F : Type 0) : Type 0 where
   pub failed : Bool
   pub flash : F
 
+-- a group before its first command
+abbrev pub new_over : {F : Type 0} → F → Seen F
+new_over flash = record { entries = []; spare = 0; spent = 0; failed = false; flash = flash }
+
+-- whether an entry tells of a failed call of the flash: a media error, or a handle that was shut
+abbrev pub tells_failure : Entry → Bool
+tells_failure (entries.Host queue number command reply moment) = is_media reply.status
+tells_failure (entries.Shut rg ruh) = true
+tells_failure (entries.Started queue number command rg ruh pid_valid) = false
+tells_failure (entries.Placed ticket index unit page) = false
+tells_failure (entries.Copied old new) = false
+tells_failure (entries.Moved rg blocks) = false
+tells_failure (entries.Erased unit) = false
+tells_failure (entries.Retired unit) = false
+tells_failure (entries.Aside unit) = false
+tells_failure (entries.Worn rg) = false
+tells_failure entries.Reopened = false
+
 -- a count after so many more
 unfoldable pub counted_more : ℕ → ℕ → ℕ
 counted_more count zero = count
@@ -38,13 +57,14 @@ pub record IsKept (old new : FlashState) : Type 0 where
   pub moment : old.moment ≤ new.moment
   pub faults : old.faults ≤ new.faults
 
--- the flash before and after calls that added these entries: its programs are the Placed entries, and it counted a
--- fault exactly where the group then has failed
+-- the flash before and after calls that added these entries: its programs are the Placed entries; it counted a fault
+-- exactly where the group then has failed, and exactly then one of the entries tells of it
 pub record Matches (old new : FlashState) (es : List Entry) (failed : Bool) : Type 0 where
   pub kept : IsKept old new
   pub programs : new.programs ≡ counted_more old.programs (media_blocks es)
   pub fault : IsTrue failed → Faulted old new
   pub no_fault : failed ≡ false → new.faults ≡ old.faults
+  pub told_by : list_any tells_failure es ≡ failed
 
 -- where no call failed and the cells are told, they are what the history placed
 abbrev pub HoldsHistory : FlashState → List Entry → Bool → Type 0
@@ -64,6 +84,7 @@ pub record Grows {F : Type 0} (state : F → FlashState) (old new : Seen F) (es 
   pub entries_are : new.entries ≡ old.entries ++ es
   pub legal : IsLegal (state old.flash).told old.entries → IsLegal (state new.flash).told new.entries
   pub flash_is : Matches (state old.flash) (state new.flash) es new.failed
+  pub cells : HoldsHistory (state old.flash) old.entries old.failed → HoldsHistory (state new.flash) new.entries new.failed
 
 -- A step completes a command: it adds its Host entry, behind other entries. The group has failed exactly where the
 -- reply tells of a media error.

@@ -2,7 +2,7 @@ ghost use Rattle.std.specs.Prelude.{◌≡◌, ℕ, ◌+◌, ◌*◌, ◌<◌, �
 ghost use Rattle.fdp_base.specs.declared.config.TheConstants.Geometry.{FIXED};
 ghost use Rattle.fdp_base.specs.FixedDrive.{IsLegal};
 ghost use Rattle.fdp_flash.specs.declared.cell.Cell.TheVariants.{Blank};
-ghost use Rattle.fdp_core.specs.Seen.{HoldsHistory, Seen};
+ghost use Rattle.fdp_core.specs.Seen.{HoldsHistory, Seen, new_over};
 
 use crate::log::Log;
 use crate::room::{Room, zeros};
@@ -63,7 +63,7 @@ impl<F: Flash + Drop> Group<F> {
     pub fn fixed(alloc: Global, flash: F) -> Result<Group<F>, AllocError>
         requires geometry { (F.state flash).geometry ≡ FIXED }
         requires blank { IsTrue (F.state flash).told → (F.state flash).cells ≡ replicate 64 Blank }
-        ensures { IfOk result (λ group. group ≡ record { entries = []; spare = 0; spent = 0; failed = false; flash = flash }) }
+        ensures { IfOk result (λ group. group ≡ new_over flash) }
     {
         Ok(Group {
             block: zeros(alloc)?,

@@ -10,3 +10,6 @@ mod room;
 pub use answer::{Begun, Done, Placed, Ticket};
 pub use group::Group;
 pub use room::Room;
+
+#[cfg(test)]
+mod tests;

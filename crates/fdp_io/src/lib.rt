@@ -15,3 +15,6 @@ pub use bench_mem::BenchMem;
 pub use sink::{Sink, SinkEnd, SinkFailed, write_all};
 pub use sink_mem::SinkMem;
 pub use sink_writer::SinkWriter;
+
+#[cfg(test)]
+mod tests;

@@ -1,6 +1,7 @@
 use Rattle.std.proofs.Common.{false}
 use Rattle.fdp_base.specs.FixedDrive.{state_of}
-use Rattle.fdp_cli.specs.Serving.{IsIdleBelow, ServesFirst}
+use Rattle.fdp_core.specs.Idle.{IsIdleBelow}
+use Rattle.fdp_cli.specs.Serving.{ServesFirst}
 use Rattle.fdp_cli.proofs.serving.serve.Given as goal
 
 abbrev pub invariant-loop-number : goal.invariant-loop-number

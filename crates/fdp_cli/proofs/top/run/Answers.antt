@@ -1,15 +1,8 @@
-use Rattle.std.proofs.Common.{◌++◌, length, ap, sym, subst, ◌∙◌, arith}
-use Rattle.fdp_base.specs.FixedDrive.{IsLegal}
+use Rattle.std.proofs.Common.{length, refl, ap, inl, inr, arith}
 use Rattle.fdp_core.specs.Seen.{Seen}
-use Rattle.fdp_flash.specs.FlashMem.{state_of}
-use Rattle.fdp_cli.proofs.Shown.{idle_fresh, nothing_shown, part_shown, printed_some, served_whole, small_host_sum, small_media_sum}
+use Rattle.fdp_core.proofs.Idle.{idle_fresh}
+use Rattle.fdp_cli.proofs.Shown.{printed_front, printed_some, recorded, served_whole, small_host_sum, small_media_sum}
 use Rattle.fdp_cli.proofs.top.run.Goals as goal
-
-pub returns-in_default : goal.returns-in_default
-returns-in_default g c = nothing_shown _ _
-
-pub returns-in_default-fixed : goal.returns-in_default-fixed
-returns-in_default-fixed g c = nothing_shown _ _
 
 pub serve-requires-clause-idle : goal.serve-requires-clause-idle
 serve-requires-clause-idle g c = idle_fresh _ (ap (λ (s : Seen _). s.entries) c.in-Ok-fixed.ensures)
@@ -24,16 +17,20 @@ print_output-requires-clause-media g c =
     let served = served_whole _ _ _ _ _ c.in-Ok-Whole.field-0-is c.in-Ok-Whole.ensures in
     small_media_sum _ _ (length c.args.trace.now) c.entries.ensures.few (omega (arith, served.steps, ap (λ (s : Seen _). s.spent) c.in-Ok-fixed.ensures)) c.requires.few
 
+pub returns-in-Ok-print_output : goal.returns-in-Ok-print_output
+returns-in-Ok-print_output g c =
+    let record_is = recorded c.empty.result c.in-Ok.flash c.in-Ok-fixed.group c.serve.new.group c.args.trace.now c.in-Ok-Whole.field-0 c.entries.result.now
+    c.in-Ok.ensures.begins c.empty.ensures c.in-Ok-fixed.ensures c.in-Ok-Whole.field-0-is c.in-Ok-Whole.ensures c.entries.ensures.entries c.entries.ensures.few c.requires.few in
+    inl (refl, (c.entries.result.now, record_is, c.in-Ok-print_output.ensures.ends))
+
+pub returns-in-Err-Sink : goal.returns-in-Err-Sink
+returns-in-Err-Sink g c =
+    let record_is = recorded c.empty.result c.in-Ok.flash c.in-Ok-fixed.group c.serve.new.group c.args.trace.now c.in-Ok-Whole.field-0 c.entries.result.now
+    c.in-Ok.ensures.begins c.empty.ensures c.in-Ok-fixed.ensures c.in-Ok-Whole.field-0-is c.in-Ok-Whole.ensures c.entries.ensures.entries c.entries.ensures.few c.requires.few in
+    inr (inl (refl, (c.entries.result.now, record_is, printed_front _ _ _ _ c.in-Err-Sink.field-0-is c.in-Err-Sink.ensures.ends)))
+
 pub returns-in-Ok-Whole : goal.returns-in-Ok-Whole
 returns-in-Ok-Whole g c =
-    let served = served_whole _ _ _ _ _ c.in-Ok-Whole.field-0-is c.in-Ok-Whole.ensures in
-    let none = ap (λ (s : Seen _). s.entries) c.in-Ok-fixed.ensures in
-    let tells = served.grown.flash_is.kept.told ∙ ap (λ (s : Seen _). (state_of s.flash).told) c.in-Ok-fixed.ensures ∙ c.in-Ok.ensures.begins.told in
-    part_shown (g.K.Sink.state c.args.sink.now) (g.K.Sink.state c.print_output.new.sink) c.args.trace.now c.entries.result.now served.es _ tells
-    (subst (λ xs. IsLegal _ xs) (sym c.entries.ensures.entries) c.entries.ensures.legal)
-    (c.entries.ensures.entries ∙ served.grown.entries_are ∙ ap (λ xs. xs ++ served.es) none)
-    served.completes
-    (printed_some _ _ _ _ c.in-Err-NoMemory.field-0-is c.in-Err-NoMemory.ensures.ends)
-
-pub returns : goal.returns
-returns g c = nothing_shown _ _
+    let record_is = recorded c.empty.result c.in-Ok.flash c.in-Ok-fixed.group c.serve.new.group c.args.trace.now c.in-Ok-Whole.field-0 c.entries.result.now
+    c.in-Ok.ensures.begins c.empty.ensures c.in-Ok-fixed.ensures c.in-Ok-Whole.field-0-is c.in-Ok-Whole.ensures c.entries.ensures.entries c.entries.ensures.few c.requires.few in
+    inr (inr (inl (refl, (c.entries.result.now, record_is, printed_some _ _ _ _ c.in-Err-NoMemory.field-0-is c.in-Err-NoMemory.ensures.ends))))

@@ -31,7 +31,7 @@ returns g c =
     ap (λ es. (state_of es).going) c.push.ensures.entries_are ∙ ap (λ (s : FixedState). s.going) (state_of-push old.log.entries (entries.Started 1 c.args.number c.args.command 0 0 true)) in
     record {
       step = subst (λ (s : Seen g.row.F.Denot). Adds g.F.Flash.state s new (entries.Started 1 c.args.number c.args.command 0 0 true ∷ [])) c.self.view_is
-          (adds g.F.Flash.state _ new _ _ _ _ _ (invariant_of-self g c) c.push.ensures (kept-same (g.F.Flash.state old.flash)) refl (λ wrong. absurd (false≢true (sym well ∙ wrong))) (λ _. refl));
+          (adds g.F.Flash.state _ new _ _ _ _ _ (invariant_of-self g c) c.push.ensures (kept-same (g.F.Flash.state old.flash)) refl (λ wrong. absurd (false≢true (sym well ∙ wrong))) (λ _. refl) (sym well));
       ticket_is = ap (λ p. record { queue = 1; number = c.args.number; position = p }) (ap (λ xs. length xs + 1) c.entries.ensures.entries ∙ position);
       waiting = record {
         going = _;

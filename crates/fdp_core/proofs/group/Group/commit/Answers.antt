@@ -37,4 +37,4 @@ returns g c going is_going =
     (subst (λ (s : Seen g.row.F.Denot). Completes g.F.Flash.state s new ticket.going.number ticket.going.command [] c.complete.result) c.self.view_is
     (completes_well g.F.Flash.state _ new ticket.going.number ticket.going.command [] c.complete.result c.moment.result _ written _ _ _ _
     (invariant_of-self g c) (with_command [] _ _ _ _ _ _ _ _ (sym ticket.number_is) command c.complete.ensures.log) c.end-command.ensures.reply.history_is (c.complete.ensures.reply ∙ c.end-command.ensures.reply.answer_is) c.complete.ensures.position c.complete.ensures.moment c.moment.ensures
-    well refl (kept-same (g.F.Flash.state old.flash)) refl refl refl))
+    well refl (kept-same (g.F.Flash.state old.flash)) refl refl refl refl))

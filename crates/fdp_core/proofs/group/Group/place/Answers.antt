@@ -52,7 +52,7 @@ returns-in-Ok g c going is_going =
       unit = old.programmed / 16;
       page = old.programmed % 16;
       step = subst (λ (s : Seen g.row.F.Denot). Adds g.F.Flash.state s new (entries.Placed c.args.ticket.position 0 (old.programmed / 16) (old.programmed % 16) ∷ [])) c.self.view_is
-          (adds g.F.Flash.state _ new _ _ _ _ _ (invariant_of-self g c) c.push.ensures c.in-Ok.ensures.kept c.in-Ok.ensures.done.programs (λ wrong. absurd (false≢true (sym well ∙ wrong))) (λ _. c.in-Ok.ensures.done.faults));
+          (adds g.F.Flash.state _ new _ _ _ _ _ (invariant_of-self g c) c.push.ensures c.in-Ok.ensures.kept c.in-Ok.ensures.done.programs (λ wrong. absurd (false≢true (sym well ∙ wrong))) (λ _. c.in-Ok.ensures.done.faults) (sym well));
       next_is = refl;
       ready = record { going = _; going_is = now; queue_is = ticket.queue_is; number_is = ticket.number_is; position_is = ticket.position_is; placed_is = refl };
       well = well;
@@ -74,4 +74,4 @@ returns-in-Err g c going is_going =
     (subst (λ (s : Seen g.row.F.Denot). Completes g.F.Flash.state s new ticket.going.number ticket.going.command (entries.Shut 0 0 ∷ []) c.complete_shut.result) c.self.view_is
     (completes g.F.Flash.state _ new ticket.going.number ticket.going.command (entries.Shut 0 0 ∷ []) c.complete_shut.result c.moment-moment.result _ (bare statuses.WRITE_FAULT) _ _ _ _
     (invariant_of-self-in-Err g c) (with_command (entries.Shut 0 0 ∷ []) _ _ _ _ _ _ _ _ (sym ticket.number_is) command c.complete_shut.ensures.log) c.end-command.ensures.reply.history_is (c.complete_shut.ensures.reply ∙ c.end-command.ensures.reply.answer_is) c.complete_shut.ensures.position c.complete_shut.ensures.moment c.moment-moment.ensures
-    refl c.in-Err.ensures.kept c.in-Err.ensures.not_done refl (λ _. c.in-Err.ensures.failed) (λ wrong. absurd (false≢true (sym wrong)))))
+    refl c.in-Err.ensures.kept c.in-Err.ensures.not_done refl refl (λ _. c.in-Err.ensures.failed) (λ wrong. absurd (false≢true (sym wrong)))))

@@ -26,4 +26,4 @@ returns g c =
     (completes_well g.F.Flash.state _ new c.args.number c.args.command [] c.complete.result c.moment.result c.refuse-replies.result.history (bare c.args.status) _ _ _ _
     (invariant_of-self g c) c.complete.ensures.log c.refuse-replies.ensures.history_is (c.complete.ensures.reply ∙ c.refuse-replies.ensures.answer_is) c.complete.ensures.position c.complete.ensures.moment c.moment.ensures
     well (refused_without_media _ c.args.command c.args.status c.requires.refused)
-    (kept-same (g.F.Flash.state old.flash)) refl refl refl)
+    (kept-same (g.F.Flash.state old.flash)) refl refl refl refl)
