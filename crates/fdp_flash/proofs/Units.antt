@@ -30,7 +30,8 @@ unit_not_after g unit later h = elim (cases_eq unit later) [
 pub area_unchanged : (g : Geometry) (first count : ℕ) (cells : List Cell) → AreaMayLeave g first count cells cells
 area_unchanged g first count cells = record { size = refl; below = λ k h. refl; above = λ k h. refl; inside = λ k. inl refl }
 
-inside_erase : (g : Geometry) (cells : List Cell) (unit : ℕ) (new : List Cell) (k : ℕ) → EraseMayLeave g cells unit new →
+-- each page after an erase that stopped is as it was, blank or torn
+pub inside_erase : (g : Geometry) (cells : List Cell) (unit : ℕ) (new : List Cell) (k : ℕ) → EraseMayLeave g cells unit new →
     (slice_get new k ≡ slice_get cells k) ⊎ (slice_get new k ≡ Some Blank) ⊎ (slice_get new k ≡ Some Torn)
 inside_erase g cells unit new k p = elim (cases_lt k (first_page g unit)) [
   | inl below ↦ inl (p.others.below k below)

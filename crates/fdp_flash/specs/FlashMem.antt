@@ -6,7 +6,8 @@ use Rattle.fdp_flash.specs.declared.cell.Cell.{Cell}
 use Rattle.fdp_flash.specs.declared.memory.FlashMem.{FlashMem}
 use Rattle.fdp_flash.specs.declared.plan.Outcome.{Outcome}
 use Rattle.fdp_flash.specs.declared.plan.Plan.{Plan}
-use Rattle.fdp_flash.specs.FlashState.{FlashState, counted}
+use Rattle.fdp_base.specs.Counts.{counted}
+use Rattle.fdp_flash.specs.FlashState.{FlashState}
 use Rattle.fdp_flash.specs.Layout.{first_page, page_number}
 use Rattle.fdp_flash.specs.MemoryState.{state_by}
 use Rattle.fdp_flash.specs.Plan.{fate_of, fails, keeps_calls, plan_is_empty}
