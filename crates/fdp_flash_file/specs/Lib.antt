@@ -1,0 +1,3 @@
+pub mod FlashFile
+pub mod Head
+pub mod Places
