@@ -1,5 +1,5 @@
 -- What calls and stops leave are cells of the flash: one for each page, with the bytes of a block where it is whole.
-use Rattle.std.proofs.Common.{◌≡◌, ◌≢◌, ℕ, zero, suc, ◌+◌, IsTrue, List, [], ◌∷◌, length, slice_set, take, Some, Option, arith, refl, sym, ap, ◌∙◌, inl, inr}
+use Rattle.std.proofs.Common.{◌≡◌, ℕ, zero, suc, ◌+◌, List, [], ◌∷◌, length, slice_set, take, Some, refl, sym, ap, ◌∙◌, inl, inr}
 use Rattle.std.specs.List.{slice_get}
 use Rattle.std.proofs.lemmas.List.{length-set}
 use Rattle.fdp_base.specs.declared.config.Geometry.{Geometry}
@@ -12,12 +12,11 @@ use Rattle.fdp_flash.specs.declared.cell.Cell.TheVariants as cell
 use Rattle.fdp_flash.specs.declared.memory.recorded.Recorded.{Recorded}
 use Rattle.fdp_flash.specs.declared.plan.Fate.{Fate}
 use Rattle.fdp_flash.specs.declared.plan.Fate.TheVariants.{Done, Fails, Refused}
-use Rattle.fdp_flash.specs.declared.plan.Outcome.{Outcome}
 use Rattle.fdp_flash.specs.declared.plan.Outcome.TheVariants.{Blank, Whole, Torn}
-use Rattle.fdp_flash.specs.Cells.{AreCells, HaveBytes, ProgramMayLeave, EraseMayLeave}
+use Rattle.fdp_flash.specs.Cells.{AreCells, HaveBytes}
 use Rattle.fdp_flash.specs.Layout.{first_page, page_number}
 use Rattle.fdp_flash.specs.Noted.{HaveProgramBytes}
-use Rattle.fdp_flash.specs.Recorded.{filled, after_call, programmed_cell, replay, StopMayLeave, MayLeaveAt}
+use Rattle.fdp_flash.specs.Recorded.{filled, after_call, replay, StopMayLeave, MayLeaveAt}
 use Rattle.fdp_flash.proofs.Lists.{set_cases}
 use Rattle.fdp_flash.proofs.Replay.{replay_size}
 use Rattle.fdp_flash.proofs.Units.{inside_erase}

@@ -7,6 +7,7 @@ pub mod Faults
 pub mod Filled
 pub mod Images
 pub mod Lists
+pub mod Held
 pub mod ImageCells
 pub mod OnList
 pub mod Pages

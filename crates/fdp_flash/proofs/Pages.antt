@@ -130,3 +130,17 @@ pub numbers_from_blank : (g : Geometry) (cells : List Cell) (at : Spot) → IsBl
 numbers_from_blank g cells at h k least most =
     let same : first_page g at.unit + (k - first_page g at.unit) ≡ k = omega arith in
     rw same at (h.blank (k - first_page g at.unit) (omega arith) (omega arith))
+
+-- a blank unit stays blank while pages of other units are programmed
+pub blank_unit_program : (g : Geometry) (old : List Cell) (at : Spot) (spare bytes : List ℕ) (new : List Cell) (unit : ℕ) →
+    ProgramMayLeave g old at spare bytes new → at.page < g.unit_pages → at.unit ≢ unit → IsBlankUnit g old unit → IsBlankUnit g new unit
+blank_unit_program g old at spare bytes new unit p inside n blank = record {
+  blank = λ page h. program_other_unit g old at spare bytes new unit p inside n page h ∙ blank.blank page h;
+}
+
+-- a blank unit stays blank while other units are erased
+pub blank_unit_erase : (g : Geometry) (old : List Cell) (erased : ℕ) (new : List Cell) (unit : ℕ) →
+    EraseMayLeave g old erased new → unit ≢ erased → IsBlankUnit g old unit → IsBlankUnit g new unit
+blank_unit_erase g old erased new unit p n blank = record {
+  blank = λ page h. same_outside_page g erased old new (record { unit = unit; page = page }) p.others h n ∙ blank.blank page h;
+}

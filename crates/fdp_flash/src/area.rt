@@ -2,7 +2,7 @@ ghost use Rattle.std.specs.Prelude.{◌≡◌, ◌+◌, ◌≤◌, ◌<◌, IsTr
 ghost use Rattle.fdp_flash.specs.Area.{AreaMayLeave, IsBlankArea};
 ghost use Rattle.fdp_flash.specs.FlashState.{Faulted};
 ghost use Rattle.fdp_base.specs.Geometry.{all_units};
-ghost use Rattle.fdp_flash.specs.Runs.{Runs};
+ghost use Rattle.fdp_flash.specs.Runs.{Holds};
 
 use crate::answer::Wrote;
 use crate::flash::Flash;
@@ -10,8 +10,7 @@ use crate::flash::Flash;
 /// Erases units that follow one another, up to the first erase that fails.
 pub fn erase_area<F: Flash>(flash: &mut F, first: u32, count: u32) -> Wrote
     requires place { first + count ≤ all_units (F.state flash.old).geometry }
-    ensures run { Runs (F.state flash.old) (F.state flash.new) (λ m image. AreaMayLeave (F.state flash.old).geometry first count (F.state flash.old).cells image) }
-    ensures cells { IsTrue (F.state flash.old).told → AreaMayLeave (F.state flash.old).geometry first count (F.state flash.old).cells (F.state flash.new).cells }
+    ensures held { Holds (AreaMayLeave (F.state flash.old).geometry first count (F.state flash.old).cells) (F.state flash.old) (F.state flash.new) }
     ensures done { IsTrue (F.state flash.old).told → result ≡ Wrote.Done → IsBlankArea (F.state flash.old).geometry first count (F.state flash.new).cells }
     ensures failed { result ≡ Wrote.Failed → Faulted (F.state flash.old) (F.state flash.new) }
     ensures programs { (F.state flash.new).programs ≡ (F.state flash.old).programs }
