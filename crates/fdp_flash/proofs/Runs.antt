@@ -1,5 +1,5 @@
 -- One call is a run, and runs that follow one another are one run.
-use Rattle.std.proofs.Common.{◌≡◌, ◌⊎◌, ℕ, ◌-◌, ◌<◌, ◌≤◌, IsTrue, Bool, true, false, List, [], ◌∷◌, length, Some, arith, refl, ap, ◌∙◌, inl, inr}
+use Rattle.std.proofs.Common.{◌≡◌, ◌⊎◌, ℕ, ◌-◌, ◌^◌, ◌<◌, ◌≤◌, IsTrue, Bool, true, false, List, [], ◌∷◌, length, Some, arith, refl, ap, ◌∙◌, inl, inr}
 use Rattle.std.specs.List.{slice_get}
 use Rattle.std.proofs.lemmas.Bool.{cases_lt}
 use Rattle.std.proofs.lemmas.List.{length-append}
@@ -167,3 +167,7 @@ moment_after_run start old new Image run b = omega (arith, run.later, b.moment)
 -- where no fault was counted from the first of three points to the last, none was in either part
 pub no_fault_between : (a b c : FlashState) (First Second : ℕ → List Cell → Type 0) → Runs a b First → Runs b c Second → c.faults ≡ a.faults → (b.faults ≡ a.faults) × (c.faults ≡ b.faults)
 no_fault_between a b c First Second p q none = (omega (arith, p.faults, q.faults), omega (arith, p.faults, q.faults))
+
+-- a fault at the last value of the count leaves it there
+pub last_fault : (old new : FlashState) → IsWellFormed new → Faulted old new → old.faults ≡ 2 ^ 64 - 1 → new.faults ≡ 2 ^ 64 - 1
+last_fault old new w fault last = omega (arith, w.counts.faults_are, fault.rose)

@@ -1,5 +1,5 @@
 -- What contracts see of a flash, and what each call does to it.
-use Rattle.std.specs.Prelude.{◌≡◌, ℕ, ◌<◌, ◌≤◌, Bool, true, false, IsTrue, List, [], ◌∷◌, ◌++◌, length, slice_get, Some}
+use Rattle.std.specs.Prelude.{◌≡◌, ℕ, ◌^◌, ◌<◌, ◌≤◌, Bool, true, false, IsTrue, List, [], ◌∷◌, ◌++◌, length, slice_get, Some}
 use Rattle.fdp_base.specs.declared.config.Geometry.{Geometry}
 use Rattle.fdp_base.specs.declared.entry.Spot.{Spot}
 use Rattle.fdp_flash.specs.declared.answer.Operation.{Operation}
@@ -70,10 +70,17 @@ pub record Reads (old new : FlashState) : Type 0 where
   pub programs : new.programs ≡ old.programs
   pub cells : IsTrue old.told → new.cells ≡ old.cells
 
--- The geometry is a valid one. Where told there is a cell for each page, with the bytes of a block where it is whole;
+-- no count passes its last value
+pub record AreCounts (moment faults programs : ℕ) : Type 0 where
+  pub moment_is : moment < 2 ^ 64
+  pub faults_are : faults < 2 ^ 64
+  pub programs_are : programs < 2 ^ 64
+
+-- The geometry is a valid one, and no count passes its last value. Where told there is a cell for each page, with the bytes of a block where it is whole;
 -- each image has such cells too, so that a flash can go on with it; and each call has its place on the list.
 pub record IsWellFormed (s : FlashState) : Type 0 where
   pub geometry : IsValidGeometry s.geometry
+  pub counts : AreCounts s.moment s.faults s.programs
   pub size : IsTrue s.told → length s.cells ≡ all_pages s.geometry
   pub blocks : IsTrue s.told → (k : ℕ) (spare bytes : List ℕ) → slice_get s.cells k ≡ Some (Whole spare bytes) → length bytes ≡ s.geometry.block
   pub images : (m : ℕ) (image : List Cell) → s.during m image → AreCells s.geometry image

@@ -10,6 +10,7 @@ use Rattle.fdp_flash.specs.Plan.{keeps_calls}
 pub memory_well_formed : (flash : FlashMem) → IsWellFormed (state_of flash)
 memory_well_formed flash = record {
   geometry = flash.sound.geometry;
+  counts = flash.counts;
   size = λ t. flash.sound.size;
   blocks = λ t k spare bytes h. flash.sound.has_blocks.whole k spare bytes h;
   images = λ m image d. flash.sound.images m image d.0 d.1;

@@ -3,6 +3,7 @@ ghost use Rattle.std.proofs.Props.{props};
 ghost use Rattle.std.specs.Prelude.{◌≡◌, if◌then◌else◌};
 ghost use Rattle.fdp_base.specs.Counts.{counted};
 ghost use Rattle.fdp_base.specs.Geometry.{IsValidGeometry};
+ghost use Rattle.fdp_flash.specs.FlashState.{AreCounts};
 ghost use Rattle.fdp_flash.specs.MemoryState.{IsSound, count_of_programs};
 
 mod calls;
@@ -37,6 +38,7 @@ pub struct FlashMem {
     /// The cells that the flash began with, where it keeps its calls.
     first: Vec<Cell>,
     list: CallList,
+    ghost counts: { AreCounts moment faults programs } by { Prim.hlevel props },
     ghost sound: { IsSound plan geometry moment pages.cells.items pages.blocks.items first.items list.calls.items list.blocks.items (vec_capacity list.calls) } by { Prim.hlevel props },
 }
 

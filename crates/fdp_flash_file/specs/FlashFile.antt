@@ -42,6 +42,7 @@ nothing_told e = cc
 pub file_well_formed : {S : Type 0} → (flash : FlashFile S) → IsWellFormed (state_of flash)
 file_well_formed flash = record {
   geometry = flash.valid;
+  counts = flash.counts;
   size = λ t. absurd (nothing_told t);
   blocks = λ t. absurd (nothing_told t);
   images = λ m image d. absurd d;

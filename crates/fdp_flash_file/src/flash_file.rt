@@ -1,6 +1,7 @@
 ghost use Rattle.std.proofs.Props.{props};
 ghost use Rattle.std.specs.Prelude.{IfOk, IfSome};
 ghost use Rattle.fdp_base.specs.Geometry.{IsValidGeometry};
+ghost use Rattle.fdp_flash.specs.FlashState.{AreCounts};
 
 use crate::head::{HEAD_BYTES, read_head, write_head};
 use crate::page::{blank_pages, file_bytes, place_of, write_at};
@@ -31,6 +32,7 @@ pub struct FlashFile<S> {
     pub(crate) moment: u64,
     pub(crate) faults: u64,
     pub(crate) programs: u64,
+    ghost counts: { AreCounts moment faults programs } by { Prim.hlevel props },
     ghost valid: { IsValidGeometry geometry } by { Prim.hlevel props },
 }
 

@@ -7,6 +7,7 @@ pub invariant_of-result : goal.invariant_of-result
 invariant_of-result c =
     let none = c.in_ok-list.ensures.empty in
     record {
+      counts = record { moment_is = omega arith; faults_are = omega arith; programs_are = omega arith };
       sound = record {
         geometry = c.requires.geometry;
         size = c.requires.cells.size;
