@@ -12,6 +12,8 @@ mod pages;
 mod read;
 mod recorded;
 mod room;
+#[cfg(test)]
+mod tests;
 
 use crate::answer::Operation;
 use crate::cell::Cell;

@@ -22,8 +22,13 @@ pub enum PageState {
 }
 
 impl PageState {
+    ghost use Rattle.fdp_flash_file.specs.declared.page.PageState.{PageState};
+    ghost use Rattle.fdp_flash_file.specs.PageStates.{state_code};
+
     /// The byte that stands for a state.
-    pub fn code(self) -> u8 {
+    pub fn code(self) -> u8
+        ensures { result ≡ state_code self }
+    {
         match self {
             PageState::Blank => 0,
             PageState::Whole => 1,
@@ -32,7 +37,10 @@ impl PageState {
     }
 
     /// The state that a byte stands for. A byte that was never written is taken for a torn page.
-    pub fn of_code(code: u8) -> PageState {
+    pub fn of_code(code: u8) -> PageState
+        ensures known { (state : PageState) → code ≡ state_code state → result ≡ state }
+        ensures other { 2 < code → result ≡ PageState.Torn }
+    {
         match code {
             0 => PageState::Blank,
             1 => PageState::Whole,
@@ -131,11 +139,18 @@ pub fn read_expected<S: Read + Seek>(
     spare: &[u8; 32],
     bytes: &mut [u8],
 ) -> io::Result<Fetched> {
-    let mut kept = [0; 32];
-    match read_page(file, place, &mut kept, bytes)? {
-        Seen::Whole if kept == *spare => Ok(Fetched::Whole),
-        Seen::Whole | Seen::Blank | Seen::Torn => Ok(Fetched::Other),
-        Seen::Failed => Ok(Fetched::Failed),
+    match state_of(file, place)? {
+        PageState::Blank => Ok(Fetched::Other),
+        PageState::Torn => Ok(Fetched::Other),
+        PageState::Whole => {
+            let mut kept = [0; 32];
+            read_at(file, place.spare, &mut kept)?;
+            if kept != *spare {
+                return Ok(Fetched::Other);
+            }
+            file.read_exact(bytes)?;
+            Ok(Fetched::Whole)
+        }
     }
 }
 

@@ -1,4 +1,4 @@
-use Rattle.std.proofs.Common.{arith, ◌∙◌}
+use Rattle.std.proofs.Common.{arith, refl, ◌∙◌}
 use Rattle.fdp_flash.proofs.Units.{area_held, area_blank}
 use Rattle.fdp_flash.proofs.area.erase_area.Goals as goal
 
@@ -12,5 +12,7 @@ loop-i-preserved g c =
     record {
       held = area_held _ _ _ c.args.first c.args.count _ _ held (omega arith) (omega arith) c.in-Done.ensures.call c.in-Done.ensures.answer;
       blank = area_blank _ _ _ c.args.first c.args.count c.loop-i.i held c.loop-i.invariant.blank c.in-Done.ensures.answer;
+      faultless = c.in-Done.ensures.answer.ended.no_fault refl ∙ c.loop-i.invariant.faultless;
+      moments = omega (arith, c.in-Done.ensures.call.moment, c.loop-i.invariant.moments);
       programs = c.in-Done.ensures.answer.programs ∙ c.loop-i.invariant.programs;
     }
