@@ -1,7 +1,7 @@
 -- One call of a flash in memory: its state is sound after it, and it did what the plan says.
-use Rattle.std.proofs.Common.{◌≡◌, ◌⊎◌, ℕ, ◌+◌, ◌^◌, ◌<◌, ◌≤◌, ◌&&◌, nat_le, if◌then◌else◌, Bool, true, false, IsTrue, List, [], ◌∷◌, length, Option, Some, arith, refl, sym, ap, ◌∙◌, inl, inr}
+use Rattle.std.proofs.Common.{◌≡◌, ◌⊎◌, ℕ, ◌+◌, ◌^◌, ◌<◌, ◌≤◌, ◌&&◌, nat_le, nat_lt, if◌then◌else◌, Bool, true, false, IsTrue, List, [], ◌∷◌, length, Option, Some, arith, refl, sym, ap, ◌∙◌, inl, inr}
 use Rattle.std.specs.List.{slice_get}
-use Rattle.std.proofs.lemmas.Bool.{cases_lt, and_parts, and_from, leb-true, le-leb}
+use Rattle.std.proofs.lemmas.Bool.{cases_lt, and_parts, and_from, leb-true, le-leb, ltb-true}
 use Rattle.std.proofs.lemmas.List.{map-append}
 use Rattle.std.proofs.lemmas.Option.{slice_get_within}
 use Rattle.fdp_base.specs.declared.config.Geometry.{Geometry}
@@ -20,7 +20,7 @@ use Rattle.fdp_flash.specs.FlashState.{Begins, Ends}
 use Rattle.fdp_flash.specs.Layout.{IsIn, page_number}
 use Rattle.fdp_flash.specs.MemoryState.{state_by, IsSound, Called, count_of_programs}
 use Rattle.fdp_flash.specs.Noted.{Notes, NotesOne, HaveProgramBytes}
-use Rattle.fdp_flash.specs.Plan.{keeps_calls, fate_of, fails}
+use Rattle.fdp_flash.specs.Plan.{keeps_calls, is_full_before, fate_of, fails}
 use Rattle.fdp_flash.specs.Recorded.{replay, after_call, StopMayLeave, MayLeaveAt, call_of, ArePlaced}
 use Rattle.fdp_flash.proofs.Fates.{failure_is_planned, full_list_refuses}
 use Rattle.fdp_flash.proofs.ImageCells.{image_cells}
@@ -207,6 +207,23 @@ step_image plan g m faults programs cells old first m' faults' programs' cells' 
       ]
     ]
 
+-- a call behind a full list leaves no image but the cells
+step_behind : (plan : Plan) (g : Geometry) (m faults programs : ℕ) (cells : List Cell) (old : List Recorded) (first : List Cell)
+    (m' faults' programs' : ℕ) (cells' : List Cell) (new : List Recorded)
+    (operation : Operation) (at : Spot) (spare bytes : List ℕ) (fate : Fate) (failed : Bool) →
+    Step plan g m faults programs cells old first m' faults' programs' cells' new operation at spare bytes fate failed → IsTrue (is_full_before plan m') → (image : List Cell) →
+    IsTrue (keeps_calls plan) → MayLeaveAt g first new m' image → image ≡ cells
+step_behind plan g m faults programs cells old first m' faults' programs' cells' new operation at spare bytes fate failed s full_before image keeps d =
+    let before = s.sound.replayed keeps in
+    let behind : plan.calls < m' = ltb-true plan.calls m' (and_parts (keeps_calls plan) (nat_lt plan.calls m') full_before).1 in
+    elim (step_noted plan g m faults programs cells old first m' faults' programs' cells' new operation at spare bytes fate failed s) [
+      | inl noted ↦ absurd (omega (arith, noted, behind))
+      | inr full ↦ elim d [
+        | inl within ↦ absurd (omega (arith, within.moment_is, slice_get_within new within.before within.call within.call_is, ap length full.0, full, behind))
+        | inr left ↦ rw (left.1, full.0) (sym before)
+      ]
+    ]
+
 step_unchanged : (plan : Plan) (g : Geometry) (m faults programs : ℕ) (cells : List Cell) (old : List Recorded) (first : List Cell)
     (m' faults' programs' : ℕ) (cells' : List Cell) (new : List Recorded)
     (operation : Operation) (at : Spot) (spare bytes : List ℕ) (fate : Fate) (failed : Bool) →
@@ -271,4 +288,5 @@ step_called plan g m faults programs cells old first m' faults' programs' cells'
   cells = rw (← s.fate_is) s.cells_are;
   faults = s.faults_are;
   programs = s.programs_are;
+  behind = λ full later image d. step_behind plan g m faults programs cells old first m' faults' programs' cells' new operation at spare bytes fate failed s full image d.0 d.1;
 }

@@ -13,7 +13,7 @@ use Rattle.fdp_flash.specs.FlashState.{FlashState, Begins, Ends}
 use Rattle.fdp_base.specs.Geometry.{IsValidGeometry, all_pages, data_units}
 use Rattle.fdp_flash.specs.Cells.{AreCells, HaveBytes}
 use Rattle.fdp_flash.specs.Noted.{AllOfSize, HaveProgramBytes}
-use Rattle.fdp_flash.specs.Plan.{keeps_calls, plan_is_empty, fate_of, fails}
+use Rattle.fdp_flash.specs.Plan.{keeps_calls, is_full_before, plan_is_empty, fate_of, fails}
 use Rattle.fdp_flash.specs.Recorded.{replay, after_call, ArePlaced, StopMayLeave, MayLeaveAt, call_of}
 
 -- the state of a flash in memory: its cells are told, its images where it keeps its calls, and its calls while all of them are on the list
@@ -58,6 +58,11 @@ count_of_programs g Erase unit failed programs = programs
 count_of_programs g Program unit true programs = programs
 count_of_programs g Program unit false programs = if nat_lt unit (data_units g) then counted programs else programs
 
+-- a stop in a call behind a full list leaves all as it was
+abbrev pub LeavesAllBehind : Plan → FlashState → FlashState → Type 0
+LeavesAllBehind plan old new =
+    IsTrue (is_full_before plan new.moment) → old.moment < new.moment → (image : List Cell) → new.during new.moment image → image ≡ old.cells
+
 -- a call was made, with the fate that the plan has for its moment
 pub record Called (plan : Plan) (old new : FlashState) (operation : Operation) (at : Spot) (spare bytes : List ℕ) (failed : Bool) : Type 0 where
   pub begins : Begins old new
@@ -66,3 +71,4 @@ pub record Called (plan : Plan) (old new : FlashState) (operation : Operation) (
   pub cells : new.cells ≡ after_call old.geometry operation at spare bytes (fate_of plan new.moment) old.cells
   pub faults : new.faults ≡ (if failed then counted old.faults else old.faults)
   pub programs : new.programs ≡ count_of_programs old.geometry operation at.unit failed old.programs
+  pub behind : LeavesAllBehind plan old new
