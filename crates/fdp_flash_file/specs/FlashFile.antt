@@ -1,7 +1,6 @@
 -- A flash over a file as contracts see it: it tells its geometry and its counts, and nothing of what the file holds.
-use Rattle.std.specs.Prelude.{◌≡◌, ℕ, ◌<◌, ◌≤◌, Bool, true, false, IsTrue, List, []}
+use Rattle.std.specs.Prelude.{◌≡◌, ℕ, true, false, []}
 use Rattle.fdp_base.specs.declared.config.Geometry.{Geometry}
-use Rattle.fdp_base.specs.Geometry.{IsValidGeometry}
 use Rattle.fdp_flash.specs.FlashState.{FlashState, IsWellFormed}
 use Rattle.fdp_flash_file.specs.declared.flash_file.FlashFile.{FlashFile}
 
