@@ -17,7 +17,8 @@ use Rattle.fdp_flash.specs.declared.plan.Plan.{Plan}
 use Rattle.fdp_flash.specs.Answers.{Looks, Fetches, Programs, Erases, fetched_failed, wrote_failed}
 use Rattle.fdp_flash.specs.Cells.{IsErased}
 use Rattle.fdp_flash.specs.FlashState.{FlashState}
-use Rattle.fdp_flash.specs.Layout.{IsIn, page_number, page_count, data_unit_count}
+use Rattle.fdp_base.specs.Geometry.{all_pages, data_units}
+use Rattle.fdp_flash.specs.Layout.{IsIn, page_number}
 use Rattle.fdp_flash.specs.MemoryState.{Called}
 use Rattle.fdp_flash.specs.Plan.{fate_of, fails}
 use Rattle.fdp_flash.specs.Read.{ReadsPage, ReadsExpected}
@@ -80,14 +81,14 @@ fetch_read plan old new at any_spare any_bytes spare bytes result c told r = rec
 }
 
 pub program_answers : (plan : Plan) (old new : FlashState) (at : Spot) (spare bytes : List ℕ) (result : Wrote) →
-    Called plan old new Program at spare bytes (wrote_failed result) → IsIn old.geometry at → length old.cells ≡ page_count old.geometry →
+    Called plan old new Program at spare bytes (wrote_failed result) → IsIn old.geometry at → length old.cells ≡ all_pages old.geometry →
     slice_get old.cells (page_number old.geometry at) ≡ Some Blank → Programs old new at spare bytes result
 program_answers plan old new at spare bytes wrote.Done c i size blank = record {
   ended = c.ended;
   done = λ t e. c.cells ∙ ap (λ fate. after_call old.geometry Program at spare bytes fate old.cells) (only_done (fate_of plan new.moment) c.fate);
   failed = λ t e. absurd (let f : wrote.Done ≡ wrote.Failed = e in cc);
-  data_done = λ e data_unit. c.programs ∙ rw (lt-ltb at.unit (data_unit_count old.geometry) data_unit) refl;
-  system_done = λ e system_unit. c.programs ∙ rw (le-ltb at.unit (data_unit_count old.geometry) system_unit) refl;
+  data_done = λ e data_unit. c.programs ∙ rw (lt-ltb at.unit (data_units old.geometry) data_unit) refl;
+  system_done = λ e system_unit. c.programs ∙ rw (le-ltb at.unit (data_units old.geometry) system_unit) refl;
   not_done = λ e. absurd (let f : wrote.Done ≡ wrote.Failed = e in cc);
 }
 program_answers plan old new at spare bytes wrote.Failed c i size blank = record {
@@ -100,7 +101,7 @@ program_answers plan old new at spare bytes wrote.Failed c i size blank = record
 }
 
 erased_as_done : (plan : Plan) (old new : FlashState) (at : Spot) (spare bytes : List ℕ) →
-    Called plan old new Erase at spare bytes false → IsIn old.geometry at → length old.cells ≡ page_count old.geometry →
+    Called plan old new Erase at spare bytes false → IsIn old.geometry at → length old.cells ≡ all_pages old.geometry →
     IsErased old.geometry old.cells at.unit new.cells
 erased_as_done plan old new at spare bytes c i size =
     let fits = unit_fits old.geometry at.unit i.unit in
@@ -108,7 +109,7 @@ erased_as_done plan old new at spare bytes c i size =
     rw cells (filled_erases old.geometry at.unit old.cells (omega arith))
 
 pub erase_answers : (plan : Plan) (old new : FlashState) (unit : ℕ) (spare bytes : List ℕ) (result : Wrote) →
-    Called plan old new Erase (record { unit = unit; page = 0 }) spare bytes (wrote_failed result) → IsIn old.geometry (record { unit = unit; page = 0 }) → length old.cells ≡ page_count old.geometry →
+    Called plan old new Erase (record { unit = unit; page = 0 }) spare bytes (wrote_failed result) → IsIn old.geometry (record { unit = unit; page = 0 }) → length old.cells ≡ all_pages old.geometry →
     Erases old new unit result
 erase_answers plan old new unit spare bytes wrote.Done c i size = record {
   ended = c.ended;

@@ -1,7 +1,7 @@
 -- One call of a flash in memory: its state is sound after it, and it did what the plan says.
-use Rattle.std.proofs.Common.{◌≡◌, ◌⊎◌, ℕ, ◌+◌, ◌^◌, ◌<◌, ◌≤◌, ◌&&◌, nat_le, if◌then◌else◌, Bool, true, false, IsTrue, List, [], ◌∷◌, length, Option, Some, arith, refl, sym, ap, ◌∙◌, inl, inr}
+use Rattle.std.proofs.Common.{◌≡◌, ◌⊎◌, ℕ, ◌+◌, ◌^◌, ◌<◌, ◌≤◌, ◌&&◌, nat_le, nat_lt, if◌then◌else◌, Bool, true, false, IsTrue, List, [], ◌∷◌, length, Option, Some, arith, refl, sym, ap, ◌∙◌, inl, inr}
 use Rattle.std.specs.List.{slice_get}
-use Rattle.std.proofs.lemmas.Bool.{cases_lt, and_parts, and_from, leb-true, le-leb}
+use Rattle.std.proofs.lemmas.Bool.{cases_lt, and_parts, and_from, leb-true, le-leb, ltb-true}
 use Rattle.std.proofs.lemmas.List.{map-append}
 use Rattle.std.proofs.lemmas.Option.{slice_get_within}
 use Rattle.fdp_base.specs.declared.config.Geometry.{Geometry}
@@ -15,13 +15,15 @@ use Rattle.fdp_flash.specs.declared.plan.Fate.{Fate}
 use Rattle.fdp_flash.specs.declared.plan.Fate.TheVariants.{Refused}
 use Rattle.fdp_flash.specs.declared.plan.Plan.{Plan}
 use Rattle.fdp_flash.specs.Blocks.{HasBlocks}
-use Rattle.fdp_flash.specs.FlashState.{Begins, Ends, counted}
+use Rattle.fdp_base.specs.Counts.{counted}
+use Rattle.fdp_flash.specs.FlashState.{Begins, Ends}
 use Rattle.fdp_flash.specs.Layout.{IsIn, page_number}
 use Rattle.fdp_flash.specs.MemoryState.{state_by, IsSound, Called, count_of_programs}
-use Rattle.fdp_flash.specs.Noted.{Notes, NotesOne}
-use Rattle.fdp_flash.specs.Plan.{keeps_calls, fate_of, fails}
+use Rattle.fdp_flash.specs.Noted.{Notes, NotesOne, HaveProgramBytes}
+use Rattle.fdp_flash.specs.Plan.{keeps_calls, is_full_before, fate_of, fails}
 use Rattle.fdp_flash.specs.Recorded.{replay, after_call, StopMayLeave, MayLeaveAt, call_of, ArePlaced}
 use Rattle.fdp_flash.proofs.Fates.{failure_is_planned, full_list_refuses}
+use Rattle.fdp_flash.proofs.ImageCells.{image_cells}
 use Rattle.fdp_flash.proofs.Images.{image_earlier, image_kept, image_of_call, call_image, longer}
 use Rattle.fdp_flash.proofs.Lists.{append_cases}
 use Rattle.fdp_flash.proofs.Replay.{replay-noted, stop_unchanged, refused_changes_nothing, call_size}
@@ -41,6 +43,7 @@ pub record Step (plan : Plan) (g : Geometry) (m faults programs : ℕ) (cells : 
   pub small_faults : faults < 2 ^ 64
   pub small_programs : programs < 2 ^ 64
   pub place : IsIn g at
+  pub size : operation ≡ Program → length bytes ≡ g.block
   pub blank : operation ≡ Program → slice_get cells (page_number g at) ≡ Some Blank
   pub moment : m' ≡ counted m
   pub fate_is : fate ≡ fate_of plan m'
@@ -97,32 +100,49 @@ places_more g old new operation at fate spare bytes p i n k call h = elim (appen
   | inr last ↦ rw (← last.1, n.at_is) i
 ]
 
+program_bytes_more : (size : ℕ) (old new : List Recorded) (operation : Operation) (at : Spot) (fate : Fate) (spare bytes : List ℕ) → HaveProgramBytes size old →
+    (operation ≡ Program → length bytes ≡ size) → NotesOne old new operation at fate spare bytes → HaveProgramBytes size new
+program_bytes_more size old new operation at fate spare bytes p fits n k call h o = elim (append_cases old n.call call k (rw n.list at h)) [
+  | inl there ↦ p k call there o
+  | inr last ↦ (let is : operation ≡ Program = sym n.operation_is ∙ ap (λ (c : Recorded). c.operation) last.1 ∙ o in rw (← last.1, n.bytes_are is) (fits is))
+]
+
 -- the flash is sound after a call
 pub step_sound : (plan : Plan) (g : Geometry) (m faults programs : ℕ) (cells : List Cell) (old : List Recorded) (first : List Cell)
     (m' faults' programs' : ℕ) (cells' : List Cell) (new : List Recorded)
     (operation : Operation) (at : Spot) (spare bytes : List ℕ) (fate : Fate) (failed : Bool) →
     (s : Step plan g m faults programs cells old first m' faults' programs' cells' new operation at spare bytes fate failed) → IsSound plan g m' cells' s.blocks' first new s.call_blocks' s.capacity'
-step_sound plan g m faults programs cells old first m' faults' programs' cells' new operation at spare bytes fate failed s = record {
-  geometry = s.sound.geometry;
-  size = ap length s.cells_are ∙ call_size g operation at spare bytes fate cells ∙ s.sound.size;
-  has_blocks = s.has_blocks;
-  limit = s.sound.limit;
-  listed = elim (step_noted plan g m faults programs cells old first m' faults' programs' cells' new operation at spare bytes fate failed s) [
-    | inl noted ↦ omega (arith, longer old new noted.0.call noted.0.list, noted)
-    | inr full ↦ omega (arith, s.moment, s.small, s.sound.limit, ap length full.0, full)
-  ];
-  room = elim (step_noted plan g m faults programs cells old first m' faults' programs' cells' new operation at spare bytes fate failed s) [
-    | inl noted ↦ omega (arith, longer old new noted.0.call noted.0.list, s.noted.taken (omega (arith, s.sound.room, noted)), s.sound.room)
-    | inr full ↦ omega (arith, ap length full.0, ap length (s.noted.none_taken (omega (arith, s.sound.room, full))), s.sound.room)
-  ];
-  reserved = omega (arith, s.capacity_same, s.sound.reserved);
-  block_size = s.noted.sizes g.block s.sound.block_size;
-  places = elim (step_noted plan g m faults programs cells old first m' faults' programs' cells' new operation at spare bytes fate failed s) [
-    | inl noted ↦ places_more g old new operation at fate spare bytes s.sound.places s.place noted.0
-    | inr full ↦ rw full.0 s.sound.places
-  ];
-  replayed = step_replayed plan g m faults programs cells old first m' faults' programs' cells' new operation at spare bytes fate failed s;
-}
+step_sound plan g m faults programs cells old first m' faults' programs' cells' new operation at spare bytes fate failed s =
+    let size = ap length s.cells_are ∙ call_size g operation at spare bytes fate cells ∙ s.sound.size in
+    let replayed = step_replayed plan g m faults programs cells old first m' faults' programs' cells' new operation at spare bytes fate failed s in
+    let program_bytes : HaveProgramBytes g.block new = elim (step_noted plan g m faults programs cells old first m' faults' programs' cells' new operation at spare bytes fate failed s) [
+      | inl noted ↦ program_bytes_more g.block old new operation at fate spare bytes s.sound.program_bytes s.size noted.0
+      | inr full ↦ rw full.0 s.sound.program_bytes
+    ] in
+    record {
+      geometry = s.sound.geometry;
+      size = size;
+      has_blocks = s.has_blocks;
+      limit = s.sound.limit;
+      listed = elim (step_noted plan g m faults programs cells old first m' faults' programs' cells' new operation at spare bytes fate failed s) [
+        | inl noted ↦ omega (arith, longer old new noted.0.call noted.0.list, noted)
+        | inr full ↦ omega (arith, s.moment, s.small, s.sound.limit, ap length full.0, full)
+      ];
+      room = elim (step_noted plan g m faults programs cells old first m' faults' programs' cells' new operation at spare bytes fate failed s) [
+        | inl noted ↦ omega (arith, longer old new noted.0.call noted.0.list, s.noted.taken (omega (arith, s.sound.room, noted)), s.sound.room)
+        | inr full ↦ omega (arith, ap length full.0, ap length (s.noted.none_taken (omega (arith, s.sound.room, full))), s.sound.room)
+      ];
+      reserved = omega (arith, s.capacity_same, s.sound.reserved);
+      block_size = s.noted.sizes g.block s.sound.block_size;
+      places = elim (step_noted plan g m faults programs cells old first m' faults' programs' cells' new operation at spare bytes fate failed s) [
+        | inl noted ↦ places_more g old new operation at fate spare bytes s.sound.places s.place noted.0
+        | inr full ↦ rw full.0 s.sound.places
+      ];
+      program_bytes = program_bytes;
+      first_bytes = s.sound.first_bytes;
+      replayed = replayed;
+      images = λ t image keeps d. image_cells g cells' first new t image size s.has_blocks.whole (replayed keeps) (s.sound.first_bytes keeps) program_bytes d;
+    }
 
 step_earlier : (plan : Plan) (g : Geometry) (m faults programs : ℕ) (cells : List Cell) (old : List Recorded) (first : List Cell)
     (m' faults' programs' : ℕ) (cells' : List Cell) (new : List Recorded)
@@ -184,6 +204,23 @@ step_image plan g m faults programs cells old first m' faults' programs' cells' 
       | inr full ↦ elim d [
         | inl within ↦ absurd (omega (arith, within.moment_is, slice_get_within new within.before within.call within.call_is, ap length full.0, full, s.moment))
         | inr behind ↦ rw (behind.1, full.0, ← before) (stop_unchanged g operation at spare bytes cells s.blank)
+      ]
+    ]
+
+-- a call behind a full list leaves no image but the cells
+step_behind : (plan : Plan) (g : Geometry) (m faults programs : ℕ) (cells : List Cell) (old : List Recorded) (first : List Cell)
+    (m' faults' programs' : ℕ) (cells' : List Cell) (new : List Recorded)
+    (operation : Operation) (at : Spot) (spare bytes : List ℕ) (fate : Fate) (failed : Bool) →
+    Step plan g m faults programs cells old first m' faults' programs' cells' new operation at spare bytes fate failed → IsTrue (is_full_before plan m') → (image : List Cell) →
+    IsTrue (keeps_calls plan) → MayLeaveAt g first new m' image → image ≡ cells
+step_behind plan g m faults programs cells old first m' faults' programs' cells' new operation at spare bytes fate failed s full_before image keeps d =
+    let before = s.sound.replayed keeps in
+    let behind : plan.calls < m' = ltb-true plan.calls m' (and_parts (keeps_calls plan) (nat_lt plan.calls m') full_before).1 in
+    elim (step_noted plan g m faults programs cells old first m' faults' programs' cells' new operation at spare bytes fate failed s) [
+      | inl noted ↦ absurd (omega (arith, noted, behind))
+      | inr full ↦ elim d [
+        | inl within ↦ absurd (omega (arith, within.moment_is, slice_get_within new within.before within.call within.call_is, ap length full.0, full, behind))
+        | inr left ↦ rw (left.1, full.0) (sym before)
       ]
     ]
 
@@ -251,4 +288,5 @@ step_called plan g m faults programs cells old first m' faults' programs' cells'
   cells = rw (← s.fate_is) s.cells_are;
   faults = s.faults_are;
   programs = s.programs_are;
+  behind = λ full later image d. step_behind plan g m faults programs cells old first m' faults' programs' cells' new operation at spare bytes fate failed s full image d.0 d.1;
 }

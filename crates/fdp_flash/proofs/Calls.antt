@@ -2,14 +2,16 @@
 use Rattle.std.proofs.Common.{◌≡◌, ◌≢◌, ℕ, ◌<◌, IsTrue, List, Some, arith, refl}
 use Rattle.std.specs.List.{slice_get}
 use Rattle.fdp_base.specs.declared.entry.Spot.{Spot}
+use Rattle.fdp_flash.specs.declared.answer.Fetched.{Fetched}
+use Rattle.fdp_flash.specs.declared.answer.Seen.{Seen}
 use Rattle.fdp_flash.specs.declared.answer.Wrote.{Wrote}
 use Rattle.fdp_flash.specs.declared.answer.Wrote.TheVariants.{Done, Failed}
 use Rattle.fdp_flash.specs.declared.cell.Cell.TheVariants.{Whole}
-use Rattle.fdp_flash.specs.Answers.{Programs, Erases}
+use Rattle.fdp_flash.specs.Answers.{Looks, Fetches, Programs, Erases}
 use Rattle.fdp_flash.specs.Cells.{IsBlankFrom, IsBlankUnit, ProgramMayLeave, EraseMayLeave}
 use Rattle.fdp_flash.specs.FlashState.{FlashState, IsWellFormed}
 use Rattle.fdp_flash.specs.Layout.{IsIn, page_number}
-use Rattle.fdp_flash.proofs.Pages.{page_number-below, programmed_page, programmed_may_leave, program_other, program_behind, erased_may_leave, same_outside_page}
+use Rattle.fdp_flash.proofs.Pages.{page_number-below, programmed_page, programmed_may_leave, program_other, program_behind, erased_may_leave, same_outside_page, blank_unit_program, blank_unit_erase}
 
 -- whatever a program answers, it leaves what a stop in it may leave
 pub program_leaves : (old new : FlashState) (at : Spot) (spare bytes : List ℕ) (result : Wrote) →
@@ -54,3 +56,26 @@ pub erase_elsewhere : (old new : FlashState) (unit : ℕ) (result : Wrote) (at :
     slice_get new.cells (page_number old.geometry at) ≡ slice_get old.cells (page_number old.geometry at)
 erase_elsewhere old new unit result at a t inside n =
     same_outside_page old.geometry unit old.cells new.cells at (erase_leaves old new unit result a t).others inside n
+
+-- a blank unit stays so through a look
+pub blank_after_look : (old new : FlashState) (at : Spot) (spare bytes : List ℕ) (result : Seen) (unit : ℕ) →
+    Looks old new at spare bytes result → IsTrue old.told → IsBlankUnit old.geometry old.cells unit → IsBlankUnit old.geometry new.cells unit
+blank_after_look old new at spare bytes result unit a t blank = rw (a.reads.cells t) blank
+
+-- a blank unit stays so through a fetch
+pub blank_after_fetch : (old new : FlashState) (at : Spot) (spare bytes : List ℕ) (result : Fetched) (unit : ℕ) →
+    Fetches old new at spare bytes result → IsTrue old.told → IsBlankUnit old.geometry old.cells unit → IsBlankUnit old.geometry new.cells unit
+blank_after_fetch old new at spare bytes result unit a t blank = rw (a.reads.cells t) blank
+
+-- a blank unit stays so through a program of another unit
+pub blank_after_program : (old new : FlashState) (at : Spot) (spare bytes : List ℕ) (result : Wrote) (unit : ℕ) →
+    Programs old new at spare bytes result → IsTrue old.told → at.page < old.geometry.unit_pages → at.unit ≢ unit →
+    IsBlankUnit old.geometry old.cells unit → IsBlankUnit old.geometry new.cells unit
+blank_after_program old new at spare bytes result unit a t inside n blank =
+    blank_unit_program old.geometry old.cells at spare bytes new.cells unit (program_leaves old new at spare bytes result a t) inside n blank
+
+-- a blank unit stays so through an erase of another unit
+pub blank_after_erase : (old new : FlashState) (erased : ℕ) (result : Wrote) (unit : ℕ) →
+    Erases old new erased result → IsTrue old.told → unit ≢ erased → IsBlankUnit old.geometry old.cells unit → IsBlankUnit old.geometry new.cells unit
+blank_after_erase old new erased result unit a t n blank =
+    blank_unit_erase old.geometry old.cells erased new.cells unit (erase_leaves old new erased result a t) n blank

@@ -7,6 +7,8 @@ pub mod Faults
 pub mod Filled
 pub mod Images
 pub mod Lists
+pub mod Held
+pub mod ImageCells
 pub mod OnList
 pub mod Pages
 pub mod Reading

@@ -6,7 +6,7 @@ use Rattle.fdp_flash.specs.declared.cell.Cell.{Cell}
 use Rattle.fdp_flash.specs.declared.memory.recorded.Recorded.{Recorded}
 use Rattle.fdp_flash.specs.declared.plan.Outcome.{Outcome}
 use Rattle.fdp_flash.specs.declared.plan.Plan.{Plan}
-use Rattle.fdp_flash.specs.Layout.{page_count}
+use Rattle.fdp_base.specs.Geometry.{all_pages}
 use Rattle.fdp_flash.specs.MemoryState.{IsSound}
 use Rattle.fdp_flash.specs.Plan.{keeps_calls}
 use Rattle.fdp_flash.specs.Recorded.{replay, image_by, MayLeaveAt}
@@ -20,7 +20,7 @@ recorded_keeps plan g m cells blocks first calls call_blocks capacity moment s l
 
 -- the cells that it began with are as many as there are pages
 pub recorded_first : (plan : Plan) (g : Geometry) (m : ℕ) (cells : List Cell) (blocks : List (Option (List ℕ))) (first : List Cell) (calls : List Recorded) (call_blocks : List (List ℕ)) (capacity moment : ℕ) →
-    IsSound plan g m cells blocks first calls call_blocks capacity → 0 < moment → moment ≤ length calls → length first ≡ page_count g
+    IsSound plan g m cells blocks first calls call_blocks capacity → 0 < moment → moment ≤ length calls → length first ≡ all_pages g
 recorded_first plan g m cells blocks first calls call_blocks capacity moment s least most =
     let keeps = recorded_keeps plan g m cells blocks first calls call_blocks capacity moment s least most in
     sym (replay_size g calls first) ∙ sym (ap length (s.replayed keeps)) ∙ s.size
@@ -30,7 +30,7 @@ pub image_during : (plan : Plan) (g : Geometry) (m : ℕ) (cells : List Cell) (b
     IsSound plan g m cells blocks first calls call_blocks capacity → 0 < moment → moment ≤ length calls → MayLeaveAt g first calls moment (image_by g first calls moment outcome)
 image_during plan g m cells blocks first calls call_blocks capacity moment outcome s least most =
     let there = slice_get_there calls (moment - 1) (omega arith) in
-    let size : length (replay g (take (moment - 1) calls) first) ≡ page_count g =
+    let size : length (replay g (take (moment - 1) calls) first) ≡ all_pages g =
     replay_size g (take (moment - 1) calls) first ∙ recorded_first plan g m cells blocks first calls call_blocks capacity moment s least most in
     inl (record {
       before = moment - 1;

@@ -3,21 +3,23 @@ use Rattle.std.proofs.Common.{◌≡◌, ◌≢◌, ◌⊎◌, ℕ, ◌+◌, ◌
 use Rattle.std.specs.List.{slice_get}
 use Rattle.std.proofs.lemmas.Bool.{cases_lt}
 use Rattle.std.proofs.lemmas.List.{length-set}
+use Rattle.std.proofs.Math.Nat.{mul_comm}
 use Rattle.std.proofs.lemmas.Nat.{row_fits, same_from_place}
 use Rattle.fdp_base.specs.declared.config.Geometry.{Geometry}
 use Rattle.fdp_base.specs.declared.entry.Spot.{Spot}
 use Rattle.fdp_flash.specs.declared.cell.Cell.{Cell}
 use Rattle.fdp_flash.specs.declared.cell.Cell.TheVariants.{Blank, Torn, Whole}
 use Rattle.fdp_flash.specs.Cells.{IsBlankFrom, IsBlankUnit, IsSameOutside, IsProgrammed, IsErased, ProgramMayLeave, EraseMayLeave}
-use Rattle.fdp_flash.specs.Layout.{IsIn, first_page, page_number, page_count, unit_count}
+use Rattle.fdp_base.specs.Geometry.{all_pages, all_units}
+use Rattle.fdp_flash.specs.Layout.{IsIn, first_page, page_number}
 use Rattle.fdp_flash.proofs.Lists.{slice_get-set_same, slice_get-set_other}
 
 -- all pages of a unit are pages of the flash
-pub unit_fits : (g : Geometry) (unit : ℕ) → unit < unit_count g → first_page g unit + g.unit_pages ≤ page_count g
-unit_fits g unit h = row_fits unit g.unit_pages (unit_count g) g.unit_pages h (omega arith)
+pub unit_fits : (g : Geometry) (unit : ℕ) → unit < all_units g → first_page g unit + g.unit_pages ≤ all_pages g
+unit_fits g unit h = rw (mul_comm g.unit_pages (all_units g)) (row_fits unit g.unit_pages (all_units g) g.unit_pages h (omega arith))
 
 -- the number of a page is below that of all pages
-pub page_number-below : (g : Geometry) (at : Spot) → IsIn g at → page_number g at < page_count g
+pub page_number-below : (g : Geometry) (at : Spot) → IsIn g at → page_number g at < all_pages g
 page_number-below g at h = let fits = unit_fits g at.unit h.unit in let page = h.page in omega arith
 
 -- two pages with one number are one page
@@ -128,3 +130,17 @@ pub numbers_from_blank : (g : Geometry) (cells : List Cell) (at : Spot) → IsBl
 numbers_from_blank g cells at h k least most =
     let same : first_page g at.unit + (k - first_page g at.unit) ≡ k = omega arith in
     rw same at (h.blank (k - first_page g at.unit) (omega arith) (omega arith))
+
+-- a blank unit stays blank while pages of other units are programmed
+pub blank_unit_program : (g : Geometry) (old : List Cell) (at : Spot) (spare bytes : List ℕ) (new : List Cell) (unit : ℕ) →
+    ProgramMayLeave g old at spare bytes new → at.page < g.unit_pages → at.unit ≢ unit → IsBlankUnit g old unit → IsBlankUnit g new unit
+blank_unit_program g old at spare bytes new unit p inside n blank = record {
+  blank = λ page h. program_other_unit g old at spare bytes new unit p inside n page h ∙ blank.blank page h;
+}
+
+-- a blank unit stays blank while other units are erased
+pub blank_unit_erase : (g : Geometry) (old : List Cell) (erased : ℕ) (new : List Cell) (unit : ℕ) →
+    EraseMayLeave g old erased new → unit ≢ erased → IsBlankUnit g old unit → IsBlankUnit g new unit
+blank_unit_erase g old erased new unit p n blank = record {
+  blank = λ page h. same_outside_page g erased old new (record { unit = unit; page = page }) p.others h n ∙ blank.blank page h;
+}

@@ -13,7 +13,8 @@ use Rattle.fdp_flash.specs.declared.plan.Fate.{Fate}
 use Rattle.fdp_flash.specs.declared.plan.Fate.TheVariants.{Done, Fails, Refused}
 use Rattle.fdp_flash.specs.declared.plan.Outcome.{Outcome}
 use Rattle.fdp_flash.specs.declared.plan.Outcome.TheVariants.{Blank, Whole, Torn}
-use Rattle.fdp_flash.specs.Layout.{IsIn, first_page, page_number, page_count}
+use Rattle.fdp_base.specs.Geometry.{all_pages}
+use Rattle.fdp_flash.specs.Layout.{IsIn, first_page, page_number}
 use Rattle.fdp_flash.specs.Noted.{NotesOne}
 use Rattle.fdp_flash.specs.Recorded.{after_call, programmed_cell, replay, StopMayLeave}
 use Rattle.fdp_flash.proofs.Filled.{filled_erases, filled_torn, filled_size, erase_unchanged}
@@ -59,7 +60,7 @@ stop_unchanged g Erase at spare bytes cells blank = erase_unchanged g at.unit ce
 
 -- a stop with an outcome leaves what a stop may leave
 pub outcome_may_leave : (g : Geometry) (operation : Operation) (at : Spot) (spare bytes : List ℕ) (outcome : Outcome) (cells : List Cell) →
-    IsIn g at → length cells ≡ page_count g → StopMayLeave operation g cells at spare bytes (after_call g operation at spare bytes (Fails outcome) cells)
+    IsIn g at → length cells ≡ all_pages g → StopMayLeave operation g cells at spare bytes (after_call g operation at spare bytes (Fails outcome) cells)
 outcome_may_leave g Look at spare bytes outcome cells i size = refl
 outcome_may_leave g Fetch at spare bytes outcome cells i size = refl
 outcome_may_leave g Program at spare bytes Blank cells i size = record { cell = cell.Blank; page = inl refl; cells = refl }
@@ -72,7 +73,7 @@ outcome_may_leave g Erase at spare bytes Whole cells i size = erase_unchanged g 
 
 -- a call leaves what a stop within it may leave
 pub call_may_leave : (g : Geometry) (operation : Operation) (at : Spot) (spare bytes : List ℕ) (fate : Fate) (cells : List Cell) →
-    IsIn g at → length cells ≡ page_count g → (operation ≡ Program → slice_get cells (page_number g at) ≡ Some cell.Blank) →
+    IsIn g at → length cells ≡ all_pages g → (operation ≡ Program → slice_get cells (page_number g at) ≡ Some cell.Blank) →
     StopMayLeave operation g cells at spare bytes (after_call g operation at spare bytes fate cells)
 call_may_leave g Look at spare bytes fate cells i size blank = refl
 call_may_leave g Fetch at spare bytes fate cells i size blank = refl

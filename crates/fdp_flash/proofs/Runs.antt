@@ -1,5 +1,5 @@
 -- One call is a run, and runs that follow one another are one run.
-use Rattle.std.proofs.Common.{◌≡◌, ℕ, ◌-◌, ◌<◌, ◌≤◌, IsTrue, Bool, true, false, List, [], ◌∷◌, length, Some, arith, refl, ap, ◌∙◌, inl, inr}
+use Rattle.std.proofs.Common.{◌≡◌, ◌⊎◌, ℕ, ◌-◌, ◌^◌, ◌<◌, ◌≤◌, IsTrue, Bool, true, false, List, [], ◌∷◌, length, Some, arith, refl, ap, ◌∙◌, inl, inr}
 use Rattle.std.specs.List.{slice_get}
 use Rattle.std.proofs.lemmas.Bool.{cases_lt}
 use Rattle.std.proofs.lemmas.List.{length-append}
@@ -8,6 +8,7 @@ use Rattle.fdp_flash.specs.declared.answer.Fetched.{Fetched}
 use Rattle.fdp_flash.specs.declared.answer.Seen.{Seen}
 use Rattle.fdp_flash.specs.declared.answer.Wrote.{Wrote}
 use Rattle.fdp_flash.specs.declared.cell.Cell.{Cell}
+use Rattle.fdp_base.specs.Counts.{Rose}
 use Rattle.fdp_flash.specs.Answers.{Looks, Fetches, Programs, Erases}
 use Rattle.fdp_flash.specs.Cells.{ProgramMayLeave, EraseMayLeave}
 use Rattle.fdp_flash.specs.FlashState.{FlashState, Call, Begins, Ends, Faulted, IsWellFormed}
@@ -141,3 +142,32 @@ fault_after_run start old new Image run fault = record { rose = omega (arith, ru
 -- a fault before a run is a fault up to its end
 pub fault_before_run : (start old new : FlashState) (Image : ℕ → List Cell → Type 0) → Faulted start old → Runs old new Image → Faulted start new
 fault_before_run start old new Image fault run = record { rose = omega (arith, run.faults, fault.rose); unreliable = fault.unreliable }
+
+-- the images after one more call are those before it, and those of that call
+pub one_more_image : (old new : FlashState) (call : Call) (MayLeave : List Cell → Type 0) → Begins old new → Ends old new call MayLeave →
+    (m : ℕ) (image : List Cell) → m ≤ new.moment → new.during m image → ((m ≤ old.moment) × old.during m image) ⊎ ((m ≡ new.moment) × MayLeave image)
+one_more_image old new call MayLeave b e m image most d = elim (cases_lt old.moment m) [
+  | inl late ↦ (
+      let now : m ≡ new.moment = omega (arith, b.moment) in
+      inr (now, e.images image (omega arith) (rw now at d))
+      )
+  | inr early ↦ inl (early, b.earlier m image early d)
+]
+
+-- each image before one more call is one after it, and, where the calls are told, so is each that a stop in that call may leave
+pub image_one_more : (old new : FlashState) (call : Call) (MayLeave : List Cell → Type 0) → Begins old new → Ends old new call MayLeave → IsTrue new.tells_calls →
+    (m : ℕ) (image : List Cell) → ((m ≤ old.moment) × old.during m image) ⊎ ((m ≡ new.moment) × MayLeave image) → new.during m image
+image_one_more old new call MayLeave b e t m image (inl before) = b.kept m image before.0 before.1
+image_one_more old new call MayLeave b e t m image (inr now) = rw (now.0) (e.all_images t image now.1)
+
+-- the moment of a call behind a run has risen since the beginning of the run
+pub moment_after_run : (start old new : FlashState) (Image : ℕ → List Cell → Type 0) → Runs start old Image → Begins old new → Rose start.moment new.moment
+moment_after_run start old new Image run b = omega (arith, run.later, b.moment)
+
+-- where no fault was counted from the first of three points to the last, none was in either part
+pub no_fault_between : (a b c : FlashState) (First Second : ℕ → List Cell → Type 0) → Runs a b First → Runs b c Second → c.faults ≡ a.faults → (b.faults ≡ a.faults) × (c.faults ≡ b.faults)
+no_fault_between a b c First Second p q none = (omega (arith, p.faults, q.faults), omega (arith, p.faults, q.faults))
+
+-- a fault at the last value of the count leaves it there
+pub last_fault : (old new : FlashState) → IsWellFormed new → Faulted old new → old.faults ≡ 2 ^ 64 - 1 → new.faults ≡ 2 ^ 64 - 1
+last_fault old new w fault last = omega (arith, w.counts.faults_are, fault.rose)

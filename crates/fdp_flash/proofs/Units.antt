@@ -13,9 +13,8 @@ use Rattle.fdp_flash.specs.Area.{AreaMayLeave, IsBlankArea}
 use Rattle.fdp_flash.specs.Cells.{EraseMayLeave, IsErased}
 use Rattle.fdp_flash.specs.FlashState.{FlashState, Begins}
 use Rattle.fdp_flash.specs.Layout.{first_page}
-use Rattle.fdp_flash.specs.Runs.{Runs}
-use Rattle.fdp_flash.proofs.Calls.{erase_leaves}
-use Rattle.fdp_flash.proofs.Runs.{run_of_erase, runs_joined}
+use Rattle.fdp_flash.specs.Runs.{Holds}
+use Rattle.fdp_flash.proofs.Held.{holds_at_start, holds_after_erase}
 
 -- a later unit begins behind all pages of an earlier one
 unit_before : (g : Geometry) (unit later : ℕ) → unit < later → first_page g unit + g.unit_pages ≤ first_page g later
@@ -30,7 +29,12 @@ unit_not_after g unit later h = elim (cases_eq unit later) [
 pub area_unchanged : (g : Geometry) (first count : ℕ) (cells : List Cell) → AreaMayLeave g first count cells cells
 area_unchanged g first count cells = record { size = refl; below = λ k h. refl; above = λ k h. refl; inside = λ k. inl refl }
 
-inside_erase : (g : Geometry) (cells : List Cell) (unit : ℕ) (new : List Cell) (k : ℕ) → EraseMayLeave g cells unit new →
+-- before the first erase
+pub area_begins : (s : FlashState) (first count : ℕ) → Holds (AreaMayLeave s.geometry first count s.cells) s s
+area_begins s first count = holds_at_start _ s (λ told. area_unchanged s.geometry first count s.cells)
+
+-- each page after an erase that stopped is as it was, blank or torn
+pub inside_erase : (g : Geometry) (cells : List Cell) (unit : ℕ) (new : List Cell) (k : ℕ) → EraseMayLeave g cells unit new →
     (slice_get new k ≡ slice_get cells k) ⊎ (slice_get new k ≡ Some Blank) ⊎ (slice_get new k ≡ Some Torn)
 inside_erase g cells unit new k p = elim (cases_lt k (first_page g unit)) [
   | inl below ↦ inl (p.others.below k below)
@@ -75,29 +79,13 @@ area_blank_more g first i cells new p e unit least most = elim (cases_eq unit (f
 ]
 
 -- one erase more of a run of erases
-pub area_run : (start now new : FlashState) (first count unit : ℕ) (result : Wrote) →
-    Runs start now (λ m image. AreaMayLeave start.geometry first count start.cells image) →
-    (IsTrue start.told → AreaMayLeave start.geometry first count start.cells now.cells) →
-    first ≤ unit → unit < first + count → Begins now new → Erases now new unit result →
-    Runs start new (λ m image. AreaMayLeave start.geometry first count start.cells image)
-area_run start now new first count unit result run cells least most b e =
-    runs_joined start now new _ run
-    (run_of_erase now new unit result _ b e
-    (λ told later image left.
-    area_erased start.geometry first count start.cells now.cells unit image least most (cells (rw (← run.told) told)) (rw run.geometry at left)))
+pub area_held : (start now new : FlashState) (first count unit : ℕ) (result : Wrote) → Holds (AreaMayLeave start.geometry first count start.cells) start now →
+    first ≤ unit → unit < first + count → Begins now new → Erases now new unit result → Holds (AreaMayLeave start.geometry first count start.cells) start new
+area_held start now new first count unit result held least most b e =
+    holds_after_erase _ start now new unit result held b e (λ before left may. area_erased start.geometry first count start.cells now.cells unit left least most before may)
 
-pub area_cells : (start now new : FlashState) (first count unit : ℕ) (result : Wrote) →
-    Runs start now (λ m image. AreaMayLeave start.geometry first count start.cells image) →
-    (IsTrue start.told → AreaMayLeave start.geometry first count start.cells now.cells) →
-    first ≤ unit → unit < first + count → Erases now new unit result →
-    IsTrue start.told → AreaMayLeave start.geometry first count start.cells new.cells
-area_cells start now new first count unit result run cells least most e told =
-    area_erased start.geometry first count start.cells now.cells unit new.cells least most (cells told)
-    (rw run.geometry at (erase_leaves now new unit result e (rw run.told told)))
-
-pub area_blank : (start now new : FlashState) (first count i : ℕ) →
-    Runs start now (λ m image. AreaMayLeave start.geometry first count start.cells image) →
+pub area_blank : (start now new : FlashState) (first count i : ℕ) → Holds (AreaMayLeave start.geometry first count start.cells) start now →
     (IsTrue start.told → IsBlankArea start.geometry first i now.cells) → Erases now new (first + i) Done →
     IsTrue start.told → IsBlankArea start.geometry first (i + 1) new.cells
-area_blank start now new first count i run blank e told =
-    area_blank_more start.geometry first i now.cells new.cells (blank told) (rw run.geometry at (e.done (rw run.told told) refl))
+area_blank start now new first count i held blank e told =
+    area_blank_more start.geometry first i now.cells new.cells (blank told) (rw held.run.geometry at (e.done (rw held.run.told told) refl))

@@ -10,8 +10,10 @@ use Rattle.fdp_flash.specs.declared.answer.Wrote.{Wrote}
 use Rattle.fdp_flash.specs.declared.answer.Wrote.TheVariants as wrote
 use Rattle.fdp_flash.specs.declared.cell.Cell.TheVariants.{Blank, Torn, Whole}
 use Rattle.fdp_flash.specs.Cells.{IsProgrammed, IsErased, ProgramMayLeave, EraseMayLeave}
-use Rattle.fdp_flash.specs.FlashState.{FlashState, Ends, Reads, counted}
-use Rattle.fdp_flash.specs.Layout.{page_number, data_unit_count}
+use Rattle.fdp_base.specs.Counts.{counted}
+use Rattle.fdp_flash.specs.FlashState.{FlashState, Ends, Reads}
+use Rattle.fdp_base.specs.Geometry.{data_units}
+use Rattle.fdp_flash.specs.Layout.{page_number}
 
 -- whether a look failed
 abbrev pub seen_failed : Seen → Bool
@@ -58,8 +60,8 @@ pub record Programs (old new : FlashState) (at : Spot) (spare bytes : List ℕ) 
   pub ended : Ends old new (record { operation = Program; at = at; failed = wrote_failed result }) (ProgramMayLeave old.geometry old.cells at spare bytes)
   pub done : IsTrue old.told → result ≡ wrote.Done → IsProgrammed old.geometry old.cells at spare bytes new.cells
   pub failed : IsTrue old.told → result ≡ wrote.Failed → ProgramMayLeave old.geometry old.cells at spare bytes new.cells
-  pub data_done : result ≡ wrote.Done → at.unit < data_unit_count old.geometry → new.programs ≡ counted old.programs
-  pub system_done : result ≡ wrote.Done → data_unit_count old.geometry ≤ at.unit → new.programs ≡ old.programs
+  pub data_done : result ≡ wrote.Done → at.unit < data_units old.geometry → new.programs ≡ counted old.programs
+  pub system_done : result ≡ wrote.Done → data_units old.geometry ≤ at.unit → new.programs ≡ old.programs
   pub not_done : result ≡ wrote.Failed → new.programs ≡ old.programs
 
 -- An erase that is done leaves its unit blank. One that failed left each page of the unit as it was, blank or torn.

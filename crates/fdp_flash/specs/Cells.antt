@@ -4,7 +4,8 @@ use Rattle.fdp_base.specs.declared.config.Geometry.{Geometry}
 use Rattle.fdp_base.specs.declared.entry.Spot.{Spot}
 use Rattle.fdp_flash.specs.declared.cell.Cell.{Cell}
 use Rattle.fdp_flash.specs.declared.cell.Cell.TheVariants.{Blank, Torn, Whole}
-use Rattle.fdp_flash.specs.Layout.{first_page, page_count, page_number}
+use Rattle.fdp_base.specs.Geometry.{all_pages}
+use Rattle.fdp_flash.specs.Layout.{first_page, page_number}
 
 -- this page and those behind it in its unit are blank
 pub record IsBlankFrom (g : Geometry) (cells : List Cell) (at : Spot) : Type 0 where
@@ -16,7 +17,7 @@ pub record IsBlankUnit (g : Geometry) (cells : List Cell) (unit : ℕ) : Type 0 
 
 -- each page is blank
 pub record IsBlankFlash (g : Geometry) (cells : List Cell) : Type 0 where
-  pub blank : (k : ℕ) → k < page_count g → slice_get cells k ≡ Some Blank
+  pub blank : (k : ℕ) → k < all_pages g → slice_get cells k ≡ Some Blank
 
 -- each whole page has so many bytes
 abbrev pub HaveBytes : ℕ → List Cell → Type 0
@@ -24,7 +25,7 @@ HaveBytes size cells = (k : ℕ) (spare bytes : List ℕ) → slice_get cells k 
 
 -- a cell for each page, and the bytes of a block in each that is whole
 pub record AreCells (g : Geometry) (cells : List Cell) : Type 0 where
-  pub size : length cells ≡ page_count g
+  pub size : length cells ≡ all_pages g
   pub blocks : HaveBytes g.block cells
 
 -- the pages of all other units are as they were

@@ -6,9 +6,10 @@ use Rattle.fdp_flash.specs.declared.cell.Cell.{Cell}
 use Rattle.fdp_flash.specs.declared.memory.FlashMem.{FlashMem}
 use Rattle.fdp_flash.specs.declared.plan.Outcome.{Outcome}
 use Rattle.fdp_flash.specs.declared.plan.Plan.{Plan}
-use Rattle.fdp_flash.specs.FlashState.{FlashState, counted}
+use Rattle.fdp_base.specs.Counts.{counted}
+use Rattle.fdp_flash.specs.FlashState.{FlashState}
 use Rattle.fdp_flash.specs.Layout.{first_page, page_number}
-use Rattle.fdp_flash.specs.MemoryState.{state_by}
+use Rattle.fdp_flash.specs.MemoryState.{state_by, LeavesAllBehind}
 use Rattle.fdp_flash.specs.Plan.{fate_of, fails, keeps_calls, plan_is_empty}
 use Rattle.fdp_flash.specs.Recorded.{after_program, after_erase, image_by}
 
@@ -20,10 +21,12 @@ state_of flash = state_by flash.plan flash.geometry flash.moment flash.faults fl
 abbrev pub plan_of : FlashMem → Plan
 plan_of flash = flash.plan
 
--- the call failed exactly where the plan has it fail, that counts one fault, and the plan stays
+-- the call failed exactly where the plan has it fail, and that counts one fault; where it stands behind a full list of
+-- calls a stop in it leaves all as it was; and the plan stays
 pub record FollowsPlan (old new : FlashMem) (failed : Bool) : Type 0 where
   pub fate : failed ≡ fails (fate_of (plan_of old) (state_of new).moment)
   pub faults : (state_of new).faults ≡ (if failed then counted (state_of old).faults else (state_of old).faults)
+  pub behind : LeavesAllBehind (plan_of old) (state_of old) (state_of new)
   pub plan : plan_of new ≡ plan_of old
 
 -- the pages are as the plan says: all as they were, or what it names of the page that was to be programmed

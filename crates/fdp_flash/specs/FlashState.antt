@@ -1,11 +1,13 @@
 -- What contracts see of a flash, and what each call does to it.
-use Rattle.std.specs.Prelude.{◌≡◌, ℕ, ◌+◌, ◌-◌, ◌^◌, ◌<◌, ◌≤◌, min, Bool, true, false, IsTrue, List, [], ◌∷◌, ◌++◌, length, slice_get, Some}
+use Rattle.std.specs.Prelude.{◌≡◌, ℕ, ◌^◌, ◌<◌, ◌≤◌, Bool, true, false, IsTrue, List, [], ◌∷◌, ◌++◌, length, slice_get, Some}
 use Rattle.fdp_base.specs.declared.config.Geometry.{Geometry}
 use Rattle.fdp_base.specs.declared.entry.Spot.{Spot}
 use Rattle.fdp_flash.specs.declared.answer.Operation.{Operation}
 use Rattle.fdp_flash.specs.declared.cell.Cell.{Cell}
 use Rattle.fdp_flash.specs.declared.cell.Cell.TheVariants.{Whole}
-use Rattle.fdp_flash.specs.Layout.{IsGeometry, page_count}
+use Rattle.fdp_base.specs.Counts.{counted, Rose}
+use Rattle.fdp_base.specs.Geometry.{IsValidGeometry, all_pages}
+use Rattle.fdp_flash.specs.Cells.{AreCells}
 
 -- a call: what it did, its page (page 0 of the unit for an erase), and whether it failed
 pub record Call : Type 0 where
@@ -34,13 +36,9 @@ pub record FlashState : Type 1 where
   pub tells_calls : Bool
   pub calls : List Call
 
--- one more, in a count of 64 bits that stays at its last value
-abbrev pub counted : ℕ → ℕ
-counted n = min (n + 1) (2 ^ 64 - 1)
-
 -- the count of faults rose, or stands at its last value; no reliable flash does so
 pub record Faulted (old new : FlashState) : Type 0 where
-  pub rose : counted old.faults ≤ new.faults
+  pub rose : Rose old.faults new.faults
   pub unreliable : old.reliable ≡ false
 
 -- A call was made: the moment rose, no count fell, and what was told of earlier moments is as it was.
@@ -72,12 +70,20 @@ pub record Reads (old new : FlashState) : Type 0 where
   pub programs : new.programs ≡ old.programs
   pub cells : IsTrue old.told → new.cells ≡ old.cells
 
--- The geometry is a valid one. Where told there is a cell for each page, with the bytes of a block where it is whole,
--- and each call has its place on the list.
+-- no count passes its last value
+pub record AreCounts (moment faults programs : ℕ) : Type 0 where
+  pub moment_is : moment < 2 ^ 64
+  pub faults_are : faults < 2 ^ 64
+  pub programs_are : programs < 2 ^ 64
+
+-- The geometry is a valid one, and no count passes its last value. Where told there is a cell for each page, with the bytes of a block where it is whole;
+-- each image has such cells too, so that a flash can go on with it; and each call has its place on the list.
 pub record IsWellFormed (s : FlashState) : Type 0 where
-  pub geometry : IsGeometry s.geometry
-  pub size : IsTrue s.told → length s.cells ≡ page_count s.geometry
+  pub geometry : IsValidGeometry s.geometry
+  pub counts : AreCounts s.moment s.faults s.programs
+  pub size : IsTrue s.told → length s.cells ≡ all_pages s.geometry
   pub blocks : IsTrue s.told → (k : ℕ) (spare bytes : List ℕ) → slice_get s.cells k ≡ Some (Whole spare bytes) → length bytes ≡ s.geometry.block
+  pub images : (m : ℕ) (image : List Cell) → s.during m image → AreCells s.geometry image
   pub calls : IsTrue s.tells_calls → s.moment ≡ length s.calls
 
 -- the call of this moment stands on the list of calls

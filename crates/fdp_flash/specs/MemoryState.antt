@@ -8,10 +8,12 @@ use Rattle.fdp_flash.specs.declared.cell.Cell.{Cell}
 use Rattle.fdp_flash.specs.declared.memory.recorded.Recorded.{Recorded}
 use Rattle.fdp_flash.specs.declared.plan.Plan.{Plan}
 use Rattle.fdp_flash.specs.Blocks.{HasBlocks}
-use Rattle.fdp_flash.specs.FlashState.{FlashState, Begins, Ends, counted}
-use Rattle.fdp_flash.specs.Layout.{IsGeometry, page_count, data_unit_count}
-use Rattle.fdp_flash.specs.Noted.{AllOfSize}
-use Rattle.fdp_flash.specs.Plan.{keeps_calls, plan_is_empty, fate_of, fails}
+use Rattle.fdp_base.specs.Counts.{counted}
+use Rattle.fdp_flash.specs.FlashState.{FlashState, Begins, Ends}
+use Rattle.fdp_base.specs.Geometry.{IsValidGeometry, all_pages, data_units}
+use Rattle.fdp_flash.specs.Cells.{AreCells, HaveBytes}
+use Rattle.fdp_flash.specs.Noted.{AllOfSize, HaveProgramBytes}
+use Rattle.fdp_flash.specs.Plan.{keeps_calls, is_full_before, plan_is_empty, fate_of, fails}
 use Rattle.fdp_flash.specs.Recorded.{replay, after_call, ArePlaced, StopMayLeave, MayLeaveAt, call_of}
 
 -- the state of a flash in memory: its cells are told, its images where it keeps its calls, and its calls while all of them are on the list
@@ -31,10 +33,11 @@ state_by plan geometry moment faults programs cells first calls = record {
 }
 
 -- what holds of the parts of a flash in memory: among them that each page which is not whole has a block, that the
--- list is as long as it may be, and that the calls on it make the cells of those that stood there first
+-- list is as long as it may be, that the calls on it make the cells of those that stood there first, and that each
+-- image has such cells too
 pub record IsSound (plan : Plan) (g : Geometry) (moment : ℕ) (cells : List Cell) (blocks : List (Option (List ℕ))) (first : List Cell) (calls : List Recorded) (call_blocks : List (List ℕ)) (capacity : ℕ) : Type 0 where
-  pub geometry : IsGeometry g
-  pub size : length cells ≡ page_count g
+  pub geometry : IsValidGeometry g
+  pub size : length cells ≡ all_pages g
   pub has_blocks : HasBlocks g.block cells blocks
   pub limit : plan.calls < 2 ^ 32
   pub listed : length calls ≡ min moment plan.calls
@@ -42,7 +45,10 @@ pub record IsSound (plan : Plan) (g : Geometry) (moment : ℕ) (cells : List Cel
   pub reserved : plan.calls ≤ capacity
   pub block_size : AllOfSize g.block call_blocks
   pub places : ArePlaced g calls
+  pub program_bytes : HaveProgramBytes g.block calls
+  pub first_bytes : IsTrue (keeps_calls plan) → HaveBytes g.block first
   pub replayed : IsTrue (keeps_calls plan) → cells ≡ replay g calls first
+  pub images : (m : ℕ) (image : List Cell) → IsTrue (keeps_calls plan) → MayLeaveAt g first calls m image → AreCells g image
 
 -- the count of programs after a call
 abbrev pub count_of_programs : Geometry → Operation → ℕ → Bool → ℕ → ℕ
@@ -50,7 +56,12 @@ count_of_programs g Look unit failed programs = programs
 count_of_programs g Fetch unit failed programs = programs
 count_of_programs g Erase unit failed programs = programs
 count_of_programs g Program unit true programs = programs
-count_of_programs g Program unit false programs = if nat_lt unit (data_unit_count g) then counted programs else programs
+count_of_programs g Program unit false programs = if nat_lt unit (data_units g) then counted programs else programs
+
+-- a stop in a call behind a full list leaves all as it was
+abbrev pub LeavesAllBehind : Plan → FlashState → FlashState → Type 0
+LeavesAllBehind plan old new =
+    IsTrue (is_full_before plan new.moment) → old.moment < new.moment → (image : List Cell) → new.during new.moment image → image ≡ old.cells
 
 -- a call was made, with the fate that the plan has for its moment
 pub record Called (plan : Plan) (old new : FlashState) (operation : Operation) (at : Spot) (spare bytes : List ℕ) (failed : Bool) : Type 0 where
@@ -60,3 +71,4 @@ pub record Called (plan : Plan) (old new : FlashState) (operation : Operation) (
   pub cells : new.cells ≡ after_call old.geometry operation at spare bytes (fate_of plan new.moment) old.cells
   pub faults : new.faults ≡ (if failed then counted old.faults else old.faults)
   pub programs : new.programs ≡ count_of_programs old.geometry operation at.unit failed old.programs
+  pub behind : LeavesAllBehind plan old new

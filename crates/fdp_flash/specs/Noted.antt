@@ -6,6 +6,10 @@ use Rattle.fdp_flash.specs.declared.answer.Operation.TheVariants.{Program}
 use Rattle.fdp_flash.specs.declared.memory.recorded.Recorded.{Recorded}
 use Rattle.fdp_flash.specs.declared.plan.Fate.{Fate}
 
+-- each program on the list has the bytes of a block of this size
+abbrev pub HaveProgramBytes : ℕ → List Recorded → Type 0
+HaveProgramBytes size calls = (k : ℕ) (call : Recorded) → slice_get calls k ≡ Some call → call.operation ≡ Program → length call.bytes ≡ size
+
 -- each block has this size
 abbrev pub AllOfSize : ℕ → List (List ℕ) → Type 0
 AllOfSize size blocks = (k : ℕ) (block : List ℕ) → slice_get blocks k ≡ Some block → length block ≡ size

@@ -19,3 +19,9 @@ pub record Runs (old new : FlashState) (Image : ℕ → List Cell → Type 0) : 
   pub kept : (m : ℕ) (image : List Cell) → m ≤ old.moment → old.during m image → new.during m image
   pub listed_before : IsTrue new.tells_calls → IsTrue old.tells_calls
   pub listed : IsTrue new.tells_calls → (k : ℕ) (call : Call) → slice_get old.calls k ≡ Some call → slice_get new.calls k ≡ Some call
+
+-- Some calls were made between two states, or none. Where the cells are told, a fact holds of them after these calls, and
+-- of each image that a stop in one of these calls may have left.
+pub record Holds (Fact : List Cell → Type 0) (old new : FlashState) : Type 0 where
+  pub run : Runs old new (λ m image. Fact image)
+  pub cells : IsTrue old.told → Fact new.cells

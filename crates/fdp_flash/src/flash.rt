@@ -1,5 +1,6 @@
 ghost use Rattle.std.specs.Prelude.{◌≡◌, ◌<◌, length, IsTrue};
-ghost use Rattle.fdp_flash.specs.Layout.{IsGeometry, IsIn, unit_count};
+ghost use Rattle.fdp_base.specs.Geometry.{IsValidGeometry, all_units};
+ghost use Rattle.fdp_flash.specs.Layout.{IsIn};
 ghost use Rattle.fdp_flash.specs.Cells.{IsBlankFrom};
 ghost use Rattle.fdp_flash.specs.FlashState.{FlashState, Begins, IsWellFormed};
 ghost use Rattle.fdp_flash.specs.Answers.{Looks, Fetches, Programs, Erases};
@@ -17,7 +18,7 @@ pub trait Flash {
 
     fn geometry(&self) -> Geometry
         ensures value { result ≡ (state self.now).geometry }
-        ensures valid { IsGeometry result };
+        ensures valid { IsValidGeometry result };
 
     /// How many calls of `look`, `fetch`, `program` and `erase` have begun.
     fn moment(&self) -> u64
@@ -55,7 +56,7 @@ pub trait Flash {
 
     /// Makes each page of a unit blank.
     fn erase(&mut self, unit: u32) -> Wrote
-        requires place { unit < unit_count (state self.old).geometry }
+        requires place { unit < all_units (state self.old).geometry }
         ensures call { Begins (state self.old) (state self.new) }
         ensures answer { Erases (state self.old) (state self.new) unit result };
 

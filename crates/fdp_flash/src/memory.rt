@@ -1,8 +1,9 @@
 ghost use Rattle.std.specs.Vec.{vec_capacity};
 ghost use Rattle.std.proofs.Props.{props};
 ghost use Rattle.std.specs.Prelude.{◌≡◌, if◌then◌else◌};
-ghost use Rattle.fdp_flash.specs.FlashState.{counted};
-ghost use Rattle.fdp_flash.specs.Layout.{one_block_size};
+ghost use Rattle.fdp_base.specs.Counts.{counted};
+ghost use Rattle.fdp_base.specs.Geometry.{IsValidGeometry};
+ghost use Rattle.fdp_flash.specs.FlashState.{AreCounts};
 ghost use Rattle.fdp_flash.specs.MemoryState.{IsSound, count_of_programs};
 
 mod calls;
@@ -11,10 +12,12 @@ mod pages;
 mod read;
 mod recorded;
 mod room;
+#[cfg(test)]
+mod tests;
 
 use crate::answer::Operation;
 use crate::cell::Cell;
-use crate::layout::{first_index, has_place, is_data_unit, page_total};
+use crate::layout::{first_index, has_place, is_data_unit};
 use crate::memory::image::image;
 use crate::memory::pages::Pages;
 use crate::memory::read::{are_blank, have_blocks};
@@ -37,7 +40,8 @@ pub struct FlashMem {
     /// The cells that the flash began with, where it keeps its calls.
     first: Vec<Cell>,
     list: CallList,
-    ghost sound: { IsSound plan geometry moment pages.cells.items pages.blocks.items first.items list.calls.items list.blocks.items (vec_capacity list.calls) } by { Prim.hlevel (props, one_block_size) },
+    ghost counts: { AreCounts moment faults programs } by { Prim.hlevel props },
+    ghost sound: { IsSound plan geometry moment pages.cells.items pages.blocks.items first.items list.calls.items list.blocks.items (vec_capacity list.calls) } by { Prim.hlevel props },
 }
 
 impl FlashMem {
@@ -46,18 +50,19 @@ impl FlashMem {
     ghost use Rattle.fdp_flash.specs.declared.cell.Cell.TheVariants.{Blank};
     ghost use Rattle.fdp_flash.specs.FlashMem.{state_of, plan_of, image_of, BeginsWith};
     ghost use Rattle.fdp_flash.specs.FlashState.{WasRecorded};
-    ghost use Rattle.fdp_flash.specs.Layout.{IsGeometry, IsIn, page_count, page_number};
+    ghost use Rattle.fdp_base.specs.Geometry.{all_pages};
+    ghost use Rattle.fdp_flash.specs.Layout.{IsIn, page_number};
     ghost use Rattle.fdp_flash.specs.MemoryState.{Called};
 
     /// A blank flash. It takes the memory of all pages, and with a plan that keeps calls that of so many calls.
     ///
     /// It costs two writes of about 100 bytes and one of a block of zeros for each page, and a block for each call.
     pub fn new(alloc: Global, geometry: Geometry, plan: Plan) -> Result<FlashMem, AllocError>
-        requires { IsGeometry geometry }
-        ensures begins { IfOk result (BeginsWith geometry (replicate (page_count geometry) Blank) plan) }
+        requires { IsValidGeometry geometry }
+        ensures begins { IfOk result (BeginsWith geometry (replicate (all_pages geometry) Blank) plan) }
         ensures blank { IfOk result (λ flash. IsBlankFlash geometry (state_of flash).cells) }
     {
-        let cells = blank_cells(alloc, page_total(geometry))?;
+        let cells = blank_cells(alloc, geometry.all_pages() as usize)?;
         FlashMem::of_cells(alloc, geometry, cells, plan)
     }
 
@@ -68,7 +73,7 @@ impl FlashMem {
         cells: Vec<Cell>,
         plan: Plan,
     ) -> Result<FlashMem, AllocError>
-        requires geometry { IsGeometry geometry }
+        requires geometry { IsValidGeometry geometry }
         requires cells { AreCells geometry cells.items }
         ensures { IfOk result (BeginsWith geometry cells.items plan) }
     {
@@ -90,10 +95,10 @@ impl FlashMem {
 
     /// Whether these are the cells of a flash: one for each page, and a block in each that is whole. It looks at each.
     pub fn are_cells(geometry: Geometry, cells: &[Cell]) -> bool
-        requires { IsGeometry geometry }
+        requires { IsValidGeometry geometry }
         ensures { IsTrue result ↔ AreCells geometry cells.now }
     {
-        cells.len() == page_total(geometry) && have_blocks(cells, geometry.block as usize)
+        cells.len() == geometry.all_pages() as usize && have_blocks(cells, geometry.block as usize)
     }
 
     /// The pages in order.
@@ -143,6 +148,7 @@ impl FlashMem {
         requires { WasRecorded (state_of self.now) moment }
         ensures image { IfOk result (λ cells. cells.items ≡ image_of self.now moment outcome) }
         ensures during { IfOk result (λ cells. (state_of self.now).during moment cells.items) }
+        ensures cells { IfOk result (λ cells. AreCells (state_of self.now).geometry cells.items) }
     {
         let calls = self.list.calls.as_slice();
         image(
@@ -192,6 +198,7 @@ fn programs_after(
     failed: bool,
     programs: u64,
 ) -> u64
+    requires { IsValidGeometry geometry }
     ensures { result ≡ count_of_programs geometry operation unit failed programs }
 {
     match operation {

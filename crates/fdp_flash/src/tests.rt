@@ -9,7 +9,7 @@ use std::alloc::{AllocError, Global};
 use std::test::Fail;
 
 /// Two units of data and two of system areas, of two pages each.
-const SMALL: Geometry = Geometry {
+pub const SMALL: Geometry = Geometry {
     block: 512,
     unit_pages: 2,
     groups: 1,
@@ -264,58 +264,61 @@ fn plans_are_followed(rt: HostRuntime) -> Result<(), Fail> {
     Ok(())
 }
 
-/// What a stop in the call of a moment leaves of the script.
-const IMAGES: [(u64, Outcome, &str); 16] = [
-    (1, Outcome::Blank, "........"),
-    (1, Outcome::Torn, "~......."),
-    (1, Outcome::Whole, "1......."),
-    (2, Outcome::Torn, "1~......"),
-    (3, Outcome::Blank, "12......"),
-    (3, Outcome::Whole, "12..3..."),
-    (4, Outcome::Torn, "12..3..."),
-    (5, Outcome::Blank, "12..3..."),
-    (6, Outcome::Torn, "12.~3..."),
-    (7, Outcome::Blank, "...43..."),
-    (7, Outcome::Torn, "~~.43..."),
-    (7, Outcome::Whole, "12.43..."),
-    (8, Outcome::Torn, "~..43..."),
-    (9, Outcome::Blank, "5..4...."),
-    (9, Outcome::Torn, "5..4~~.."),
-    (9, Outcome::Whole, "5..43..."),
+/// The outcomes in the order of `IMAGES`.
+const OUTCOMES: [Outcome; 3] = [Outcome::Blank, Outcome::Torn, Outcome::Whole];
+
+/// What a stop in each call of the script leaves, with each outcome.
+const IMAGES: [[&str; 3]; 9] = [
+    ["........", "~.......", "1......."],
+    ["1.......", "1~......", "12......"],
+    ["12......", "12..~...", "12..3..."],
+    ["12..3...", "12..3...", "12..3..."],
+    ["12..3...", "12..3...", "12..3..."],
+    ["12..3...", "12.~3...", "12.43..."],
+    ["...43...", "~~.43...", "12.43..."],
+    ["...43...", "~..43...", "5..43..."],
+    ["5..4....", "5..4~~..", "5..43..."],
 ];
 
-/// Whether the image of a stop is this one, a flash that stopped there has just its cells, and one can be made of them.
-fn is_left(
+/// The pages by their letters, as looks tell them.
+fn looked(alloc: Global, flash: &mut FlashMem) -> Result<String, AllocError> {
+    let mut letters = String::new(alloc);
+    for page in 0..8 {
+        letters.push(perform(flash, Step::Look(page / 2, page % 2)))?;
+    }
+    Ok(letters)
+}
+
+/// The image of a stop, where a flash that really stopped there has just its cells, as a flash that goes on with it tells it.
+fn image_after(
     alloc: Global,
     flash: &FlashMem,
     moment: u64,
     outcome: Outcome,
-    cells: &str,
-) -> Result<bool, AllocError> {
+) -> Result<String, AllocError> {
     if !flash.has_recorded(moment) {
-        return Ok(false);
+        return Ok(String::new(alloc));
     }
     let image = flash.image_at(alloc, moment, outcome)?;
     let mut stopped = made(alloc, 0, None, Some((moment, outcome)))?;
     play(alloc, &mut stopped, &SCRIPT)?;
-    let is_same = stopped.cells() == image.as_slice();
-    if !FlashMem::are_cells(SMALL, image.as_slice()) {
-        return Ok(false);
+    if stopped.cells() != image.as_slice() || !FlashMem::are_cells(SMALL, image.as_slice()) {
+        return Ok(String::new(alloc));
     }
-    let next = FlashMem::of_cells(alloc, SMALL, image, Plan::empty(alloc))?;
-    let drawing = drawn(alloc, next.cells())?;
-    Ok(is_same && drawing.as_str() == cells)
+    let mut next = FlashMem::of_cells(alloc, SMALL, image, Plan::empty(alloc))?;
+    looked(alloc, &mut next)
 }
 
 #[test]
 fn images_are_what_a_stop_leaves(rt: HostRuntime) -> Result<(), Fail> {
     let mut flash = made(rt.alloc(), 9, None, None)?;
     play(rt.alloc(), &mut flash, &SCRIPT)?;
-    for &(moment, outcome, cells) in &IMAGES {
-        assert!(rt;
-            is_left(rt.alloc(), &flash, moment, outcome, cells)?,
-            "{cells}"
-        );
+    for moment in 1..=9 {
+        let images = &IMAGES[moment as usize - 1];
+        for (outcome, image) in OUTCOMES.iter().zip(images.iter()) {
+            let told = image_after(rt.alloc(), &flash, moment, *outcome)?;
+            assert_eq!(rt; told.as_str(), *image, "{moment}");
+        }
     }
     assert!(rt; !flash.has_recorded(0));
     assert!(rt; !flash.has_recorded(10));
@@ -339,5 +342,24 @@ fn torn_pages_and_areas(rt: HostRuntime) -> Result<(), Fail> {
     assert!(rt; flash.has_place(Spot { unit: 3, page: 0 }));
     assert!(rt; erase_area(&mut flash, 2, 2) == Wrote::Done);
     assert_eq!(rt; drawn(rt.alloc(), flash.cells())?.as_str(), "........");
+    Ok(())
+}
+
+/// A page that was skipped stays blank, and is not programmed before its unit is erased.
+#[test]
+fn skipped_pages(rt: HostRuntime) -> Result<(), Fail> {
+    let mut flash = made(rt.alloc(), 0, None, None)?;
+    let steps = [
+        Step::Program(1, 1, b'4'),
+        Step::Program(1, 0, b'5'),
+        Step::Look(1, 0),
+        Step::Fetch(1, 1, b'4'),
+        Step::Program(1, 1, b'6'),
+        Step::Erase(1),
+        Step::Program(1, 0, b'7'),
+        Step::Look(1, 0),
+    ];
+    assert_eq!(rt; play(rt.alloc(), &mut flash, &steps)?.as_str(), "D-.4-DD7");
+    assert_eq!(rt; flash.programs(), 2);
     Ok(())
 }

@@ -11,7 +11,8 @@ impl Flash for FlashMem {
     ghost use Rattle.fdp_flash.specs.Cells.{IsBlankFrom};
     ghost use Rattle.fdp_flash.specs.FlashMem.{state_of, FollowsPlan, ProgramsAsPlanned, ErasesAsPlanned};
     ghost use Rattle.fdp_flash.specs.FlashState.{Begins};
-    ghost use Rattle.fdp_flash.specs.Layout.{IsIn, unit_count};
+    ghost use Rattle.fdp_base.specs.Geometry.{all_units};
+    ghost use Rattle.fdp_flash.specs.Layout.{IsIn};
     ghost use Rattle.fdp_flash.specs.WellFormed.{memory_well_formed};
 
     ghost state = { state_of };
@@ -79,7 +80,7 @@ impl Flash for FlashMem {
     }
 
     fn erase(&mut self, unit: u32) -> Wrote
-        requires place { unit < unit_count (state_of self.old).geometry }
+        requires place { unit < all_units (state_of self.old).geometry }
         ensures call { Begins (state_of self.old) (state_of self.new) }
         ensures answer { Erases (state_of self.old) (state_of self.new) unit result }
         ensures planned { FollowsPlan self.old self.new (wrote_failed result) }

@@ -1,6 +1,7 @@
 ghost use Rattle.std.specs.Prelude.{◌≡◌, ◌+◌, ◌≤◌, ◌<◌, ◌^◌, length, slice_get, take, Some, OnOk, IfOk};
 ghost use Rattle.fdp_flash.specs.Blocks.{unwritten};
-ghost use Rattle.fdp_flash.specs.Layout.{IsIn, page_count};
+ghost use Rattle.fdp_base.specs.Geometry.{IsValidGeometry, all_pages};
+ghost use Rattle.fdp_flash.specs.Layout.{IsIn};
 ghost use Rattle.fdp_flash.specs.Recorded.{after_call, after_erase, filled, image_by, programmed_by, replay, stopped, ArePlaced};
 
 use crate::answer::Operation;
@@ -22,8 +23,8 @@ pub fn image(
     moment: u64,
     outcome: Outcome,
 ) -> Result<Vec<Cell>, AllocError>
-    requires size { length first.now ≡ page_count geometry }
-    requires small { page_count geometry ≤ 2 ^ 18 }
+    requires size { length first.now ≡ all_pages geometry }
+    requires valid { IsValidGeometry geometry }
     requires places { ArePlaced geometry calls.now }
     requires least { 0 < moment }
     requires most { moment ≤ length calls.now }
@@ -48,8 +49,8 @@ fn remake(
     before: usize,
     outcome: Outcome,
 ) -> Result<(), AllocError>
-    requires size { length cells.old ≡ page_count geometry }
-    requires small { page_count geometry ≤ 2 ^ 18 }
+    requires size { length cells.old ≡ all_pages geometry }
+    requires valid { IsValidGeometry geometry }
     requires places { ArePlaced geometry calls.now }
     requires within { before < length calls.now }
     ensures { OnOk result (cells.new ≡ stopped geometry (slice_get calls.now before) outcome (replay geometry (take before calls.now) cells.old)) }
@@ -60,8 +61,8 @@ fn remake(
 
 /// Changes cells as these calls did. It takes memory for each page that becomes whole.
 fn replay(geometry: Geometry, cells: &mut [Cell], calls: &[Recorded]) -> Result<(), AllocError>
-    requires size { length cells.old ≡ page_count geometry }
-    requires small { page_count geometry ≤ 2 ^ 18 }
+    requires size { length cells.old ≡ all_pages geometry }
+    requires valid { IsValidGeometry geometry }
     requires places { ArePlaced geometry calls.now }
     ensures { OnOk result (cells.new ≡ replay geometry calls.now cells.old) }
 {
@@ -78,8 +79,8 @@ fn repeat(
     call: &Recorded,
     fate: Fate,
 ) -> Result<(), AllocError>
-    requires size { length cells.old ≡ page_count geometry }
-    requires small { page_count geometry ≤ 2 ^ 18 }
+    requires size { length cells.old ≡ all_pages geometry }
+    requires valid { IsValidGeometry geometry }
     requires place { IsIn geometry call.now.at }
     ensures { OnOk result (cells.new ≡ after_call geometry call.now.operation call.now.at call.now.spare call.now.bytes fate cells.old) }
 {

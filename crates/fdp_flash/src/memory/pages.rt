@@ -1,7 +1,8 @@
 ghost use Rattle.std.specs.Prelude.{◌≡◌, ℕ, ◌+◌, ◌<◌, ◌≤◌, ◌^◌, length, slice_get, slice_set, Some};
 ghost use Rattle.fdp_flash.specs.declared.cell.Cell.TheVariants.{Blank, Whole};
 ghost use Rattle.fdp_flash.specs.Blocks.{HasBlocks, unwritten};
-ghost use Rattle.fdp_flash.specs.Layout.{IsIn, page_count, page_number};
+ghost use Rattle.fdp_base.specs.Geometry.{IsValidGeometry, all_pages};
+ghost use Rattle.fdp_flash.specs.Layout.{IsIn, page_number};
 ghost use Rattle.fdp_flash.specs.Recorded.{filled, after_call, after_erase, after_program};
 
 use crate::answer::Operation;
@@ -30,8 +31,8 @@ impl Pages {
         fate: Fate,
     )
         requires place { IsIn geometry at }
-        requires size { length self.old.cells.items ≡ page_count geometry }
-        requires small { page_count geometry ≤ 2 ^ 18 }
+        requires size { length self.old.cells.items ≡ all_pages geometry }
+        requires valid { IsValidGeometry geometry }
         requires block { operation ≡ Operation.Program → length bytes.now ≡ geometry.block }
         requires order { operation ≡ Operation.Program → slice_get self.old.cells.items (page_number geometry at) ≡ Some Blank }
         requires blocks { HasBlocks geometry.block self.old.cells.items self.old.blocks.items }

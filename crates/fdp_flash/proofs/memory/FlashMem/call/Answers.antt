@@ -20,6 +20,7 @@ invariant_of-self c =
       small_faults = omega arith;
       small_programs = omega arith;
       place = c.requires.place;
+      size = c.requires.size;
       blank = c.requires.order;
       moment = c.saturating_add-self.ensures;
       fate_is = c.fate-fate.ensures;
@@ -31,7 +32,7 @@ invariant_of-self c =
       faults_are = c.faults_after-self.ensures;
       programs_are = c.programs_after-self.ensures;
     } in
-    record { sound = step_sound _ _ _ _ _ _ _ _ _ _ _ _ _ _ _ _ _ _ _ step }
+    record { counts = record { moment_is = omega arith; faults_are = omega arith; programs_are = omega arith }; sound = step_sound _ _ _ _ _ _ _ _ _ _ _ _ _ _ _ _ _ _ _ step }
 
 pub returns-clause-called : goal.returns-clause-called
 returns-clause-called c =
@@ -50,6 +51,7 @@ returns-clause-called c =
       small_faults = omega arith;
       small_programs = omega arith;
       place = c.requires.place;
+      size = c.requires.size;
       blank = c.requires.order;
       moment = c.saturating_add-self.ensures;
       fate_is = c.fate-fate.ensures;

@@ -1,0 +1,4 @@
+pub mod FlashFile
+pub mod Head
+pub mod PageStates
+pub mod Places

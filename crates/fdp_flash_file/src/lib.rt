@@ -1,0 +1,12 @@
+//! The flash of the drive over a file.
+#![tactic(auto)]
+
+mod calls;
+mod flash_file;
+mod head;
+mod page;
+#[cfg(test)]
+mod tests;
+
+pub use flash_file::{FlashFile, TakeError};
+pub use head::is_valid_geometry;
