@@ -48,7 +48,7 @@ both_true false b e = absurd cc
 both_within : (low high n : ℕ) → low ≤ n → n ≤ high → (nat_le low n && nat_le n high) ≡ true
 both_within low high n lo hi = grind (arith, nat_tests)
 
-within_both : (low high n : ℕ) → (nat_le low n && nat_le n high) ≡ true → (low ≤ n) × (n ≤ high)
+pub within_both : (low high n : ℕ) → (nat_le low n && nat_le n high) ≡ true → (low ≤ n) × (n ≤ high)
 within_both low high n e =
     let both = both_true (nat_le low n) (nat_le n high) e in
     (grind (arith, nat_tests, both.0), grind (arith, nat_tests, both.1))

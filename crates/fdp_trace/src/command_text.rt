@@ -1,8 +1,9 @@
 //! Commands in the form of a trace.
 
-ghost use Rattle.std.specs.Prelude.{◌≡◌, ◌≤◌, ◌++◌, ◌∷◌, false, length, OnOk, OnErr, map, flat_map, decimal, []};
-ghost use Rattle.fdp_trace.specs.CommandText.{payload_word, directive_words, range_words, on_word, class_words, argument_words, command_text, spaced_behind, IsSpelled};
+ghost use Rattle.std.specs.Prelude.{◌≡◌, ◌≤◌, ℕ, List, ◌++◌, ◌∷◌, false, length, OnOk, OnErr, map, flat_map, decimal, []};
+ghost use Rattle.fdp_trace.specs.CommandText.{payload_word, directive_words, range_words, on_word, class_words, argument_words, command_text, spaced_behind};
 ghost use Rattle.fdp_trace.specs.Printing.{Extends};
+ghost use Rattle.fdp_trace.specs.Demands.{Spells};
 ghost use Rattle.fdp_trace.specs.Grammar.{is_skipped, Says};
 ghost use Rattle.fdp_base.specs.declared.command.Command.{Command};
 
@@ -218,8 +219,9 @@ fn push_word(text: &mut Vec<u8>, word: &[u8]) -> Result<(), AllocError>
     text.extend_from_slice(word)
 }
 
-/// The line that is printed of a command that a trace can spell says that command, where the line is not too long.
+/// The line that is printed of a command says that command, where a line of a trace can spell it and the line is not
+/// too long.
 pub fn printed_is_read()
-    ensures { (command : Command) → IsSpelled command → length (command_text command) ≤ 4096
+    ensures { (words : List (List ℕ)) (command : Command) → Spells words command → length (command_text command) ≤ 4096
         → (is_skipped (command_text command) ≡ false) × Says (command_text command) command }
 {}
