@@ -1,4 +1,3 @@
-pub mod Few
 pub mod Lacking
 pub mod Printed
 pub mod Served

@@ -1,6 +1,7 @@
 -- Phase tags.
 use Rattle.std.proofs.Common.{◌≡◌, ℕ, ◌+◌, ◌-◌, ◌*◌, ◌/◌, ◌%◌, ◌<◌, ◌≤◌, true, false, ◌==◌, nat_lt, refl, sym, ap, ◌∙◌, arith, inl, inr}
 use Rattle.std.proofs.lemmas.Nat.{div-add-mod', div-mul-add, mod_below}
+use Rattle.std.proofs.Math.Nat.{mod-add-mod}
 use Rattle.std.proofs.lemmas.Bool.{cases_lt}
 use Rattle.std.proofs.lemmas.Bool.Decides.{nat_tests}
 use Rattle.fdp_queues.specs.Phase.{phase_tag}
@@ -9,7 +10,7 @@ even_more : (q n : ℕ) → (2 * q + n) % 2 ≡ n % 2
 even_more q n = omega arith
 
 -- two turns of the ring change no tag
-pub tag_is : (depth posts : ℕ) → 0 < depth → phase_tag depth (posts % (2 * depth)) ≡ phase_tag depth posts
+tag_is : (depth posts : ℕ) → 0 < depth → phase_tag depth (posts % (2 * depth)) ≡ phase_tag depth posts
 tag_is depth posts some =
     let q = posts / (2 * depth) in
     let r = posts % (2 * depth) in
@@ -37,3 +38,11 @@ tag_by_turn depth posts some below =
       | inl first ↦ let e = before depth posts first in let t : nat_lt posts depth ≡ true = grind (arith, nat_tests) in rw (e, t) refl
       | inr second ↦ let e = behind depth posts second below in let t : nat_lt posts depth ≡ false = grind (arith, nat_tests) in rw (e, t) refl
     ]
+
+-- one completion more
+pub one_more : (depth posts count : ℕ) → posts ≡ count % (2 * depth) → (posts + 1) % (2 * depth) ≡ (count + 1) % (2 * depth)
+one_more depth posts count e = ap (λ (n : ℕ). (n + 1) % (2 * depth)) e ∙ mod-add-mod count (2 * depth) 1
+
+-- the tag of a slot, by all completions that were ever posted
+pub tag_by_count : (depth posts count : ℕ) → 0 < depth → posts < 2 * depth → posts ≡ count % (2 * depth) → nat_lt posts depth ≡ phase_tag depth count
+tag_by_count depth posts count some below e = tag_by_turn depth posts some below ∙ ap (phase_tag depth) e ∙ tag_is depth count some

@@ -42,28 +42,102 @@ abbrev pub bit : Bool → ℕ
 bit true = 1
 bit false = 0
 
--- NLB, and of a write DTYPE
-abbrev pub blocks_word : ℕ → ℕ → ℕ
-blocks_word count dtype = zero_based 65536 count + 2 ^ 20 * (dtype % 16)
+-- ---- the fields of the words, each with its place; what no field has is zero
 
--- the words of each command; a create carries its values beside its entry
+-- NLB, CDW12 bits 15:0: the number of logical blocks, zero-based
+abbrev pub nlb : ℕ → ℕ
+nlb count = zero_based 65536 count
+
+-- DTYPE, CDW12 bits 23:20: the directive type
+abbrev pub dtype_field : ℕ → ℕ
+dtype_field dtype = 2 ^ 20 * (dtype % 16)
+
+-- DSPEC, CDW13 bits 31:16: the directive specific value, a placement identifier
+abbrev pub dspec_field : ℕ → ℕ
+dspec_field dspec = 2 ^ 16 * dspec
+
+-- NR, CDW10 bits 7:0: the number of ranges, zero-based
+abbrev pub ranges_field : ℕ → ℕ
+ranges_field count = zero_based 256 count
+
+-- AD, CDW11 bit 2: deallocate
+abbrev pub deallocate_field : Bool → ℕ
+deallocate_field deallocate = 2 ^ 2 * bit deallocate
+
+-- MO, CDW10 bits 7:0: the management operation
+abbrev pub operation_field : ℕ → ℕ
+operation_field mo = mo
+
+-- MOS, CDW10 bits 31:16: the number of placement identifiers, zero-based
+abbrev pub identifiers_field : ℕ → ℕ
+identifiers_field count = 2 ^ 16 * zero_based 65536 count
+
+-- NUMD: the number of dwords, zero-based; a log page has its low half in CDW10 and its high half in CDW11
+abbrev pub numd : ℕ → ℕ
+numd dwords = zero_based 4294967296 dwords
+
+-- NUMDL, CDW10 bits 31:16
+abbrev pub numd_low : ℕ → ℕ
+numd_low dwords = 2 ^ 16 * (numd dwords % 65536)
+
+-- NUMDU, CDW11 bits 15:0
+abbrev pub numd_high : ℕ → ℕ
+numd_high dwords = numd dwords / 65536
+
+-- LID, CDW10 bits 7:0: the log page
+abbrev pub page_field : ℕ → ℕ
+page_field lid = lid
+
+-- LSP, CDW10 bits 14:8: the log specific parameter
+abbrev pub parameter_field : ℕ → ℕ
+parameter_field lsp = 2 ^ 8 * (lsp % 128)
+
+-- LSI, CDW11 bits 31:16: the endurance group of a log page
+abbrev pub log_group_field : ℕ → ℕ
+log_group_field group = 2 ^ 16 * group
+
+-- FID, CDW10 bits 7:0: the feature; 1Dh is Flexible Data Placement, 1Eh its events
+abbrev pub feature_field : ℕ → ℕ
+feature_field feature = feature
+
+-- ENDGID, CDW11 bits 15:0: the endurance group of a feature
+abbrev pub group_field : ℕ → ℕ
+group_field group = group
+
+-- FDPE, CDW12 bit 0: enable
+abbrev pub enable_field : Bool → ℕ
+enable_field enable = bit enable
+
+-- FDPCIDX, CDW12 bits 15:8: the configuration
+abbrev pub index_field : ℕ → ℕ
+index_field index = 2 ^ 8 * index
+
+-- the placement handle of its events, CDW11 bits 15:0
+abbrev pub handle_field : ℕ → ℕ
+handle_field handle = handle
+
+-- NOET, CDW11 bits 23:16: the number of event types, not zero-based
+abbrev pub types_field : ℕ → ℕ
+types_field count = 2 ^ 16 * (count % 256)
+
+-- ---- the words of each command: opcode, NSID, CDW10 to CDW13; a create carries its values beside its entry
+
 abbrev pub words_of : Command → Words
 words_of (commands.Flush nsid) = io 0x00 nsid 0 0 0 0
-words_of (commands.Write nsid slba count dtype dspec payload) = io 0x01 nsid (low slba) (high slba) (blocks_word count dtype) (2 ^ 16 * dspec)
-words_of (commands.Read nsid slba count) = io 0x02 nsid (low slba) (high slba) (zero_based 65536 count) 0
-words_of (commands.Zero nsid slba count) = io 0x08 nsid (low slba) (high slba) (zero_based 65536 count) 0
-words_of (commands.Dealloc nsid deallocate ranges) = io 0x09 nsid (zero_based 256 (length ranges)) (4 * bit deallocate) 0 0
-words_of (commands.Status nsid mo dwords) = io 0x12 nsid mo (zero_based 4294967296 dwords) 0 0
-words_of (commands.Update nsid mo pids) = io 0x1d nsid (mo + 2 ^ 16 * zero_based 65536 (length pids)) 0 0 0
+words_of (commands.Write nsid slba count dtype dspec payload) = io 0x01 nsid (low slba) (high slba) (nlb count + dtype_field dtype) (dspec_field dspec)
+words_of (commands.Read nsid slba count) = io 0x02 nsid (low slba) (high slba) (nlb count) 0
+words_of (commands.Zero nsid slba count) = io 0x08 nsid (low slba) (high slba) (nlb count) 0
+words_of (commands.Dealloc nsid deallocate ranges) = io 0x09 nsid (ranges_field (length ranges)) (deallocate_field deallocate) 0 0
+words_of (commands.Status nsid mo dwords) = io 0x12 nsid (operation_field mo) (numd dwords) 0 0
+words_of (commands.Update nsid mo pids) = io 0x1d nsid (operation_field mo + identifiers_field (length pids)) 0 0 0
 words_of (commands.Log lid lsp group offset dwords) =
-    let count = zero_based 4294967296 dwords in
-    admin 0x02 0 (lid + 2 ^ 8 * (lsp % 128) + 2 ^ 16 * (count % 65536)) (count / 65536 + 2 ^ 16 * group) (low offset) (high offset)
-words_of (commands.SetFdp group enable index) = admin 0x09 0 0x1d group (bit enable + 2 ^ 8 * index) 0
-words_of (commands.GetFdp group) = admin 0x0a 0 0x1d group 0 0
-words_of (commands.SetEvents nsid handle enable types) = admin 0x09 nsid 0x1e (handle + 2 ^ 16 * (length types % 256)) (bit enable) 0
+    admin 0x02 0 (page_field lid + parameter_field lsp + numd_low dwords) (numd_high dwords + log_group_field group) (low offset) (high offset)
+words_of (commands.SetFdp group enable index) = admin 0x09 0 (feature_field 0x1d) (group_field group) (enable_field enable + index_field index) 0
+words_of (commands.GetFdp group) = admin 0x0a 0 (feature_field 0x1d) (group_field group) 0 0
+words_of (commands.SetEvents nsid handle enable types) = admin 0x09 nsid (feature_field 0x1e) (handle_field handle + types_field (length types)) (enable_field enable) 0
 words_of (commands.Create size given list) = admin 0x0d 0 0 0 0 0
 words_of (commands.Delete nsid) = admin 0x0d nsid 1 0 0 0
-words_of (commands.Other is_admin opcode flags feature) = record { admin = is_admin; opcode = opcode; flags = flags; nsid = 0; cdw10 = feature; cdw11 = 0; cdw12 = 0; cdw13 = 0 }
+words_of (commands.Other is_admin opcode flags feature) = record { admin = is_admin; opcode = opcode; flags = flags; nsid = 0; cdw10 = feature_field feature; cdw11 = 0; cdw12 = 0; cdw13 = 0 }
 
 -- the entry with these words, of a command with this identifier
 abbrev pub entry_of : Words → ℕ → Sqe

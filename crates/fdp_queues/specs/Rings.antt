@@ -1,5 +1,5 @@
 -- A queue pair as its callers see it.
-use Rattle.std.specs.Prelude.{◌≡◌, ℕ, ◌-◌, ◌*◌, ◌<◌, ◌≤◌, Bool, List}
+use Rattle.std.specs.Prelude.{◌≡◌, ℕ, ◌-◌, ◌%◌, ◌*◌, ◌<◌, ◌≤◌, Bool, List}
 use Rattle.fdp_layouts.specs.declared.completion.Cqe.{Cqe}
 use Rattle.fdp_queues.specs.declared.work.Work.{Work}
 use Rattle.fdp_queues.specs.Phase.{phase_tag}
@@ -18,6 +18,10 @@ IsFullAt depth entries = entries ≡ depth - 1
 -- a completion with its phase tag
 abbrev pub with_phase : Bool → Cqe → Cqe
 with_phase phase cqe = record cqe { status = record cqe.status { phase = phase } }
+
+-- so many completions were ever posted; a pair keeps their number within two turns of the ring
+abbrev pub HasPosted : Rings → ℕ → Type 0
+HasPosted r count = r.posts ≡ count % (2 * r.depth)
 
 -- the completion as it is posted into a ring
 abbrev pub posted : Rings → Cqe → Cqe

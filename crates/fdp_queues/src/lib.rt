@@ -6,7 +6,7 @@ mod queue_pair;
 mod work;
 
 pub use entry::work_of;
-pub use queue_pair::{Full, QueuePair, tag_after};
+pub use queue_pair::{Full, QueuePair};
 pub use work::Work;
 
 #[cfg(test)]

@@ -1,5 +1,4 @@
 ghost use Rattle.std.specs.Prelude.{◌≡◌, ◌↔◌, ◌+◌, ◌-◌, ◌*◌, ◌%◌, ◌<◌, ◌≤◌, ℕ, [], ◌∷◌, ◌++◌, length, IsErr, IfOk, OnOk, OnErr, MatchOption};
-ghost use Rattle.fdp_queues.specs.Phase.{phase_tag};
 
 use crate::work::Work;
 use fdp_layouts::Cqe;
@@ -38,13 +37,15 @@ impl Model for QueuePair {
 }
 
 impl QueuePair {
-    ghost use Rattle.fdp_queues.specs.Rings.{Rings, IsFullAt, posted};
+    ghost use Rattle.fdp_queues.specs.Phase.{phase_tag};
+    ghost use Rattle.fdp_queues.specs.Rings.{Rings, HasPosted, IsFullAt, posted, with_phase};
 
     /// Two empty rings of `depth` slots each, in all the memory that they will ever take.
     pub fn new(alloc: Global, depth: u16) -> Result<Self, AllocError>
         requires shallow { 2 ≤ depth }
         requires deep { depth ≤ 1024 }
-        ensures { IfOk result (λ q. q ≡ record { depth = depth; submissions = []; completions = []; posts = 0 }) }
+        ensures empty { IfOk result (λ q. q ≡ record { depth = depth; submissions = []; completions = []; posts = 0 }) }
+        ensures none_posted { IfOk result (λ q. HasPosted q 0) }
     {
         let slots = usize::from(depth - 1);
         let submissions = VecDeque::with_capacity(alloc, slots)?;
@@ -61,6 +62,7 @@ impl QueuePair {
     pub fn submit(&mut self, work: Work) -> Result<(), Full>
         ensures ok { OnOk result (self.new ≡ record self.old { submissions = self.old.submissions ++ work ∷ [] }) }
         ensures full { IsErr result ↔ IsFullAt self.old.depth (length self.old.submissions) }
+        ensures bounded { length self.new.submissions < self.new.depth }
         ensures err { OnErr result (self.new ≡ self.old) }
     {
         if self.submissions.len() + 1 == usize::from(self.depth) {
@@ -78,14 +80,17 @@ impl QueuePair {
         self.submissions.pop_front()
     }
 
-    /// Puts a completion behind the others, with the phase tag of its slot. The SQ head and the SQ identifier are what
-    /// the caller gives.
+    /// Puts a completion behind the others, with the phase tag of its slot: 1 at first, and inverted on each wrap. All
+    /// else, as the SQ head and the SQ identifier, is what the caller gives.
     pub fn post(&mut self, cqe: Cqe) -> Result<(), Full>
         ensures ok { OnOk result (self.new ≡ record self.old {
           completions = self.old.completions ++ posted self.old cqe ∷ [];
           posts = (self.old.posts + 1) % (2 * self.old.depth);
         }) }
+        ensures phase { OnOk result ((count : ℕ) → HasPosted self.old count
+            → (self.new.completions ≡ self.old.completions ++ with_phase (phase_tag self.old.depth count) cqe ∷ []) × HasPosted self.new (count + 1)) }
         ensures full { IsErr result ↔ IsFullAt self.old.depth (length self.old.completions) }
+        ensures bounded { length self.new.completions < self.new.depth }
         ensures err { OnErr result (self.new ≡ self.old) }
     {
         if self.completions.len() + 1 == usize::from(self.depth) {
@@ -106,8 +111,3 @@ impl QueuePair {
         self.completions.pop_front()
     }
 }
-
-/// The phase tag after any number of posts is that of the number that a pair keeps of it.
-pub fn tag_after()
-    ensures { (depth posts : ℕ) → 0 < depth → phase_tag depth (posts % (2 * depth)) ≡ phase_tag depth posts }
-{}

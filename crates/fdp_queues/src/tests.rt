@@ -1,133 +1,249 @@
 use super::*;
 use fdp_base::{Command, Payload, Range, Sequence, Status};
 use fdp_layouts::{Cqe, Frame, StatusField};
+use std::alloc::Global;
 use std::test::Fail;
 
-/// The entry of a command with identifier 0102h: its first eight bytes, and CDW10 to CDW13.
-fn entry(command: &Command) -> (bool, [u8; 8], [u32; 4]) {
+/// Whether the entry of a command with identifier 0102h has these first eight bytes and these bytes of CDW10 to CDW13,
+/// and is zero everywhere else.
+fn is_entry(command: &Command, admin: bool, head: [u8; 8], words: [u8; 16]) -> bool {
     let work = work_of(command, 0x0102);
-    let bytes = work.sqe.encode();
-    let head = [
-        bytes[0], bytes[1], bytes[2], bytes[3], bytes[4], bytes[5], bytes[6], bytes[7],
-    ];
-    (
-        work.admin,
-        head,
-        [
-            work.sqe.cdw10,
-            work.sqe.cdw11,
-            work.sqe.cdw12,
-            work.sqe.cdw13,
-        ],
-    )
+    let mut bytes = [0; 64];
+    for i in 0..8 {
+        bytes[i] = head[i];
+    }
+    for i in 0..16 {
+        bytes[40 + i] = words[i];
+    }
+    work.admin == admin && work.sqe.encode() == bytes
+}
+
+fn write(slba: u64, count: u32, dtype: u8, dspec: u16) -> Command {
+    Command::Write {
+        nsid: 1,
+        slba,
+        count,
+        dtype,
+        dspec,
+        payload: Payload::Pattern(7),
+    }
 }
 
 #[test]
-fn io_entries(rt: HostRuntime) -> Result<(), Fail> {
-    let alloc = rt.alloc();
-    let payload = Payload::Pattern(7);
-    let slba = 0x1122_3344_5566_7788;
-    let write = Command::Write {
-        nsid: 1,
-        slba,
+fn writes(rt: HostRuntime) {
+    let nsid = [0x01, 0, 2, 1, 1, 0, 0, 0];
+    assert!(rt; is_entry(&write(0, 1, 0, 0), false, nsid, [0; 16]));
+    let placed = [
+        0x88, 0x77, 0x66, 0x55, 0x44, 0x33, 0x22, 0x11, 1, 0, 0x20, 0, 0, 0, 1, 0x80,
+    ];
+    assert!(rt;
+        is_entry(
+            &write(0x1122_3344_5566_7788, 2, 2, 0x8001),
+            false,
+            nsid,
+            placed
+        )
+    );
+    let greatest = [
+        0xff, 0xff, 0xff, 0xff, 0xff, 0xff, 0xff, 0xff, 0xff, 0xff, 0xf0, 0, 0, 0, 0xff, 0xff,
+    ];
+    assert!(rt; is_entry(&write(u64::MAX, 65536, 15, 0xffff), false, nsid, greatest));
+}
+
+#[test]
+fn reads(rt: HostRuntime) {
+    let least = Command::Read {
+        nsid: 0,
+        slba: 0,
         count: 1,
-        dtype: 2,
-        dspec: 0x8001,
-        payload,
     };
-    let words = [0x5566_7788, 0x1122_3344, 0x0020_0000, 0x8001_0000];
-    assert!(rt; entry(&write) == (false, [0x01, 0, 2, 1, 1, 0, 0, 0], words));
-    let read = Command::Read {
+    assert!(rt; is_entry(&least, false, [0x02, 0, 2, 1, 0, 0, 0, 0], [0; 16]));
+    let greatest = Command::Read {
         nsid: 0xffff_ffff,
-        slba: 1,
+        slba: u64::MAX,
         count: 65536,
     };
-    assert!(rt;
-        entry(&read)
-            == (
-                false,
-                [0x02, 0, 2, 1, 0xff, 0xff, 0xff, 0xff],
-                [1, 0, 0xffff, 0]
-            )
-    );
+    let words = [
+        0xff, 0xff, 0xff, 0xff, 0xff, 0xff, 0xff, 0xff, 0xff, 0xff, 0, 0, 0, 0, 0, 0,
+    ];
+    let all = [0x02, 0, 2, 1, 0xff, 0xff, 0xff, 0xff];
+    assert!(rt; is_entry(&greatest, false, all, words));
+    let zero = Command::Zero {
+        nsid: 1,
+        slba: 0x1_0000_0002,
+        count: 256,
+    };
+    let words = [2, 0, 0, 0, 1, 0, 0, 0, 0xff, 0, 0, 0, 0, 0, 0, 0];
+    assert!(rt; is_entry(&zero, false, [0x08, 0, 2, 1, 1, 0, 0, 0], words));
     let zero = Command::Zero {
         nsid: 1,
         slba: 0,
-        count: 2,
+        count: 1,
     };
-    assert!(rt; entry(&zero) == (false, [0x08, 0, 2, 1, 1, 0, 0, 0], [0, 0, 1, 0]));
-    let ranges = Sequence::from_vec([
-        Range { slba: 0, length: 1 },
-        Range { slba: 9, length: 1 },
-    ].to_vec(alloc)?);
-    let dealloc = Command::Dealloc {
+    assert!(rt; is_entry(&zero, false, [0x08, 0, 2, 1, 1, 0, 0, 0], [0; 16]));
+    let flush = Command::Flush { nsid: 0xffff_ffff };
+    let all = [0x00, 0, 2, 1, 0xff, 0xff, 0xff, 0xff];
+    assert!(rt; is_entry(&flush, false, all, [0; 16]));
+}
+
+fn dealloc(alloc: Global, count: usize, deallocate: bool) -> Result<Command, Fail> {
+    let mut ranges = Vec::new(alloc);
+    for _ in 0..count {
+        ranges.push(Range { slba: 0, length: 1 })?;
+    }
+    Ok(Command::Dealloc {
         nsid: 1,
-        deallocate: true,
-        ranges,
-    };
-    assert!(rt; entry(&dealloc) == (false, [0x09, 0, 2, 1, 1, 0, 0, 0], [1, 4, 0, 0]));
-    let flush = Command::Flush { nsid: 1 };
-    assert!(rt; entry(&flush) == (false, [0x00, 0, 2, 1, 1, 0, 0, 0], [0, 0, 0, 0]));
-    let status = Command::Status {
+        deallocate,
+        ranges: Sequence::from_vec(ranges),
+    })
+}
+
+fn update(alloc: Global, count: usize) -> Result<Command, Fail> {
+    let mut pids = Vec::new(alloc);
+    for _ in 0..count {
+        pids.push(0u16)?;
+    }
+    Ok(Command::Update {
         nsid: 1,
         mo: 1,
-        dwords: 65536,
-    };
-    assert!(rt; entry(&status) == (false, [0x12, 0, 2, 1, 1, 0, 0, 0], [1, 0xffff, 0, 0]));
-    let pids = Sequence::from_vec([0u16, 1, 2].to_vec(alloc)?);
-    let update = Command::Update {
+        pids: Sequence::from_vec(pids),
+    })
+}
+
+#[test]
+fn lists(rt: HostRuntime) -> Result<(), Fail> {
+    let alloc = rt.alloc();
+    let head = [0x09, 0, 2, 1, 1, 0, 0, 0];
+    let one = dealloc(alloc, 1, false)?;
+    assert!(rt; is_entry(&one, false, head, [0; 16]));
+    let most = dealloc(alloc, 256, true)?;
+    let words = [0xff, 0, 0, 0, 4, 0, 0, 0, 0, 0, 0, 0, 0, 0, 0, 0];
+    assert!(rt; is_entry(&most, false, head, words));
+    let head = [0x1d, 0, 2, 1, 1, 0, 0, 0];
+    let one = update(alloc, 1)?;
+    let words = [1, 0, 0, 0, 0, 0, 0, 0, 0, 0, 0, 0, 0, 0, 0, 0];
+    assert!(rt; is_entry(&one, false, head, words));
+    let most = update(alloc, 256)?;
+    let words = [1, 0, 0xff, 0, 0, 0, 0, 0, 0, 0, 0, 0, 0, 0, 0, 0];
+    assert!(rt; is_entry(&most, false, head, words));
+    Ok(())
+}
+
+fn status(mo: u8, dwords: u32) -> Command {
+    Command::Status {
         nsid: 1,
-        mo: 1,
-        pids,
-    };
-    assert!(rt; entry(&update) == (false, [0x1d, 0, 2, 1, 1, 0, 0, 0], [0x0002_0001, 0, 0, 0]));
+        mo,
+        dwords,
+    }
+}
+
+fn log(lid: u8, lsp: u8, group: u16, offset: u64, dwords: u32) -> Command {
+    Command::Log {
+        lid,
+        lsp,
+        group,
+        offset,
+        dwords,
+    }
+}
+
+#[test]
+fn reports(rt: HostRuntime) {
+    let head = [0x12, 0, 2, 1, 1, 0, 0, 0];
+    let words = [1, 0, 0, 0, 0, 0, 0, 0, 0, 0, 0, 0, 0, 0, 0, 0];
+    assert!(rt; is_entry(&status(1, 1), false, head, words));
+    let words = [0xff, 0, 0, 0, 0xff, 0xff, 0, 0, 0, 0, 0, 0, 0, 0, 0, 0];
+    assert!(rt; is_entry(&status(255, 65536), false, head, words));
+    let head = [0x02, 0, 2, 1, 0, 0, 0, 0];
+    assert!(rt; is_entry(&log(0, 0, 0, 0, 1), true, head, [0; 16]));
+    let words = [0x23, 1, 0, 0, 1, 0, 1, 0, 4, 0, 0, 0, 1, 0, 0, 0];
+    assert!(rt; is_entry(&log(0x23, 1, 1, 0x1_0000_0004, 0x1_0001), true, head, words));
+    let words = [
+        0xff, 0x7f, 0xff, 0xff, 0xff, 0xff, 0xff, 0xff, 0xff, 0xff, 0xff, 0xff, 0xff, 0xff, 0xff,
+        0xff,
+    ];
+    // Zero dwords are the greatest zero-based number.
+    assert!(rt; is_entry(&log(255, 127, 0xffff, u64::MAX, 0), true, head, words));
+}
+
+fn set_fdp(group: u16, enable: bool, index: u8) -> Command {
+    Command::SetFdp {
+        group,
+        enable,
+        index,
+    }
+}
+
+fn set_events(alloc: Global, handle: u16, enable: bool, count: usize) -> Result<Command, Fail> {
+    let mut types = Vec::new(alloc);
+    for _ in 0..count {
+        types.push(0x80u8)?;
+    }
+    Ok(Command::SetEvents {
+        nsid: 1,
+        handle,
+        enable,
+        types: Sequence::from_vec(types),
+    })
+}
+
+#[test]
+fn features(rt: HostRuntime) -> Result<(), Fail> {
+    let alloc = rt.alloc();
+    let head = [0x09, 0, 2, 1, 0, 0, 0, 0];
+    let words = [0x1d, 0, 0, 0, 0, 0, 0, 0, 0, 0, 0, 0, 0, 0, 0, 0];
+    assert!(rt; is_entry(&set_fdp(0, false, 0), true, head, words));
+    let words = [0x1d, 0, 0, 0, 0xff, 0xff, 0, 0, 1, 0xff, 0, 0, 0, 0, 0, 0];
+    assert!(rt; is_entry(&set_fdp(0xffff, true, 255), true, head, words));
+    let head = [0x0a, 0, 2, 1, 0, 0, 0, 0];
+    let words = [0x1d, 0, 0, 0, 1, 0, 0, 0, 0, 0, 0, 0, 0, 0, 0, 0];
+    assert!(rt; is_entry(&Command::GetFdp { group: 1 }, true, head, words));
+    let head = [0x09, 0, 2, 1, 1, 0, 0, 0];
+    let least = set_events(alloc, 0, false, 1)?;
+    let words = [0x1e, 0, 0, 0, 0, 0, 1, 0, 0, 0, 0, 0, 0, 0, 0, 0];
+    assert!(rt; is_entry(&least, true, head, words));
+    let greatest = set_events(alloc, 0xffff, true, 6)?;
+    let words = [0x1e, 0, 0, 0, 0xff, 0xff, 6, 0, 1, 0, 0, 0, 0, 0, 0, 0];
+    assert!(rt; is_entry(&greatest, true, head, words));
     Ok(())
 }
 
 #[test]
-fn admin_entries(rt: HostRuntime) -> Result<(), Fail> {
-    let alloc = rt.alloc();
-    let log = Command::Log {
-        lid: 0x23,
-        lsp: 1,
-        group: 1,
-        offset: 0x1_0000_0004,
-        dwords: 0x1_0001,
-    };
-    let words = [0x0000_0123, 0x0001_0001, 4, 1];
-    assert!(rt; entry(&log) == (true, [0x02, 0, 2, 1, 0, 0, 0, 0], words));
-    let on = Command::SetFdp {
-        group: 1,
-        enable: true,
-        index: 255,
-    };
-    assert!(rt; entry(&on) == (true, [0x09, 0, 2, 1, 0, 0, 0, 0], [0x1d, 1, 0xff01, 0]));
-    let get = Command::GetFdp { group: 1 };
-    assert!(rt; entry(&get) == (true, [0x0a, 0, 2, 1, 0, 0, 0, 0], [0x1d, 1, 0, 0]));
-    let types = Sequence::from_vec([0u8, 0x80].to_vec(alloc)?);
-    let events = Command::SetEvents {
-        nsid: 1,
-        handle: 3,
-        enable: true,
-        types,
-    };
-    assert!(rt; entry(&events) == (true, [0x09, 0, 2, 1, 1, 0, 0, 0], [0x1e, 0x0002_0003, 1, 0]));
+fn namespaces(rt: HostRuntime) {
     let create = Command::Create {
-        size: 96,
+        size: u64::MAX,
         given: false,
-        list: Sequence::new(alloc),
+        list: Sequence::new(rt.alloc()),
     };
-    assert!(rt; entry(&create) == (true, [0x0d, 0, 2, 1, 0, 0, 0, 0], [0, 0, 0, 0]));
-    let delete = Command::Delete { nsid: 2 };
-    assert!(rt; entry(&delete) == (true, [0x0d, 0, 2, 1, 2, 0, 0, 0], [1, 0, 0, 0]));
-    let other = Command::Other {
-        admin: true,
-        opcode: 0x7f,
-        flags: 0x81,
-        feature: 0x1e,
-    };
-    assert!(rt; entry(&other) == (true, [0x7f, 0x81, 2, 1, 0, 0, 0, 0], [0x1e, 0, 0, 0]));
-    Ok(())
+    assert!(rt; is_entry(&create, true, [0x0d, 0, 2, 1, 0, 0, 0, 0], [0; 16]));
+    let delete = Command::Delete { nsid: 0xffff_ffff };
+    let head = [0x0d, 0, 2, 1, 0xff, 0xff, 0xff, 0xff];
+    let words = [1, 0, 0, 0, 0, 0, 0, 0, 0, 0, 0, 0, 0, 0, 0, 0];
+    assert!(rt; is_entry(&delete, true, head, words));
+}
+
+fn other(admin: bool, opcode: u8, flags: u8, feature: u8) -> Command {
+    Command::Other {
+        admin,
+        opcode,
+        flags,
+        feature,
+    }
+}
+
+#[test]
+fn others(rt: HostRuntime) {
+    assert!(rt;
+        is_entry(
+            &other(false, 0, 0, 0),
+            false,
+            [0, 0, 2, 1, 0, 0, 0, 0],
+            [0; 16]
+        )
+    );
+    let head = [0xff, 0xc3, 2, 1, 0, 0, 0, 0];
+    let words = [0xff, 0, 0, 0, 0, 0, 0, 0, 0, 0, 0, 0, 0, 0, 0, 0];
+    assert!(rt; is_entry(&other(true, 0xff, 0xc3, 0xff), true, head, words));
 }
 
 #[test]
@@ -172,6 +288,5 @@ fn rings(rt: HostRuntime) -> Result<(), Fail> {
         }
     }
     assert!(rt; pair.reap() == None);
-    tag_after();
     Ok(())
 }

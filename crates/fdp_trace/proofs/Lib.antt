@@ -4,3 +4,9 @@ pub mod Steps
 pub mod Printed
 pub mod Spelling
 pub mod ReadBack
+pub mod Numerals
+pub mod Parts
+pub mod Rows
+pub mod Finding
+pub mod Meaning
+pub mod Telling

@@ -1,7 +1,7 @@
 -- The printed text, one part after the other.
-use Rattle.std.proofs.Common.{◌≡◌, ℕ, zero, suc, ◌+◌, ◌-◌, ◌*◌, ◌/◌, ◌%◌, ◌<◌, ◌≤◌, Bool, true, false, List, [], ◌∷◌, ◌++◌, length, take, drop, refl, sym, ap, subst, ◌∙◌, append_assoc, arith, ◌==◌, inl, inr, min}
+use Rattle.std.proofs.Common.{◌≡◌, ℕ, zero, suc, ◌+◌, ◌-◌, ◌*◌, ◌/◌, ◌%◌, ◌<◌, ◌≤◌, Bool, true, false, List, [], ◌∷◌, ◌++◌, length, take, drop, refl, sym, ap, ◌∙◌, append_assoc, arith, ◌==◌, Result, Ok, Err, inl, inr, min}
 use Rattle.std.specs.List.{flat_map}
-use Rattle.std.specs.Prelude.{bytes_eq}
+use Rattle.std.specs.Prelude.{bytes_eq, OnOk}
 use Rattle.std.proofs.lemmas.List.{take_all, nil_from_length, append-nil, length-append, length-take, length-drop, take-append-drop}
 use Rattle.std.proofs.Math.Seq.{take-length, take-append_seam, drop-append_seam}
 use Rattle.std.proofs.lemmas.Bool.{cases_Bool, cases_lt, eqb-true}
@@ -10,6 +10,19 @@ use Rattle.std.proofs.lemmas.Slice.Eq.{bytes_eq-Decides}
 use Rattle.fdp_base.specs.Text.{digit, hex, line}
 use Rattle.fdp_base.specs.Pattern.{repeated}
 use Rattle.fdp_base.specs.Output.{pieces_of}
+use Rattle.fdp_trace.specs.Printing.{Extends}
+
+-- what follows where all went well
+pub when_ok : {T E : Type 0} (A B : Type 0) (r : Result T E) → (A → B) → OnOk r A → OnOk r B
+when_ok A B (Ok x) next h = next h
+when_ok A B (Err e) next h = tt
+
+-- a text that grew twice
+pub extends_more : (old mid new piece : List ℕ) → Extends old mid → new ≡ mid ++ piece → Extends old new
+extends_more old mid new piece e is = record { more = e.more ++ piece; whole = is ∙ ap (λ (t : List ℕ). t ++ piece) e.whole ∙ append_assoc old e.more piece }
+
+pub extends_both : (old mid new : List ℕ) → Extends old mid → Extends mid new → Extends old new
+extends_both old mid new first second = extends_more old mid new second.more first second.whole
 
 pub hex_more : (digits n : ℕ) → (digits ≡ 0 → ⊥) → hex digits n ≡ hex (digits - 1) (n / 16) ++ digit (n % 16) ∷ []
 unfolding hex

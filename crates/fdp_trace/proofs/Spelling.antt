@@ -1,10 +1,10 @@
 -- Words that are printed: decimal numbers, and words with spaces between them.
-use Rattle.std.proofs.Common.{◌≡◌, ℕ, zero, suc, ◌+◌, ◌-◌, ◌*◌, ◌/◌, ◌%◌, ◌^◌, ◌<◌, ◌≤◌, Bool, true, false, not, ◌&&◌, ◌||◌, ◌==◌, cond, List, [], ◌∷◌, ◌++◌, length, get_or, take, drop, Option, Some, None, Result, Ok, Err, refl, sym, ap, subst, ◌∙◌, append_assoc, arith, inl, inr}
-use Rattle.std.specs.Prelude.{decimal, fold, is_none}
-use Rattle.std.specs.List.{flat_map, list_all, AllByRecursion}
+use Rattle.std.proofs.Common.{◌≡◌, ℕ, zero, suc, ◌+◌, ◌-◌, ◌*◌, ◌/◌, ◌%◌, ◌^◌, ◌<◌, ◌≤◌, true, false, List, [], ◌∷◌, ◌++◌, length, get_or, drop, refl, sym, ap, ◌∙◌, arith, inl, inr}
+use Rattle.std.specs.Prelude.{decimal}
+use Rattle.std.specs.List.{list_all, AllByRecursion}
 use Rattle.std.specs.Char.{digit_value, is_ascii_digit}
 use Rattle.std.specs.Str.{IsAscii}
-use Rattle.std.proofs.lemmas.Bool.{cases_lt, cases_Bool}
+use Rattle.std.proofs.lemmas.Bool.{cases_lt}
 use Rattle.std.proofs.lemmas.Bool.Decides.{nat_tests}
 use Rattle.std.proofs.lemmas.List.{append-nil, length-append, get_or_append_left, get_or-append_right}
 use Rattle.std.proofs.lemmas.List.Folds.{list_all-append}
@@ -14,7 +14,7 @@ use Rattle.std.proofs.lemmas.Str.{IsAscii-append}
 use Rattle.std.proofs.Math.Seq.{take-append_seam, drop-append_seam}
 use Rattle.fdp_base.specs.Text.{spaced}
 use Rattle.fdp_trace.specs.Words.{is_blank, words_of, IsFront}
-use Rattle.fdp_trace.specs.Numbers.{value_of, is_decimal, number_of}
+use Rattle.fdp_trace.specs.Numbers.{value_of, IsNumber}
 use Rattle.fdp_trace.specs.CommandText.{spaced_behind}
 use Rattle.fdp_trace.proofs.Cutting.{words_cut, words_skip, no_words}
 
@@ -131,20 +131,12 @@ numeral n lt = decimal_by_steps IsNumeral one_digit more_digits n lt
 pub number_word : (n : ℕ) → n < 2 ^ 64 → IsWord (decimal n)
 number_word n lt = let d = numeral n lt in record { some = d.some; plain = d.plain; ascii = IsAscii-decimal n lt }
 
-some_true : (n : ℕ) → 0 < n → not (n == 0) ≡ true
-some_true n some = grind (arith, nat_tests)
+lead_zero : (n len first : ℕ) → (n ≡ 0 → len ≡ 1) → (0 < n → first ≡ 48 → ⊥) → first ≡ 48 → len ≡ 1
+lead_zero zero len first short lead e = short refl
+lead_zero (suc n) len first short lead e = absurd (lead (omega arith) e)
 
-one_or_first : (n len first : ℕ) → (n ≡ 0 → len ≡ 1) → (0 < n → first ≡ 48 → ⊥) → ((len == 1) || not (first == 48)) ≡ true
-one_or_first zero len first short lead = let e = short refl in rw e refl
-one_or_first (suc n) len first short lead = let e = lead (omega arith) in grind (arith, nat_tests)
-
-decimal_test : (n : ℕ) (ds : List ℕ) → IsNumeral n ds → is_decimal ds ≡ true
-decimal_test n ds d =
-    rw (some_true (length ds) d.some, d.digits, one_or_first n (length ds) (get_or ds 0 0) d.short d.lead) refl
-
-pub number_back : (n : ℕ) → n < 2 ^ 64 → number_of (decimal n) ≡ Some n
-unfolding number_of
+-- a decimal number spells its number
+pub number_back : (n : ℕ) → n < 2 ^ 64 → IsNumber (decimal n) n
 number_back n lt =
     let d = numeral n lt in
-    let test = decimal_test n (decimal n) d in
-    rw test (ap Some d.value)
+    inl (record { some = d.some; digits = d.digits; lead = lead_zero n (length (decimal n)) (get_or (decimal n) 0 0) d.short d.lead; value = d.value })

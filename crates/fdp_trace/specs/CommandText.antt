@@ -1,6 +1,5 @@
 -- A command in the form of a trace, with single spaces and decimal numbers.
-use Rattle.std.specs.Prelude.{◌≡◌, ℕ, ◌<◌, ◌≤◌, ◌^◌, Bool, true, false, not, ◌==◌, if◌then◌else◌, List, [], ◌∷◌, ◌++◌, length, map, flat_map, codes, decimal, ◌⊎◌}
-use Rattle.std.specs.List.{AllByRecursion}
+use Rattle.std.specs.Prelude.{ℕ, Bool, ◌==◌, if◌then◌else◌, List, [], ◌∷◌, map, flat_map, codes, decimal}
 use Rattle.fdp_base.specs.declared.command.Command.{Command}
 use Rattle.fdp_base.specs.declared.command.Command.TheVariants as commands
 use Rattle.fdp_base.specs.declared.command.Range.{Range}
@@ -51,40 +50,3 @@ command_text command = spaced (word_of command ∷ argument_words command)
 -- words with a space in front of each
 abbrev pub spaced_behind : List (List ℕ) → List ℕ
 spaced_behind words = flat_map (λ word. 32 ∷ word) words
-
--- ---- the commands that a line of a trace spells
-
--- a list has as many items as its line may have
-abbrev pub HasLength : {A : Type 0} → ℕ → ℕ → List A → Type 0
-HasLength low high xs = (low ≤ length xs) × (length xs ≤ high)
-
--- addresses and counts of blocks
-abbrev pub AreBlocks : ℕ → ℕ → ℕ → Type 0
-AreBlocks nsid slba count = (nsid < 2 ^ 32) × (slba < 2 ^ 64) × (1 ≤ count) × (count ≤ 65536)
-
--- no directive, or a placement identifier
-abbrev pub IsDirective : ℕ → ℕ → Type 0
-IsDirective dtype dspec = ((dtype ≡ 0) × (dspec ≡ 0)) ⊎ ((dtype ≡ 2) × (dspec < 2 ^ 16))
-
-abbrev pub IsSeed : Payload → Type 0
-IsSeed (Pattern seed) = seed < 2 ^ 32
-IsSeed (Bytes bytes) = ⊥
-
-abbrev pub IsRange : Range → Type 0
-IsRange r = (r.slba < 2 ^ 64) × (r.length < 2 ^ 32)
-
-abbrev pub IsSpelled : Command → Type 0
-IsSpelled (commands.Write nsid slba count dtype dspec payload) = AreBlocks nsid slba count × IsDirective dtype dspec × IsSeed payload
-IsSpelled (commands.Read nsid slba count) = AreBlocks nsid slba count
-IsSpelled (commands.Zero nsid slba count) = AreBlocks nsid slba count
-IsSpelled (commands.Dealloc nsid deallocate ranges) = (nsid < 2 ^ 32) × (deallocate ≡ true) × HasLength 1 256 ranges × AllByRecursion IsRange ranges
-IsSpelled (commands.Flush nsid) = nsid < 2 ^ 32
-IsSpelled (commands.Delete nsid) = nsid < 2 ^ 32
-IsSpelled (commands.Status nsid mo dwords) = (nsid < 2 ^ 32) × (mo ≡ 1) × (1 ≤ dwords) × (dwords ≤ 65536)
-IsSpelled (commands.Update nsid mo pids) = (nsid < 2 ^ 32) × (mo ≡ 1) × HasLength 1 256 pids × AllByRecursion (λ pid. pid < 2 ^ 16) pids
-IsSpelled (commands.Log lid lsp group offset dwords) = (lid < 2 ^ 8) × (lsp < 2) × (group ≡ 1) × (offset < 2 ^ 64) × (1 ≤ dwords) × (dwords ≤ 65536)
-IsSpelled (commands.SetFdp group enable index) = (group ≡ 1) × (index < 2 ^ 8)
-IsSpelled (commands.GetFdp group) = group ≡ 1
-IsSpelled (commands.SetEvents nsid handle enable types) = (nsid < 2 ^ 32) × (handle < 2 ^ 16) × HasLength 1 6 types × AllByRecursion (λ kind. kind < 2 ^ 8) types
-IsSpelled (commands.Create size given list) = (size < 2 ^ 64) × (given ≡ not (length list == 0)) × HasLength 0 32 list × AllByRecursion (λ ruh. ruh < 2 ^ 16) list
-IsSpelled (commands.Other admin opcode flags feature) = ⊥

@@ -1,9 +1,12 @@
 pub mod Words
 pub mod Numbers
+pub mod CommandText
+pub mod Lines
+pub mod Demands
+pub mod Grammar
 pub mod Shapes
 pub mod Reading
 pub mod Commands
 pub mod Trace
 pub mod Printing
-pub mod CommandText
 pub mod FaultWord

@@ -1,22 +1,17 @@
--- A trace: the commands of its lines, or its first bad line.
-use Rattle.std.specs.Prelude.{◌≡◌, ℕ, ◌+◌, Bool, true, false, not, ◌||◌, ◌==◌, if◌then◌else◌, nat_lt, List, [], ◌∷◌, length, slice_index, Option, Some, None, Result, Ok, Err}
-use Rattle.std.specs.List.{list_all}
+-- What a text comes to, as a function of it: Grammar says what that is.
+use Rattle.std.specs.Prelude.{◌≡◌, ℕ, ◌+◌, Bool, not, ◌||◌, if◌then◌else◌, nat_lt, List, [], ◌∷◌, length, Option, Some, None, Result, Ok, Err}
 use Rattle.std.specs.Str.{is_utf8}
 use Rattle.std.specs.Str.Lines.{lines}
 use Rattle.fdp_base.specs.declared.command.Command.{Command}
-use Rattle.fdp_base.specs.declared.command.Command.TheVariants as commands
 use Rattle.fdp_trace.specs.declared.fault.FaultKind.{FaultKind}
 use Rattle.fdp_trace.specs.declared.fault.FaultKind.TheVariants as kinds
 use Rattle.std.specs.Global.{Vec}
 use Rattle.fdp_trace.specs.declared.fault.TraceFault.{TraceFault}
 use Rattle.fdp_trace.specs.declared.fault.TraceFault.TheVariants as faults
-use Rattle.fdp_trace.specs.Words.{is_blank, words_of}
+use Rattle.fdp_trace.specs.Words.{words_of}
 use Rattle.fdp_trace.specs.Reading.{◌>>=◌}
 use Rattle.fdp_trace.specs.Commands.{command_of}
-
--- a comment, or nothing but blanks
-abbrev pub is_skipped : List ℕ → Bool
-is_skipped line = (slice_index line 0 == 35) || list_all is_blank line
+use Rattle.fdp_trace.specs.Grammar.{is_skipped, blocks_read}
 
 -- the command of a line, none where it is skipped, or the line's first fault
 unfoldable pub line_of : List ℕ → Result (Option Command) FaultKind
@@ -25,23 +20,6 @@ line_of line =
     else (if nat_lt 4096 (length line) then Err kinds.Long
     else (if not (is_utf8 line) then Err kinds.Utf8
     else (command_of (words_of line) >>= λ command. Ok (Some command))))
-
--- the blocks that a command reads
-abbrev pub blocks_read : Command → ℕ
-blocks_read (commands.Read nsid slba count) = count
-blocks_read (commands.Write nsid slba count dtype dspec payload) = 0
-blocks_read (commands.Zero nsid slba count) = 0
-blocks_read (commands.Dealloc nsid deallocate ranges) = 0
-blocks_read (commands.Flush nsid) = 0
-blocks_read (commands.Delete nsid) = 0
-blocks_read (commands.Status nsid mo dwords) = 0
-blocks_read (commands.Update nsid mo pids) = 0
-blocks_read (commands.Log lid lsp group offset dwords) = 0
-blocks_read (commands.SetFdp group enable index) = 0
-blocks_read (commands.GetFdp group) = 0
-blocks_read (commands.SetEvents nsid handle enable types) = 0
-blocks_read (commands.Create size given list) = 0
-blocks_read (commands.Other admin opcode flags feature) = 0
 
 -- what a trace says so far: its lines, its commands and the blocks that they read
 pub record Tally : Type 0 where

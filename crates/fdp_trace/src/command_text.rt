@@ -1,13 +1,15 @@
 //! Commands in the form of a trace.
 
-ghost use Rattle.std.specs.Prelude.{◌≡◌, ◌≤◌, ◌++◌, ◌∷◌, Ok, Some, length, IfOk, OnOk, OnErr, map, flat_map, decimal, []};
-ghost use Rattle.fdp_trace.specs.CommandText.{payload_word, directive_words, range_words, on_word, class_words, argument_words, command_text, spaced_behind, IsSpelled};
-ghost use Rattle.fdp_trace.specs.Trace.{line_of};
+ghost use Rattle.std.specs.Prelude.{◌≡◌, ◌≤◌, ℕ, List, ◌++◌, ◌∷◌, false, length, OnOk, OnErr, map, flat_map, decimal, []};
+ghost use Rattle.fdp_trace.specs.CommandText.{payload_word, directive_words, range_words, on_word, class_words, argument_words, command_text, spaced_behind};
+ghost use Rattle.fdp_trace.specs.Printing.{Extends};
+ghost use Rattle.fdp_trace.specs.Demands.{Spells};
+ghost use Rattle.fdp_trace.specs.Grammar.{is_skipped, Says};
 ghost use Rattle.fdp_base.specs.declared.command.Command.{Command};
 
 use crate::decimal::push_decimal;
 use fdp_base::{Command, Payload, Range};
-use std::alloc::{AllocError, Global};
+use std::alloc::AllocError;
 
 /// Adds a command as the line of a trace that spells it, without the line's end. One that no trace spells, of bytes
 /// or that the drive does not serve, has a text of its own. An `Err` leaves the text as it was.
@@ -15,22 +17,25 @@ pub fn print_command(command: &Command, into: &mut Vec<u8>) -> Result<(), AllocE
     ensures ok { OnOk result (into.new.items ≡ into.old.items ++ command_text command.now) }
     ensures err { OnErr result (into.new.items ≡ into.old.items) }
 {
-    let alloc = *into.allocator();
-    let text = text_of(alloc, command)?;
-    into.extend_from_slice(&text)
+    let before = into.len();
+    let pushed = push_command(into, command);
+    if pushed.is_err() {
+        into.truncate(before);
+    }
+    pushed
 }
 
-fn text_of(alloc: Global, command: &Command) -> Result<Vec<u8>, AllocError>
-    ensures { IfOk result (λ text. text.items ≡ command_text command.now) }
+fn push_command(text: &mut Vec<u8>, command: &Command) -> Result<(), AllocError>
+    ensures ok { OnOk result (text.new.items ≡ text.old.items ++ command_text command.now) }
+    ensures err { OnErr result (Extends text.old.items text.new.items) }
 {
-    let mut text = Vec::new(alloc);
     text.extend_from_slice(command.word().as_bytes())?;
-    push_arguments(&mut text, command)?;
-    Ok(text)
+    push_arguments(text, command)
 }
 
 fn push_arguments(text: &mut Vec<u8>, command: &Command) -> Result<(), AllocError>
-    ensures { OnOk result (text.new.items ≡ text.old.items ++ spaced_behind (argument_words command.now)) }
+    ensures ok { OnOk result (text.new.items ≡ text.old.items ++ spaced_behind (argument_words command.now)) }
+    ensures err { OnErr result (Extends text.old.items text.new.items) }
 {
     match command {
         Command::Write {
@@ -107,7 +112,8 @@ fn push_arguments(text: &mut Vec<u8>, command: &Command) -> Result<(), AllocErro
 }
 
 fn push_blocks(text: &mut Vec<u8>, nsid: u32, slba: u64, count: u32) -> Result<(), AllocError>
-    ensures { OnOk result (text.new.items ≡ text.old.items ++ spaced_behind (decimal nsid ∷ decimal slba ∷ decimal count ∷ [])) }
+    ensures ok { OnOk result (text.new.items ≡ text.old.items ++ spaced_behind (decimal nsid ∷ decimal slba ∷ decimal count ∷ [])) }
+    ensures err { OnErr result (Extends text.old.items text.new.items) }
 {
     push_number(text, u64::from(nsid))?;
     push_number(text, slba)?;
@@ -115,7 +121,8 @@ fn push_blocks(text: &mut Vec<u8>, nsid: u32, slba: u64, count: u32) -> Result<(
 }
 
 fn push_payload(text: &mut Vec<u8>, payload: &Payload) -> Result<(), AllocError>
-    ensures { OnOk result (text.new.items ≡ text.old.items ++ 32 ∷ payload_word payload.now) }
+    ensures ok { OnOk result (text.new.items ≡ text.old.items ++ 32 ∷ payload_word payload.now) }
+    ensures err { OnErr result (Extends text.old.items text.new.items) }
 {
     match payload {
         Payload::Pattern(seed) => push_number(text, u64::from(*seed)),
@@ -124,7 +131,8 @@ fn push_payload(text: &mut Vec<u8>, payload: &Payload) -> Result<(), AllocError>
 }
 
 fn push_directive(text: &mut Vec<u8>, dtype: u8, dspec: u16) -> Result<(), AllocError>
-    ensures { OnOk result (text.new.items ≡ text.old.items ++ spaced_behind (directive_words dtype dspec)) }
+    ensures ok { OnOk result (text.new.items ≡ text.old.items ++ spaced_behind (directive_words dtype dspec)) }
+    ensures err { OnErr result (Extends text.old.items text.new.items) }
 {
     if dtype == 0 {
         return Ok(());
@@ -134,7 +142,8 @@ fn push_directive(text: &mut Vec<u8>, dtype: u8, dspec: u16) -> Result<(), Alloc
 }
 
 fn push_class(text: &mut Vec<u8>, lsp: u8) -> Result<(), AllocError>
-    ensures { OnOk result (text.new.items ≡ text.old.items ++ spaced_behind (class_words lsp)) }
+    ensures ok { OnOk result (text.new.items ≡ text.old.items ++ spaced_behind (class_words lsp)) }
+    ensures err { OnErr result (Extends text.old.items text.new.items) }
 {
     if lsp == 0 {
         Ok(())
@@ -144,7 +153,8 @@ fn push_class(text: &mut Vec<u8>, lsp: u8) -> Result<(), AllocError>
 }
 
 fn push_on(text: &mut Vec<u8>, enable: bool) -> Result<(), AllocError>
-    ensures { OnOk result (text.new.items ≡ text.old.items ++ 32 ∷ on_word enable) }
+    ensures ok { OnOk result (text.new.items ≡ text.old.items ++ 32 ∷ on_word enable) }
+    ensures err { OnErr result (Extends text.old.items text.new.items) }
 {
     if enable {
         push_word(text, b"on")
@@ -154,17 +164,26 @@ fn push_on(text: &mut Vec<u8>, enable: bool) -> Result<(), AllocError>
 }
 
 fn push_ranges(text: &mut Vec<u8>, ranges: &[Range]) -> Result<(), AllocError>
-    ensures { OnOk result (text.new.items ≡ text.old.items ++ spaced_behind (flat_map range_words ranges.now)) }
+    ensures ok { OnOk result (text.new.items ≡ text.old.items ++ spaced_behind (flat_map range_words ranges.now)) }
+    ensures err { OnErr result (Extends text.old.items text.new.items) }
 {
     for range in ranges {
-        push_number(text, range.slba)?;
-        push_number(text, u64::from(range.length))?;
+        push_range(text, range)?;
     }
     Ok(())
 }
 
+fn push_range(text: &mut Vec<u8>, range: &Range) -> Result<(), AllocError>
+    ensures ok { OnOk result (text.new.items ≡ text.old.items ++ spaced_behind (range_words range.now)) }
+    ensures err { OnErr result (Extends text.old.items text.new.items) }
+{
+    push_number(text, range.slba)?;
+    push_number(text, u64::from(range.length))
+}
+
 fn push_identifiers(text: &mut Vec<u8>, numbers: &[u16]) -> Result<(), AllocError>
-    ensures { OnOk result (text.new.items ≡ text.old.items ++ spaced_behind (map decimal numbers.now)) }
+    ensures ok { OnOk result (text.new.items ≡ text.old.items ++ spaced_behind (map decimal numbers.now)) }
+    ensures err { OnErr result (Extends text.old.items text.new.items) }
 {
     for number in numbers {
         push_number(text, u64::from(*number))?;
@@ -173,7 +192,8 @@ fn push_identifiers(text: &mut Vec<u8>, numbers: &[u16]) -> Result<(), AllocErro
 }
 
 fn push_types(text: &mut Vec<u8>, numbers: &[u8]) -> Result<(), AllocError>
-    ensures { OnOk result (text.new.items ≡ text.old.items ++ spaced_behind (map decimal numbers.now)) }
+    ensures ok { OnOk result (text.new.items ≡ text.old.items ++ spaced_behind (map decimal numbers.now)) }
+    ensures err { OnErr result (Extends text.old.items text.new.items) }
 {
     for number in numbers {
         push_number(text, u64::from(*number))?;
@@ -183,7 +203,8 @@ fn push_types(text: &mut Vec<u8>, numbers: &[u8]) -> Result<(), AllocError>
 
 /// Adds a space and a number.
 fn push_number(text: &mut Vec<u8>, number: u64) -> Result<(), AllocError>
-    ensures { OnOk result (text.new.items ≡ text.old.items ++ 32 ∷ decimal number) }
+    ensures ok { OnOk result (text.new.items ≡ text.old.items ++ 32 ∷ decimal number) }
+    ensures err { OnErr result (Extends text.old.items text.new.items) }
 {
     text.push(b' ')?;
     push_decimal(text, number)
@@ -191,14 +212,16 @@ fn push_number(text: &mut Vec<u8>, number: u64) -> Result<(), AllocError>
 
 /// Adds a space and a word.
 fn push_word(text: &mut Vec<u8>, word: &[u8]) -> Result<(), AllocError>
-    ensures { OnOk result (text.new.items ≡ text.old.items ++ 32 ∷ word.now) }
+    ensures ok { OnOk result (text.new.items ≡ text.old.items ++ 32 ∷ word.now) }
+    ensures err { OnErr result (Extends text.old.items text.new.items) }
 {
     text.push(b' ')?;
     text.extend_from_slice(word)
 }
 
-/// The line that is printed of a command that a trace can spell is read as that command, where the line is not too
-/// long.
+/// The line that is printed of a command says that command, where a line of a trace can spell it and the line is not
+/// too long.
 pub fn printed_is_read()
-    ensures { (command : Command) → IsSpelled command → length (command_text command) ≤ 4096 → line_of (command_text command) ≡ Ok (Some command) }
+    ensures { (words : List (List ℕ)) (command : Command) → Spells words command → length (command_text command) ≤ 4096
+        → (is_skipped (command_text command) ≡ false) × Says (command_text command) command }
 {}

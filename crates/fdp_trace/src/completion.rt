@@ -1,14 +1,16 @@
-ghost use Rattle.std.specs.Prelude.{◌≡◌, ◌++◌, ◌∷◌, [], IfOk, OnOk, OnErr, decimal};
+ghost use Rattle.std.specs.Prelude.{◌≡◌, ◌++◌, ◌∷◌, [], OnOk, OnErr, decimal};
 ghost use Rattle.fdp_base.specs.Text.{hex, line};
 ghost use Rattle.fdp_base.specs.Output.{word_of, status_text, completion};
+ghost use Rattle.fdp_trace.specs.Printing.{Extends};
 
 use crate::data::push_data;
+use crate::decimal::push_decimal;
 use crate::hex::push_hex;
-use fdp_base::{Command, Reply};
-use std::alloc::{AllocError, Global};
+use fdp_base::{Command, Reply, Status};
+use std::alloc::AllocError;
 
-/// Adds the lines of a completion: the number of its command, its word, the status, dword 0, and the data. It makes
-/// them apart first, so that an `Err` leaves the text as it was.
+/// Adds the lines of a completion: the number of its command, its word, the status, dword 0, and the data. An `Err`
+/// leaves the text as it was. It takes time that grows with the data.
 pub fn print_completion(
     number: u16,
     command: &Command,
@@ -18,44 +20,53 @@ pub fn print_completion(
     ensures ok { OnOk result (into.new.items ≡ into.old.items ++ completion number command.now reply.now) }
     ensures err { OnErr result (into.new.items ≡ into.old.items) }
 {
-    let alloc = *into.allocator();
-    let lines = completion(alloc, number, command, reply)?;
-    into.extend_from_slice(&lines)
+    let before = into.len();
+    let pushed = push_completion(into, number, command, reply);
+    if pushed.is_err() {
+        into.truncate(before);
+    }
+    pushed
 }
 
-fn completion(
-    alloc: Global,
-    number: u16,
-    command: &Command,
-    reply: &Reply,
-) -> Result<Vec<u8>, AllocError>
-    ensures { IfOk result (λ text. text.items ≡ completion number command.now reply.now) }
-{
-    let mut text = Vec::new(alloc);
-    push_head(alloc, &mut text, number, command, reply)?;
-    push_data(&mut text, command, reply.bytes.as_slice())?;
-    Ok(text)
-}
-
-fn push_head(
-    alloc: Global,
+fn push_completion(
     text: &mut Vec<u8>,
     number: u16,
     command: &Command,
     reply: &Reply,
 ) -> Result<(), AllocError>
-    ensures { OnOk result (text.new.items ≡ text.old.items
-        ++ line (decimal number ∷ word_of command.now ∷ status_text reply.now.status ∷ hex 8 reply.now.dw0 ∷ [])) }
+    ensures ok { OnOk result (text.new.items ≡ text.old.items ++ completion number command.now reply.now) }
+    ensures err { OnErr result (Extends text.old.items text.new.items) }
 {
-    let number = number.to_string(alloc)?;
-    let status = reply.status.to_string(alloc)?;
-    text.extend_from_slice(number.as_bytes())?;
+    push_head(text, number, command, reply)?;
+    push_data(text, command, reply.bytes.as_slice())
+}
+
+fn push_head(
+    text: &mut Vec<u8>,
+    number: u16,
+    command: &Command,
+    reply: &Reply,
+) -> Result<(), AllocError>
+    ensures ok { OnOk result (text.new.items ≡ text.old.items
+        ++ line (decimal number ∷ word_of command.now ∷ status_text reply.now.status ∷ hex 8 reply.now.dw0 ∷ [])) }
+    ensures err { OnErr result (Extends text.old.items text.new.items) }
+{
+    push_decimal(text, u64::from(number))?;
     text.push(b' ')?;
     text.extend_from_slice(command.word().as_bytes())?;
     text.push(b' ')?;
-    text.extend_from_slice(status.as_bytes())?;
+    push_status(text, reply.status)?;
     text.push(b' ')?;
     push_hex(text, 8, reply.dw0)?;
     text.push(b'\n')?;
     Ok(())
+}
+
+fn push_status(text: &mut Vec<u8>, status: Status) -> Result<(), AllocError>
+    ensures ok { OnOk result (text.new.items ≡ text.old.items ++ status_text status) }
+    ensures err { OnErr result (Extends text.old.items text.new.items) }
+{
+    push_hex(text, 1, u32::from(status.sct))?;
+    text.push(b'/')?;
+    push_hex(text, 2, u32::from(status.sc))
 }

@@ -1,9 +1,9 @@
 //! The lines of the data that a command answers.
 
-ghost use Rattle.std.specs.Prelude.{◌≡◌, ◌/◌, ◌++◌, OnOk, length, take, bytes_eq};
+ghost use Rattle.std.specs.Prelude.{◌≡◌, ◌/◌, ◌++◌, OnOk, OnErr, length, take, bytes_eq};
 ghost use Rattle.std.specs.Int.{from_le_bytes, w32};
 ghost use Rattle.fdp_base.specs.Pattern.{repeated};
-ghost use Rattle.fdp_trace.specs.Printing.{word_or_bytes};
+ghost use Rattle.fdp_trace.specs.Printing.{word_or_bytes, Extends};
 ghost use Rattle.fdp_base.specs.Output.{pieces_of, block_line, block_lines, data_line, data_lines, data_text};
 
 use crate::hex::{push_hex, push_hex_bytes};
@@ -15,7 +15,8 @@ const LINE: usize = 32;
 
 /// Adds the lines of the data.
 pub fn push_data(text: &mut Vec<u8>, command: &Command, bytes: &[u8]) -> Result<(), AllocError>
-    ensures { OnOk result (text.new.items ≡ text.old.items ++ data_text command.now bytes.now) }
+    ensures ok { OnOk result (text.new.items ≡ text.old.items ++ data_text command.now bytes.now) }
+    ensures err { OnErr result (Extends text.old.items text.new.items) }
 {
     match command {
         Command::Read { count, .. } => push_blocks(text, *count, bytes),
@@ -36,7 +37,8 @@ pub fn push_data(text: &mut Vec<u8>, command: &Command, bytes: &[u8]) -> Result<
 
 /// Adds a line for each of so many blocks, which have one size.
 fn push_blocks(text: &mut Vec<u8>, count: u32, bytes: &[u8]) -> Result<(), AllocError>
-    ensures { OnOk result (text.new.items ≡ text.old.items ++ block_lines count bytes.now) }
+    ensures ok { OnOk result (text.new.items ≡ text.old.items ++ block_lines count bytes.now) }
+    ensures err { OnErr result (Extends text.old.items text.new.items) }
 {
     if count == 0 {
         return Ok(());
@@ -56,7 +58,8 @@ fn push_blocks(text: &mut Vec<u8>, count: u32, bytes: &[u8]) -> Result<(), Alloc
 
 /// Adds lines of up to 32 bytes.
 fn push_data_lines(text: &mut Vec<u8>, bytes: &[u8]) -> Result<(), AllocError>
-    ensures { OnOk result (text.new.items ≡ text.old.items ++ data_lines bytes.now) }
+    ensures ok { OnOk result (text.new.items ≡ text.old.items ++ data_lines bytes.now) }
+    ensures err { OnErr result (Extends text.old.items text.new.items) }
 {
     let mut rest = bytes;
     for _ in 0..bytes.len() {
@@ -71,7 +74,8 @@ fn push_data_lines(text: &mut Vec<u8>, bytes: &[u8]) -> Result<(), AllocError>
 }
 
 fn push_data_line(text: &mut Vec<u8>, piece: &[u8]) -> Result<(), AllocError>
-    ensures { OnOk result (text.new.items ≡ text.old.items ++ data_line piece.now) }
+    ensures ok { OnOk result (text.new.items ≡ text.old.items ++ data_line piece.now) }
+    ensures err { OnErr result (Extends text.old.items text.new.items) }
 {
     text.extend_from_slice(b"  ")?;
     push_hex_bytes(text, piece)?;
@@ -80,7 +84,8 @@ fn push_data_line(text: &mut Vec<u8>, piece: &[u8]) -> Result<(), AllocError>
 }
 
 fn push_block(text: &mut Vec<u8>, block: &[u8]) -> Result<(), AllocError>
-    ensures { OnOk result (text.new.items ≡ text.old.items ++ block_line block.now) }
+    ensures ok { OnOk result (text.new.items ≡ text.old.items ++ block_line block.now) }
+    ensures err { OnErr result (Extends text.old.items text.new.items) }
 {
     text.extend_from_slice(b"  ")?;
     push_word_or_bytes(text, block)?;
@@ -89,7 +94,8 @@ fn push_block(text: &mut Vec<u8>, block: &[u8]) -> Result<(), AllocError>
 }
 
 fn push_word_or_bytes(text: &mut Vec<u8>, block: &[u8]) -> Result<(), AllocError>
-    ensures { OnOk result (text.new.items ≡ text.old.items ++ word_or_bytes block.now) }
+    ensures ok { OnOk result (text.new.items ≡ text.old.items ++ word_or_bytes block.now) }
+    ensures err { OnErr result (Extends text.old.items text.new.items) }
 {
     if is_repeated(block) {
         push_hex(text, 8, number(&block[..block.len().min(4)]))

@@ -5,7 +5,8 @@ ghost use Rattle.fdp_trace.specs.Words.{is_blank, words_of};
 ghost use Rattle.fdp_trace.specs.Shapes.{words_fit, numbers_fit};
 ghost use Rattle.fdp_trace.specs.Reading.{Gives};
 ghost use Rattle.fdp_trace.specs.Commands.{checked, command_of};
-ghost use Rattle.fdp_trace.specs.Trace.{is_skipped, line_of};
+ghost use Rattle.fdp_trace.specs.Grammar.{is_skipped};
+ghost use Rattle.fdp_trace.specs.Trace.{line_of};
 
 use crate::command_word::CommandWord;
 use crate::commands::spelled;

@@ -79,6 +79,92 @@ fn faults(rt: HostRuntime) {
     assert!(rt; FaultKind::Long.word() == "long" && FaultKind::Word.word() == "word");
 }
 
+/// How many commands a trace has, or none where it is bad.
+fn count(text: &[u8], alloc: Global) -> Option<usize> {
+    match read_trace(alloc, text) {
+        Ok(commands) => Some(commands.len()),
+        Err(_) => None,
+    }
+}
+
+#[test]
+fn ends_of_ranges(rt: HostRuntime) {
+    let least =
+        b"write 0 0 1 0\nwrite 0 0 1 0 pid 0\nread 0 0 1\nzero 0 0 1\ndealloc 0 0 0\nflush 0\ndelete 0\nstatus 0 1\n\
+        update 0 0\nlog 0 0 1\nset-fdp on 0\nget-fdp\nset-events 0 0 on 0\ncreate 0\n";
+    assert!(rt; count(least, rt.alloc()) == Some(14));
+    let greatest =
+        b"write 4294967295 18446744073709551615 65536 4294967295 pid 65535\nread 4294967295 18446744073709551615 8192\n\
+        zero 4294967295 18446744073709551615 65536\ndealloc 4294967295 18446744073709551615 4294967295\n\
+        flush 4294967295\ndelete 4294967295\nstatus 4294967295 65536\nupdate 4294967295 65535\n\
+        log 255 18446744073709551615 65536 ctrl\nset-fdp off 255\nset-events 4294967295 65535 off 255 0 0 0 0 0\n\
+        create 18446744073709551615 65535";
+    assert!(rt; count(greatest, rt.alloc()) == Some(12));
+    for text in [
+        "write 4294967296 0 1 0",
+        "write 0 18446744073709551616 1 0",
+        "write 0 0 0 0",
+        "write 0 0 65537 0",
+        "write 0 0 1 4294967296",
+        "write 0 0 1 0 pid 65536",
+        "write 0 0 1 0x1000000000000000000000000",
+        "read 4294967296 0 1",
+        "read 0 18446744073709551616 1",
+        "read 0 0 65537",
+        "zero 4294967296 0 1",
+        "zero 0 18446744073709551616 1",
+        "zero 0 0 0",
+        "dealloc 4294967296 0 0",
+        "dealloc 0 0 0 18446744073709551616 0",
+        "dealloc 0 0 4294967296",
+        "flush 4294967296",
+        "delete 4294967296",
+        "status 4294967296 1",
+        "status 0 65537",
+        "update 4294967296 0",
+        "update 0 0 65536",
+        "log 256 0 1",
+        "log 0 18446744073709551616 1",
+        "log 0 0 65537 host",
+        "set-fdp off 256",
+        "set-events 4294967296 0 on 0",
+        "set-events 0 65536 on 0",
+        "set-events 0 0 on 0 256",
+        "create 18446744073709551616",
+        "create 0 0 65536",
+    ] {
+        assert!(rt;
+            is_fault(text.as_bytes(), 1, FaultKind::Range, rt.alloc()),
+            "{text}"
+        );
+    }
+}
+
+#[test]
+fn no_numbers(rt: HostRuntime) {
+    for text in [
+        "write x 0 0 0",
+        "write 0 0 0 0x",
+        "write 0 0 0 0 pid -1",
+        "read 0 00 0",
+        "zero 0 0 1.0",
+        "dealloc 0 0 0 0 0g",
+        "flush 0x0g",
+        "delete 01",
+        "status 0 0X1",
+        "update 0 0 0 one",
+        "log 0 0 x ctrl",
+        "set-fdp on off",
+        "set-events 0 0 on 0 on",
+        "create 0 0 pid",
+    ] {
+        assert!(rt;
+            is_fault(text.as_bytes(), 1, FaultKind::Number, rt.alloc()),
+            "{text}"
+        );
+    }
+}
+
 /// So many copies of a text.
 fn repeated(alloc: Global, text: &[u8], times: usize) -> Result<Vec<u8>, Fail> {
     let mut all = Vec::new(alloc);

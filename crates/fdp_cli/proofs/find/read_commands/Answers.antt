@@ -1,5 +1,6 @@
-use Rattle.fdp_cli.proofs.Few.{few_commands}
 use Rattle.fdp_cli.proofs.find.read_commands.Goals as goal
 
 pub returns-then-all_served-clause-few : goal.returns-then-all_served-clause-few
-returns-then-all_served-clause-few c = few_commands c.args.text.now c.in-Ok.commands.items c.in-Ok.ensures
+returns-then-all_served-clause-few c =
+    let said = (c.in-Ok.ensures.commands c.in-Ok.commands.items).1 c.in-Ok.ensures.answer in
+    said.1.0

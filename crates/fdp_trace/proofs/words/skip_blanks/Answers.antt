@@ -1,4 +1,4 @@
-use Rattle.std.proofs.Common.{◌∙◌, sym, arith}
+use Rattle.std.proofs.Common.{◌∙◌, arith}
 use Rattle.fdp_trace.proofs.Cutting.{words_step, shorter}
 use Rattle.fdp_trace.proofs.words.skip_blanks.Goals as goal
 
