@@ -1,5 +1,5 @@
 -- What contracts see of a bench.
-use Rattle.std.specs.Prelude.{◌≡◌, ℕ, ◌<◌, ◌≤◌, Bool, IsTrue, List, length, Option, Some, None}
+use Rattle.std.specs.Prelude.{◌≡◌, ℕ, ◌<◌, ◌≤◌, Bool, true, false, IsTrue, List, length, Option, Some, None}
 use Rattle.fdp_base.specs.Counts.{Rose}
 use Rattle.fdp_io.specs.declared.bench.TextRead.{TextRead}
 use Rattle.fdp_io.specs.declared.bench.TextRead.TheVariants.{Done, Missing, TooLong, Failed, NoMemory}
@@ -11,6 +11,14 @@ pub record BenchState : Type 0 where
   pub told : Bool
   -- the text of a name, which counts only where the texts are told
   pub text : List ℕ → Option (List ℕ)
+
+-- whether a read failed
+abbrev pub read_failed : TextRead → Bool
+read_failed Failed = true
+read_failed Done = false
+read_failed Missing = false
+read_failed TooLong = false
+read_failed NoMemory = false
 
 -- the texts are as they were
 pub record SameTexts (old new : BenchState) : Type 0 where

@@ -4,10 +4,14 @@ use Rattle.std.specs.Option.{option_or}
 use Rattle.fdp_io.specs.declared.bench_mem.BenchMem.{BenchMem}
 use Rattle.fdp_io.specs.Bench.{BenchState}
 use Rattle.fdp_io.specs.Texts.{text_named}
-use Rattle.fdp_io.specs.Calls.{faults_of}
+use Rattle.fdp_io.specs.Calls.{CallsState, calls_of, faults_of}
 
 abbrev pub bench_state : BenchMem → BenchState
 bench_state bench = record { faults = faults_of bench.calls; told = true; text = λ name. text_named name bench.texts.items }
+
+-- its calls
+abbrev pub bench_calls : BenchMem → CallsState
+bench_calls bench = calls_of bench.calls
 
 -- no text is there
 pub record IsEmptyBench (s : BenchState) : Type 0 where

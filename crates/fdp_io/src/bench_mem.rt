@@ -20,11 +20,13 @@ pub struct BenchMem {
 }
 
 impl BenchMem {
-    ghost use Rattle.fdp_io.specs.BenchMem.{bench_state, IsEmptyBench, AddsText};
+    ghost use Rattle.fdp_io.specs.BenchMem.{bench_calls, bench_state, IsEmptyBench, AddsText};
+    ghost use Rattle.fdp_io.specs.Calls.{no_call};
 
     /// A bench without texts, of which the calls with these numbers, counted from 1, fail.
     pub fn new(alloc: Global, failing: Vec<u64>) -> BenchMem
-        ensures { IsEmptyBench (bench_state result) }
+        ensures empty { IsEmptyBench (bench_state result) }
+        ensures calls { bench_calls result ≡ no_call failing.items }
     {
         BenchMem {
             texts: Vec::new(alloc),
@@ -36,6 +38,7 @@ impl BenchMem {
     pub fn add(&mut self, alloc: Global, name: &str, text: &[u8]) -> Result<(), AllocError>
         ensures ok { OnOk result (AddsText (bench_state self.old) name.now text.now (bench_state self.new)) }
         ensures err { OnErr result (bench_state self.new ≡ bench_state self.old) }
+        ensures calls { bench_calls self.new ≡ bench_calls self.old }
     {
         let name = String::from_str(alloc, name)?;
         let bytes = Vec::from_slice(alloc, text)?;
@@ -56,7 +59,10 @@ fn find<'a>(texts: &'a [Text], name: &str) -> Option<&'a [u8]>
 }
 
 impl Bench for BenchMem {
-    ghost use Rattle.fdp_io.specs.BenchMem.{bench_state};
+    ghost use Rattle.std.specs.Prelude.{◌≤◌};
+    ghost use Rattle.fdp_io.specs.Bench.{ReadsText, SameTexts, read_failed};
+    ghost use Rattle.fdp_io.specs.BenchMem.{bench_calls, bench_state};
+    ghost use Rattle.fdp_io.specs.Calls.{MakesCall};
 
     ghost state = { bench_state };
 
@@ -64,7 +70,12 @@ impl Bench for BenchMem {
         self.calls.faults()
     }
 
-    fn read_text(&mut self, name: &str, into: &mut Vec<u8>, limit: u64) -> TextRead {
+    fn read_text(&mut self, name: &str, into: &mut Vec<u8>, limit: u64) -> TextRead
+        ensures kept { SameTexts (bench_state self.old) (bench_state self.new) }
+        ensures faults { (bench_state self.old).faults ≤ (bench_state self.new).faults }
+        ensures answer { ReadsText (bench_state self.old) (bench_state self.new) name.now limit into.new.items result }
+        ensures calls { MakesCall (bench_calls self.old) (bench_calls self.new) (read_failed result) }
+    {
         if self.calls.begin() {
             return TextRead::Failed;
         }

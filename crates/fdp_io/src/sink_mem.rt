@@ -13,11 +13,14 @@ pub struct SinkMem {
 }
 
 impl SinkMem {
-    ghost use Rattle.fdp_io.specs.SinkMem.{sink_state, IsEmptySink};
+    ghost use Rattle.fdp_io.specs.Calls.{no_call};
+    ghost use Rattle.fdp_io.specs.SinkMem.{room_of, sink_calls, sink_state, IsEmptySink};
 
     /// An empty sink with room for so many bytes, of which the calls with these numbers, counted from 1, fail.
     pub fn new(alloc: Global, room: usize, failing: Vec<u64>) -> Result<SinkMem, AllocError>
-        ensures { IfOk result (λ sink. IsEmptySink (sink_state sink)) }
+        ensures empty { IfOk result (λ sink. IsEmptySink (sink_state sink)) }
+        ensures calls { IfOk result (λ sink. sink_calls sink ≡ no_call failing.items) }
+        ensures room { IfOk result (λ sink. room_of sink ≡ room) }
     {
         Ok(SinkMem {
             bytes: Vec::with_capacity(alloc, room)?,
@@ -35,7 +38,9 @@ impl SinkMem {
 }
 
 impl Sink for SinkMem {
-    ghost use Rattle.fdp_io.specs.SinkMem.{sink_state};
+    ghost use Rattle.std.specs.Prelude.{◌≤◌};
+    ghost use Rattle.fdp_io.specs.Sink.{Takes};
+    ghost use Rattle.fdp_io.specs.SinkMem.{WritesAsPlanned, sink_state};
 
     ghost state = { sink_state };
 
@@ -44,7 +49,12 @@ impl Sink for SinkMem {
     }
 
     /// Takes what fits; a full sink takes nothing, which is a failure.
-    fn write(&mut self, bytes: &[u8]) -> SinkEnd {
+    fn write(&mut self, bytes: &[u8]) -> SinkEnd
+        ensures told { (sink_state self.new).told ≡ (sink_state self.old).told }
+        ensures faults { (sink_state self.old).faults ≤ (sink_state self.new).faults }
+        ensures answer { Takes (sink_state self.old) (sink_state self.new) bytes.now result }
+        ensures planned { WritesAsPlanned self.old self.new bytes.now result }
+    {
         if self.calls.begin() {
             return SinkEnd::Failed;
         }
