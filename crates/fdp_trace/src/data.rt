@@ -3,8 +3,8 @@
 ghost use Rattle.std.specs.Prelude.{◌≡◌, ◌/◌, ◌++◌, OnOk, OnErr, length, take, bytes_eq};
 ghost use Rattle.std.specs.Int.{from_le_bytes, w32};
 ghost use Rattle.fdp_base.specs.Pattern.{repeated};
-ghost use Rattle.fdp_trace.specs.Printing.{word_or_bytes, Extends};
-ghost use Rattle.fdp_base.specs.Output.{pieces_of, block_line, block_lines, data_line, data_lines, data_text};
+ghost use Rattle.fdp_trace.specs.Printing.{Extends};
+ghost use Rattle.fdp_base.specs.Output.{pieces_of, block_text, block_line, block_lines, data_line, data_lines, data_text};
 
 use crate::hex::{push_hex, push_hex_bytes};
 use fdp_base::Command;
@@ -88,13 +88,13 @@ fn push_block(text: &mut Vec<u8>, block: &[u8]) -> Result<(), AllocError>
     ensures err { OnErr result (Extends text.old.items text.new.items) }
 {
     text.extend_from_slice(b"  ")?;
-    push_word_or_bytes(text, block)?;
+    push_block_text(text, block)?;
     text.push(b'\n')?;
     Ok(())
 }
 
-fn push_word_or_bytes(text: &mut Vec<u8>, block: &[u8]) -> Result<(), AllocError>
-    ensures ok { OnOk result (text.new.items ≡ text.old.items ++ word_or_bytes block.now) }
+fn push_block_text(text: &mut Vec<u8>, block: &[u8]) -> Result<(), AllocError>
+    ensures ok { OnOk result (text.new.items ≡ text.old.items ++ block_text block.now) }
     ensures err { OnErr result (Extends text.old.items text.new.items) }
 {
     if is_repeated(block) {
