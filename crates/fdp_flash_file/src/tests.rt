@@ -256,9 +256,7 @@ fn failed_file_calls_are_counted(rt: HostRuntime) -> Result<(), Fail> {
             file: Cursor::new(bytes),
             calls: 0,
         };
-        let Ok(mut flash) = FlashFile::take(file) else {
-            return Ok(());
-        };
+        let mut flash = FlashFile::take(file).expect(&rt, "taken");
         let fails = failing <= 7;
         let answer = perform(&mut flash, Step::Program(0, 0, b'1'), failing);
         assert_eq!(rt; answer, if fails { 'F' } else { 'D' }, "{failing}");
@@ -279,14 +277,10 @@ fn failed_file_calls_are_counted(rt: HostRuntime) -> Result<(), Fail> {
 #[test]
 fn a_used_file_becomes_blank(rt: HostRuntime) -> Result<(), Fail> {
     let used = Cursor::new(Vec::from_elem(rt.alloc(), b'x', 5000)?);
-    let Ok(made) = FlashFile::make(used, SMALL) else {
-        return Ok(());
-    };
+    let made = FlashFile::make(used, SMALL).expect(&rt, "made");
     let file = made.into_file().into_inner();
     assert_eq!(rt; file.len(), 5000);
-    let Ok(mut flash) = FlashFile::take(Cursor::new(file)) else {
-        return Ok(());
-    };
+    let mut flash = FlashFile::take(Cursor::new(file)).expect(&rt, "taken");
     assert_eq!(rt; drawn(rt.alloc(), &mut flash)?.as_str(), "........");
     Ok(())
 }
