@@ -6,7 +6,6 @@ ghost use Rattle.fdp_flash.specs.FlashState.{AreCounts};
 use crate::head::{HEAD_BYTES, read_head, write_head};
 use crate::page::{blank_pages, file_bytes, place_of, write_at};
 use fdp_base::{Geometry, Spot};
-use std::cmp::Ordering;
 use std::io;
 use std::io::{Read, Seek, SeekFrom, Write};
 
@@ -15,7 +14,7 @@ use std::io::{Read, Seek, SeekFrom, Write};
 pub enum TakeError {
     /// A call of the file failed.
     Failed,
-    /// The file does not begin with the head of a flash, or is longer than that flash.
+    /// The file does not begin with the head of a flash.
     NotFlash,
     /// The file begins with the head of a flash, and ends before its last page.
     CutShort,
@@ -43,7 +42,8 @@ impl<S: Read + Write + Seek + Drop> FlashFile<S> {
     ghost use Rattle.fdp_flash.specs.Layout.{IsIn};
     ghost use Rattle.fdp_flash_file.specs.FlashFile.{state_of, IsTaken};
 
-    /// Makes a file that holds a blank flash, and takes it. What the file held is lost.
+    /// Makes a file that holds a blank flash, and takes it. What the file held is lost, except for what stands behind the
+    /// last page.
     ///
     /// The head is written last, so that a file which was not made whole is none of a flash.
     pub fn make(mut file: S, geometry: Geometry) -> Result<FlashFile<S>, TakeError>
@@ -56,7 +56,8 @@ impl<S: Read + Write + Seek + Drop> FlashFile<S> {
         }
     }
 
-    /// Takes a file that holds a flash, with the geometry that its head tells.
+    /// Takes a file that holds a flash, with the geometry that its head tells. What stands behind the last page is left
+    /// alone.
     pub fn take(mut file: S) -> Result<FlashFile<S>, TakeError>
         ensures { IfOk result (λ flash. IsTaken (state_of flash).geometry (state_of flash)) }
     {
@@ -127,11 +128,8 @@ fn told_geometry<S: Read + Seek>(file: &mut S) -> Result<Geometry, TakeError>
         return Err(TakeError::NotFlash);
     }
     match head_geometry(file) {
-        Ok(Some(geometry)) => match bytes.cmp(&file_bytes(geometry)) {
-            Ordering::Less => Err(TakeError::CutShort),
-            Ordering::Equal => Ok(geometry),
-            Ordering::Greater => Err(TakeError::NotFlash),
-        },
+        Ok(Some(geometry)) if bytes < file_bytes(geometry) => Err(TakeError::CutShort),
+        Ok(Some(geometry)) => Ok(geometry),
         Ok(None) => Err(TakeError::NotFlash),
         Err(_) => Err(TakeError::Failed),
     }

@@ -2,7 +2,7 @@
 //!
 //! A program writes Torn, then spare and block, then Whole; an erase writes Blank for all pages of the unit at once. So a stop
 //! between two writes leaves what a stop may leave.
-ghost use Rattle.std.specs.Prelude.{◌≡◌, ◌≤◌, ◌<◌, length};
+ghost use Rattle.std.specs.Prelude.{◌≡◌, ◌≤◌, ◌<◌};
 ghost use Rattle.fdp_base.specs.Geometry.{IsValidGeometry, all_pages};
 ghost use Rattle.fdp_flash.specs.Layout.{IsIn, page_number};
 ghost use Rattle.fdp_flash_file.specs.Places.{spare_place, file_size, state_place};
@@ -36,7 +36,7 @@ impl PageState {
         }
     }
 
-    /// The state that a byte stands for. A byte that was never written is taken for a torn page.
+    /// The state that a byte stands for. A byte that stands for none is taken for a torn page.
     pub fn of_code(code: u8) -> PageState
         ensures known { (state : PageState) → code ≡ state_code state → result ≡ state }
         ensures other { 2 < code → result ≡ PageState.Torn }

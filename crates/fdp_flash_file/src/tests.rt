@@ -240,7 +240,7 @@ fn other_files_are_not_taken(rt: HostRuntime) -> Result<(), Fail> {
         }
     }
     file.push(0)?;
-    assert_eq!(rt; refusal(alloc, &file)?, Some(TakeError::NotFlash));
+    assert_eq!(rt; refusal(alloc, &file)?, None);
     if file.len() > 16 {
         file[16] = 1;
     }
@@ -256,9 +256,7 @@ fn failed_file_calls_are_counted(rt: HostRuntime) -> Result<(), Fail> {
             file: Cursor::new(bytes),
             calls: 0,
         };
-        let Ok(mut flash) = FlashFile::take(file) else {
-            return Ok(());
-        };
+        let mut flash = FlashFile::take(file).expect(&rt, "taken");
         let fails = failing <= 7;
         let answer = perform(&mut flash, Step::Program(0, 0, b'1'), failing);
         assert_eq!(rt; answer, if fails { 'F' } else { 'D' }, "{failing}");
@@ -273,5 +271,16 @@ fn failed_file_calls_are_counted(rt: HostRuntime) -> Result<(), Fail> {
         };
         assert_eq!(rt; letter_at(&mut flash, 0), letter, "{failing}");
     }
+    Ok(())
+}
+
+#[test]
+fn a_used_file_becomes_blank(rt: HostRuntime) -> Result<(), Fail> {
+    let used = Cursor::new(Vec::from_elem(rt.alloc(), b'x', 5000)?);
+    let made = FlashFile::make(used, SMALL).expect(&rt, "made");
+    let file = made.into_file().into_inner();
+    assert_eq!(rt; file.len(), 5000);
+    let mut flash = FlashFile::take(Cursor::new(file)).expect(&rt, "taken");
+    assert_eq!(rt; drawn(rt.alloc(), &mut flash)?.as_str(), "........");
     Ok(())
 }
