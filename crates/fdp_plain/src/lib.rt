@@ -1,6 +1,9 @@
 //! A plain drive: a slow program that computes what the definitions of the drive say, from the list of its entries.
 #![tactic(auto)]
 
+mod look;
+mod room;
 mod state;
+mod target;
 
-pub use state::{Kept, KeptBlock, KeptGoing, KeptReference, KeptReports, Space};
+pub use state::{Destination, Kept, KeptBlock, KeptGoing, KeptReference, KeptReports, Space};
