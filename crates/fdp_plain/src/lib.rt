@@ -2,6 +2,7 @@
 #![tactic(auto)]
 
 mod look;
+mod refusal;
 mod room;
 mod state;
 mod target;
