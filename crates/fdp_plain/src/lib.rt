@@ -1,8 +1,13 @@
 //! A plain drive: a slow program that computes what the definitions of the drive say, from the list of its entries.
 #![tactic(auto)]
 
+mod ends;
+mod judge;
+mod kinds;
 mod look;
+mod passes;
 mod refusal;
+mod replies;
 mod room;
 mod state;
 mod target;
