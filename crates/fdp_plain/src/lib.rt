@@ -2,6 +2,7 @@
 #![tactic(auto)]
 
 mod ends;
+mod forms;
 mod judge;
 mod kinds;
 mod look;
