@@ -1,5 +1,5 @@
 -- What is true of the tables of every plain machine.
-use Rattle.std.specs.Prelude.{◌≡◌, ◌+◌, ◌*◌, ◌<◌, length}
+use Rattle.std.specs.Prelude.{◌≡◌, ◌+◌, ◌*◌, ◌<◌, ◌≤◌, length}
 use Rattle.fdp_base.specs.Config.{IsValidConfig}
 use Rattle.fdp_plain.specs.declared.state.Kept.{Kept}
 
@@ -15,3 +15,6 @@ pub record IsSound (k : Kept) : Type 0 where
   pub worn : length k.worn.items ≡ k.config.groups
   pub sites : length k.sites.items ≡ length k.entries.items + 1
   pub copies : length k.copies.items ≡ k.config.groups
+  pub host_blocks : k.host_blocks ≤ 64 * length k.entries.items
+  pub media_blocks : k.media_blocks ≤ length k.entries.items
+  pub erases : k.erases ≤ length k.entries.items

@@ -1,6 +1,8 @@
 //! A plain drive: a slow program that computes what the definitions of the drive say, from the list of its entries.
 #![tactic(auto)]
 
+mod bytes;
+mod logs;
 mod look;
 mod refusal;
 mod room;
