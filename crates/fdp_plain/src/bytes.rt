@@ -42,3 +42,10 @@ pub fn push_padded(bytes: &mut Vec<u8>, first: u8, count: u32) -> Result<(), All
     bytes.extend_from_slice(&[first])?;
     push_zeros(bytes, count)
 }
+
+/// Appends the low 32 bits of a number.
+pub fn push_low_u32(bytes: &mut Vec<u8>, number: u64) -> Result<(), AllocError>
+    ensures { OnOk result (bytes.new.items ≡ bytes.old.items ++ to_le_bytes w32 number) }
+{
+    bytes.extend_from_slice(&number.to_le_bytes()[..4])
+}

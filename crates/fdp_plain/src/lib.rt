@@ -2,11 +2,14 @@
 #![tactic(auto)]
 
 mod bytes;
+mod configurations;
+mod handle_status;
 mod logs;
 mod look;
 mod refusal;
 mod room;
 mod state;
 mod target;
+mod transfer;
 
 pub use state::{Destination, Kept, KeptBlock, KeptGoing, KeptReference, KeptReports, Space};
