@@ -4,6 +4,7 @@
 mod bytes;
 mod configurations;
 mod handle_status;
+mod log;
 mod logs;
 mod look;
 mod refusal;
