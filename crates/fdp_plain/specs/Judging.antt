@@ -1,11 +1,12 @@
 -- What is looked for in the tables when an entry is judged.
-use Rattle.std.specs.Prelude.{◌≡◌, ◌≢◌, ◌<◌, ℕ, true, IsTrue, IsFalse, List, Option, Some, None, IfSome, MatchOption, slice_get}
+use Rattle.std.specs.Prelude.{◌≡◌, ◌≢◌, ◌<◌, ℕ, Bool, true, IsTrue, IsFalse, Contains, slice_index, List, Option, Some, None, IfSome, MatchOption, slice_get}
 use Rattle.fdp_base.specs.declared.entry.Reply.{Reply}
 use Rattle.fdp_base.specs.declared.entry.Spot.{Spot}
 use Rattle.fdp_base.specs.declared.status.TheConstants.Status as statuses
 use Rattle.fdp_base.specs.Answer.{bare}
 use Rattle.fdp_base.specs.PlainState.{Going, PageName.written}
 use Rattle.fdp_base.specs.Point.{Point}
+use Rattle.fdp_base.specs.Room.{handles_of, roomiest}
 use Rattle.fdp_base.specs.Sites.{group_of, is_there, site_of}
 use Rattle.fdp_base.specs.Step.{IsNextPage}
 use Rattle.fdp_base.specs.Totals.{blocks_written}
@@ -59,3 +60,8 @@ IsNextIn k ticket index spot queue = (g : Going) × ((plain_of k).going queue �
 -- the reply to a write whose change is made
 abbrev pub IsWritten : Reply → Type 0
 IsWritten reply = reply ≡ bare statuses.SUCCESS true
+
+-- a valid placement identifier leads to a handle of the namespace, another to its first handle in the roomiest group
+pub record IsPlaceFor (k : Kept) (nsid rg ruh : ℕ) (pid_valid : Bool) : Type 0 where
+  pub listed : IsTrue pid_valid → Contains (handles_of (plain_of k) nsid) ruh
+  pub default : IsFalse pid_valid → (rg ≡ roomiest k.config (plain_of k)) × (ruh ≡ slice_index (handles_of (plain_of k) nsid) 0)

@@ -1,8 +1,9 @@
-ghost use Rattle.std.specs.Prelude.{◌≡◌, ℕ, ◌+◌, ◌*◌, ◌^◌, ◌<◌, ◌≤◌, Bool, List, length, nat_le, nat_lt, is_none, not, drop, slice_index, ◌&&◌, ◌||◌, ◌==◌};
+ghost use Rattle.std.specs.Prelude.{IfOk, ◌%◌, ◌≡◌, ℕ, ◌+◌, ◌*◌, ◌^◌, ◌<◌, ◌≤◌, Bool, List, length, nat_le, nat_lt, is_none, not, drop, slice_index, ◌&&◌, ◌||◌, ◌==◌};
 ghost use Rattle.std.specs.List.{list_any, list_all};
 ghost use Rattle.fdp_base.specs.declared.payload.Payload.{Payload};
 ghost use Rattle.fdp_base.specs.CommandKinds.{directed_by};
 ghost use Rattle.fdp_base.specs.Refusal.{is_present, has_no_room, is_past_end, is_range_past_end, is_event_type, has_repeat, is_served_opcode, block_checks, first_that_holds, refusal_of};
+ghost use Rattle.fdp_base.specs.LogPages.{log_page};
 ghost use Rattle.fdp_base.specs.Room.{namespace_ids};
 ghost use Rattle.fdp_base.specs.Target.{named_by};
 ghost use Rattle.fdp_plain.specs.Sound.{IsSound};
@@ -11,6 +12,7 @@ ghost use Rattle.fdp_plain.specs.State.{plain_of, point_kept};
 use crate::room::NAMESPACE_IDS;
 use crate::state::Kept;
 use fdp_base::{Command, Range, Status};
+use std::alloc::{AllocError, Global};
 
 /// The types of FDP event.
 const EVENT_TYPES: [u8; 6] = [0x00, 0x01, 0x02, 0x03, 0x80, 0x81];
@@ -50,8 +52,10 @@ impl Kept {
     }
 
     /// The status with which a read or a zeroing is refused, if it is.
+    #[tactic(auto, unfolding(fdp_base::specs::Refusal::checks_of, fdp_base::specs::Refusal::refusal_of))]
     fn refuse_blocks(&self, nsid: u32, slba: u64, count: u32) -> Option<Status>
-        ensures { result ≡ first_that_holds (block_checks self.now.config (plain_of self.now) nsid slba count) }
+        ensures read { result ≡ refusal_of self.now.config (point_kept self.now) (Command.Read nsid slba count) }
+        ensures zero { result ≡ refusal_of self.now.config (point_kept self.now) (Command.Zero nsid slba count) }
     {
         if self.is_absent(nsid) {
             Some(Status::INVALID_NAMESPACE)
@@ -286,6 +290,120 @@ impl Kept {
             Some(Status::INVALID_OPCODE)
         }
     }
+}
+
+impl Kept {
+    /// The status with which a command is refused, if it is. Only for a log it takes memory.
+    pub fn refusal(&self, alloc: Global, command: &Command) -> Result<Option<Status>, AllocError>
+        requires { IsSound self.now }
+        ensures { IfOk result (λ status. status ≡ refusal_of self.now.config (point_kept self.now) command.now) }
+    {
+        match command {
+            Command::Write {
+                nsid,
+                slba,
+                count,
+                dtype,
+                dspec,
+                payload: _,
+            } => Ok(self.refuse_write(*nsid, *slba, *count, *dtype, *dspec)),
+            Command::Read { nsid, slba, count } => Ok(self.refuse_blocks(*nsid, *slba, *count)),
+            Command::Zero { nsid, slba, count } => Ok(self.refuse_blocks(*nsid, *slba, *count)),
+            Command::Dealloc {
+                nsid,
+                deallocate,
+                ranges,
+            } => Ok(self.refuse_dealloc(*nsid, *deallocate, ranges.as_slice())),
+            Command::Flush { nsid } => Ok(self.refuse_flush(*nsid)),
+            Command::Delete { nsid } => Ok(self.refuse_delete(*nsid)),
+            Command::Status { nsid, mo, dwords } => Ok(self.refuse_status(*nsid, *mo, *dwords)),
+            Command::Update { nsid, mo, pids } => Ok(self.refuse_update(
+                *nsid,
+                *mo,
+                pids.as_slice(),
+            )),
+            Command::Log {
+                lid,
+                lsp,
+                group,
+                offset,
+                dwords,
+            } => self.refuse_log(alloc, *lid, *lsp, *group, *offset, *dwords),
+            Command::SetFdp {
+                group,
+                enable,
+                index,
+            } => Ok(self.refuse_set_fdp(*group, *enable, *index)),
+            Command::GetFdp { group } => Ok(self.refuse_get_fdp(*group)),
+            Command::SetEvents {
+                nsid,
+                handle,
+                enable,
+                types,
+            } => Ok(self.refuse_set_events(*nsid, *handle, *enable, types.as_slice())),
+            Command::Create { size, given, list } => Ok(self.refuse_create(
+                *size,
+                *given,
+                list.as_slice(),
+            )),
+            Command::Other {
+                admin,
+                opcode,
+                flags,
+                feature,
+            } => Ok(self.refuse_other(*admin, *opcode, *flags, *feature)),
+        }
+    }
+
+    fn refuse_log(
+        &self,
+        alloc: Global,
+        lid: u8,
+        lsp: u8,
+        group: u16,
+        offset: u64,
+        dwords: u32,
+    ) -> Result<Option<Status>, AllocError>
+        requires { IsSound self.now }
+        ensures { IfOk result (λ status. status ≡ refusal_of self.now.config (point_kept self.now) (Command.Log lid lsp group offset dwords)) }
+    {
+        let log = self.log(alloc, lid, lsp)?;
+        Ok(self.refuse_log_at(lid, lsp, group, offset, dwords, log.as_slice()))
+    }
+
+    /// The status with which a log is refused, given its page.
+    #[tactic(auto, unfolding(fdp_base::specs::Refusal::checks_of, fdp_base::specs::Refusal::refusal_of))]
+    fn refuse_log_at(
+        &self,
+        lid: u8,
+        lsp: u8,
+        group: u16,
+        offset: u64,
+        dwords: u32,
+        page: &[u8],
+    ) -> Option<Status>
+        requires { page.now ≡ log_page self.now.config (point_kept self.now) lid lsp }
+        ensures { result ≡ refusal_of self.now.config (point_kept self.now) (Command.Log lid lsp group offset dwords) }
+    {
+        if lid < 0x20 || 0x23 < lid {
+            Some(Status::INVALID_LOG_PAGE)
+        } else if has_bad_range(group, offset, dwords) {
+            Some(Status::INVALID_FIELD)
+        } else if lid != 0x20 && !self.enabled {
+            Some(Status::FDP_DISABLED)
+        } else if (page.len() as u64) < offset {
+            Some(Status::INVALID_FIELD)
+        } else {
+            None
+        }
+    }
+}
+
+/// Whether a log is asked of another group, for too much, or from within a dword.
+fn has_bad_range(group: u16, offset: u64, dwords: u32) -> bool
+    ensures { result ≡ (not (group == 1) || nat_lt 1024 dwords || not (offset % 4 == 0)) }
+{
+    group != 1 || 1024 < dwords || offset % 4 != 0
 }
 
 /// The placement identifier of a write.
