@@ -3,6 +3,7 @@
 
 mod bytes;
 mod configurations;
+mod data;
 mod handle_status;
 mod log;
 mod logs;
