@@ -5,6 +5,7 @@ mod bytes;
 mod configurations;
 mod ends;
 mod forms;
+mod data;
 mod handle_status;
 mod hosts;
 mod judge;
