@@ -2,6 +2,8 @@
 #![tactic(auto)]
 
 mod change;
+mod going;
 mod state;
+mod trail;
 
 pub use state::{Kept, KeptBlock, KeptGoing, KeptReference, KeptReports, Space};
