@@ -9,6 +9,8 @@ use Rattle.fdp_base.specs.Events.{is_host_event, latest}
 use Rattle.fdp_base.specs.PlainState.{Block, Going, Namespace, PageName, PageName.found, PageName.written, PlainState, Reference}
 use Rattle.fdp_base.specs.Point.{Copy, Point}
 use Rattle.fdp_base.specs.Sites.{trail_of}
+use Rattle.fdp_base.specs.Target.{Target}
+use Rattle.fdp_plain.specs.declared.state.Destination.{Destination}
 use Rattle.fdp_plain.specs.declared.state.Kept.{Kept}
 use Rattle.fdp_plain.specs.declared.state.KeptBlock.{KeptBlock}
 use Rattle.fdp_plain.specs.declared.state.KeptGoing.{KeptGoing}
@@ -105,3 +107,6 @@ point_kept k = record {
   host_events = latest (filter is_host_event k.events.items);
   controller_events = latest (filter (λ e. not (is_host_event e)) k.events.items);
 }
+
+abbrev pub target_at : Destination → Target
+target_at d = record { rg = d.rg; ruh = d.ruh; valid = d.valid }

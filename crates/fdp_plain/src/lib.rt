@@ -5,5 +5,9 @@ mod change;
 mod going;
 mod state;
 mod trail;
+mod look;
+mod room;
+mod state;
+mod target;
 
-pub use state::{Kept, KeptBlock, KeptGoing, KeptReference, KeptReports, Space};
+pub use state::{Destination, Kept, KeptBlock, KeptGoing, KeptReference, KeptReports, Space};
