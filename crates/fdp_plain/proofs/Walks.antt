@@ -7,7 +7,7 @@ use Rattle.std.proofs.lemmas.List.{append-nil, append_assoc, drop_all, drop_more
 use Rattle.fdp_base.specs.Point.{Copy}
 use Rattle.fdp_base.specs.Sites.{ascends, last_run}
 use Rattle.fdp_base.specs.declared.entry.Spot.{Spot}
-use Rattle.fdp_base.specs.Numbers.{with_at}
+use Rattle.fdp_base.specs.Numbers.{numbers_from, with_at}
 use Rattle.fdp_plain.specs.State.{copy_of, row}
 use Rattle.fdp_plain.proofs.Tables.{read-set}
 
@@ -184,3 +184,28 @@ added_copy read vs rg v w x there at e i =
         ap (map copy_of) e ∙ map-append copy_of (read v) (x ∷ []) ∙ ap (λ (cs : List Copy). cs ++ copy_of x ∷ []) (sym old) in
     read-set (λ o. option_map_or (λ u. map copy_of (read u)) o []) vs rg w there i
     ∙ ap (λ cs. with_at (copies_of read vs) rg cs i) new
+
+-- the first queue of the rest that passes is the first of all
+pub record IsSeekingQueue (test : ℕ → Bool) (queues i : ℕ) : Type 0 where
+  pub rest : find test (numbers_from 1 queues) ≡ find test (numbers_from (i + 1) (queues - i))
+
+queue_here : (test : ℕ → Bool) (queues i : ℕ) → i < queues → find test (numbers_from (i + 1) (queues - i)) ≡ cond (test (i + 1)) (Some (i + 1)) (find test (numbers_from (i + 1 + 1) (queues - (i + 1))))
+unfolding numbers_from
+queue_here test queues i below =
+    let more : queues - i ≡ suc (queues - (i + 1)) = omega arith in
+    rw more
+
+module _ (test : ℕ → Bool) (queues i : ℕ) where
+  pub seeking_queue_next : i < queues → test (i + 1) ≡ false → IsSeekingQueue test queues i → IsSeekingQueue test queues (i + 1)
+  seeking_queue_next below fails h = record {
+    rest = h.rest ∙ queue_here test queues i below ∙ ap (λ b. cond b (Some (i + 1)) (find test (numbers_from (i + 1 + 1) (queues - (i + 1))))) fails;
+  }
+
+  pub seeking_queue_found : i < queues → test (i + 1) ≡ true → IsSeekingQueue test queues i → find test (numbers_from 1 queues) ≡ Some (i + 1)
+  seeking_queue_found below passes h = h.rest ∙ queue_here test queues i below ∙ ap (λ b. cond b (Some (i + 1)) (find test (numbers_from (i + 1 + 1) (queues - (i + 1))))) passes
+
+  pub seeking_queue_end : queues ≤ i → IsSeekingQueue test queues i → find test (numbers_from 1 queues) ≡ None
+  unfolding numbers_from
+  seeking_queue_end past h =
+      let none : queues - i ≡ 0 = omega arith in
+      h.rest ∙ ap (λ n. find test (numbers_from (i + 1) n)) none

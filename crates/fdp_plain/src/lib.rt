@@ -3,11 +3,10 @@
 
 mod change;
 mod going;
-mod state;
-mod trail;
 mod look;
 mod room;
 mod state;
 mod target;
+mod trail;
 
 pub use state::{Destination, Kept, KeptBlock, KeptGoing, KeptReference, KeptReports, Space};

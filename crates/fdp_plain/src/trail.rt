@@ -11,7 +11,7 @@ use fdp_base::Spot;
 
 impl Kept {
     /// What was copied in a group is forgotten.
-    fn forget_copies(&mut self, rg: u32)
+    pub(crate) fn forget_copies(&mut self, rg: u32)
         requires { rg < length self.old.copies.items }
         ensures copies { copies_at self.new ≡ with_at (copies_at self.old) rg [] }
         ensures rest { self.new ≡ record self.old { copies = self.new.copies } }
@@ -21,7 +21,7 @@ impl Kept {
     }
 
     /// A page was copied in a group.
-    fn add_copy(&mut self, rg: u32, from: Spot, to: Spot)
+    pub(crate) fn add_copy(&mut self, rg: u32, from: Spot, to: Spot)
         requires group { rg < length self.old.copies.items }
         requires room { IfSome (slice_get self.old.copies.items rg) (λ copies. vec_len copies < vec_capacity copies) }
         ensures copies { copies_at self.new ≡ with_at (copies_at self.old) rg (copies_at self.old rg ++ record { from = from; to = to } ∷ []) }
@@ -32,7 +32,7 @@ impl Kept {
     }
 
     /// A page of a write stands somewhere.
-    fn set_site(&mut self, ticket: u64, index: u32, spot: Spot)
+    pub(crate) fn set_site(&mut self, ticket: u64, index: u32, spot: Spot)
         requires ticket { ticket < length self.old.sites.items }
         requires index { IfSome (slice_get self.old.sites.items ticket) (λ pages. index < length pages.items) }
         ensures sites { (t i : ℕ) → site_at self.new (written t i) ≡ (if ticket == t && index == i then Some spot else site_at self.old (written t i)) }
@@ -43,7 +43,7 @@ impl Kept {
     }
 
     /// No page of a write stands in an erased unit any longer. It looks at each page.
-    fn erase_sites(&mut self, unit: u32)
+    pub(crate) fn erase_sites(&mut self, unit: u32)
         ensures sites { (t i : ℕ) → site_at self.new (written t i) ≡ option_and_then (outside unit) (site_at self.old (written t i)) }
         ensures rest { self.new ≡ record self.old { sites = self.new.sites } }
         ensures rows { length self.new.sites.items ≡ length self.old.sites.items }
@@ -52,7 +52,7 @@ impl Kept {
     }
 
     /// The pages of writes stand where the pass of a group moved them. It looks at each page.
-    fn move_sites(&mut self, rg: u16)
+    pub(crate) fn move_sites(&mut self, rg: u16)
         requires { rg < length self.old.copies.items }
         ensures sites { (t i : ℕ) → site_at self.new (written t i) ≡ option_map (moved_by (last_run (copies_at self.old rg))) (site_at self.old (written t i)) }
         ensures rest { self.new ≡ record self.old { sites = self.new.sites } }
