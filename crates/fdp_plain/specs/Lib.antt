@@ -1,3 +1,4 @@
 pub mod Going
+pub mod Places
 pub mod Sound
 pub mod State

@@ -3,11 +3,12 @@ ghost use Rattle.std.specs.Option.{IfSome};
 ghost use Rattle.std.specs.Vec.{vec_items, vec_len, vec_capacity};
 ghost use Rattle.fdp_base.specs.Numbers.{with_at};
 ghost use Rattle.fdp_base.specs.PlainState.{PageName.written};
-ghost use Rattle.fdp_base.specs.Sites.{ascends, is_spot, last_run, moved_by, outside};
-ghost use Rattle.fdp_plain.specs.State.{copies_at, copy_of, site_at};
+ghost use Rattle.fdp_base.specs.Sites.{ascends, group_of, last_run, moved_by, outside, traced_by};
+ghost use Rattle.fdp_plain.specs.Places.{HasGroupOf, HasPlaces};
+ghost use Rattle.fdp_plain.specs.State.{copies_at, copy_of, point_kept, site_at};
 
 use crate::state::Kept;
-use fdp_base::Spot;
+use fdp_base::{Entry, Spot};
 
 impl Kept {
     /// What was copied in a group is forgotten.
@@ -60,6 +61,77 @@ impl Kept {
     {
         let pass = last_run(self.copies[usize::from(rg)].as_slice());
         move_all(&mut self.sites, pass);
+    }
+
+    /// The group in which a unit lies.
+    pub fn group_of(&self, unit: u32) -> u32
+        requires { 0 < self.now.config.units }
+        ensures { result ≡ group_of self.now.config unit }
+    {
+        unit / self.config.units
+    }
+
+    /// Where pages stand after an entry, and what was copied. An erase and a move look at each page.
+    #[tactic(auto, unfolding(fdp_base::specs::Sites::traced_by))]
+    pub fn trace(&mut self, entry: &Entry)
+        requires { HasPlaces self.old entry.now }
+        ensures sites { (t i : ℕ) → site_at self.new (written t i) ≡ (traced_by self.old.config (point_kept self.old).trail entry.now).site (written t i) }
+        ensures copies { copies_at self.new ≡ (traced_by self.old.config (point_kept self.old).trail entry.now).copies }
+        ensures rest { self.new ≡ record self.old { sites = self.new.sites; copies = self.new.copies } }
+        ensures site_rows { length self.new.sites.items ≡ length self.old.sites.items }
+        ensures copy_rows { length self.new.copies.items ≡ length self.old.copies.items }
+    {
+        match entry {
+            Entry::Host { .. } => {}
+            Entry::Started { .. } => {}
+            Entry::Placed {
+                ticket,
+                index,
+                unit,
+                page,
+            } => self.set_site(
+                *ticket,
+                *index,
+                Spot {
+                    unit: *unit,
+                    page: *page,
+                },
+            ),
+            Entry::Copied { from, to } => self.add_copy(self.group_of(from.unit), *from, *to),
+            Entry::Moved { rg, .. } => self.end_pass(*rg),
+            Entry::Erased { unit } => self.empty(*unit),
+            Entry::Retired { unit } => self.forget_copies(self.group_of(*unit)),
+            Entry::Aside { unit } => self.forget_copies(self.group_of(*unit)),
+            Entry::Shut { .. } => {}
+            Entry::Worn { rg } => self.forget_copies(u32::from(*rg)),
+            Entry::Reopened => {}
+        }
+    }
+
+    /// The pass of a group was moved.
+    pub(crate) fn end_pass(&mut self, rg: u16)
+        requires { rg < length self.old.copies.items }
+        ensures sites { (t i : ℕ) → site_at self.new (written t i) ≡ option_map (moved_by (last_run (copies_at self.old rg))) (site_at self.old (written t i)) }
+        ensures copies { copies_at self.new ≡ with_at (copies_at self.old) rg [] }
+        ensures rest { self.new ≡ record self.old { sites = self.new.sites; copies = self.new.copies } }
+        ensures site_rows { length self.new.sites.items ≡ length self.old.sites.items }
+        ensures copy_rows { length self.new.copies.items ≡ length self.old.copies.items }
+    {
+        self.move_sites(rg);
+        self.forget_copies(u32::from(rg));
+    }
+
+    /// A unit was erased.
+    pub(crate) fn empty(&mut self, unit: u32)
+        requires { HasGroupOf self.old unit }
+        ensures sites { (t i : ℕ) → site_at self.new (written t i) ≡ option_and_then (outside unit) (site_at self.old (written t i)) }
+        ensures copies { copies_at self.new ≡ with_at (copies_at self.old) (group_of self.old.config unit) [] }
+        ensures rest { self.new ≡ record self.old { sites = self.new.sites; copies = self.new.copies } }
+        ensures site_rows { length self.new.sites.items ≡ length self.old.sites.items }
+        ensures copy_rows { length self.new.copies.items ≡ length self.old.copies.items }
+    {
+        self.erase_sites(unit);
+        self.forget_copies(self.group_of(unit));
     }
 }
 
