@@ -1,9 +1,10 @@
 -- Walks over a table from its front: rows that are changed one by one, and searches among copies.
-use Rattle.std.proofs.Common.{◌≡◌, ℕ, zero, suc, ◌+◌, ◌-◌, ◌*◌, ◌<◌, ◌≤◌, Bool, true, false, List, [], ◌∷◌, ◌++◌, length, set, take, drop, get_or, slice_get, Option, None, Some, refl, ap, sym, ◌∙◌, arith, cond, subst, find, map}
-use Rattle.std.specs.Prelude.{◌==◌, ◌&&◌, nat_lt, if◌then◌else◌, option_and_then, option_map}
+use Rattle.std.proofs.Common.{◌≡◌, ℕ, suc, ◌+◌, ◌-◌, ◌<◌, ◌≤◌, Bool, true, false, List, [], ◌∷◌, ◌++◌, length, set, take, drop, get_or, slice_get, Option, None, Some, refl, ap, sym, ◌∙◌, arith, cond, subst, find, map, ◌≢◌, eq-eqb, ne_eqb, below_more, ⊎_elim}
+use Rattle.std.specs.Prelude.{◌==◌, ◌&&◌, nat_lt, option_and_then, option_map}
 use Rattle.std.specs.Option.{option_flatten, option_map_or}
-use Rattle.std.proofs.lemmas.Option.{slice_get-map, slice_get_read}
-use Rattle.std.proofs.lemmas.List.{append-nil, append_assoc, drop_all, drop_more, take_all, take_more, map-append, get_or-append_right, set_at, length-map, length-take-le, get_or_default, get_or_at, get_or-map, map-set, length-drop}
+use Rattle.std.proofs.lemmas.Bool.{cases_lt}
+use Rattle.std.proofs.lemmas.Option.{slice_get-map, slice_get_past, slice_get_read}
+use Rattle.std.proofs.lemmas.List.{append-nil, append_assoc, drop_all, drop_more, take_all, take_more, map-append, set_at, length-map, length-take-le, get_or_at, get_or-map, map-set, length-drop}
 use Rattle.fdp_base.specs.Point.{Copy}
 use Rattle.fdp_base.specs.Sites.{ascends, last_run}
 use Rattle.fdp_base.specs.declared.entry.Spot.{Spot}
@@ -181,7 +182,7 @@ added_copy read vs rg v w x there at e i =
     let before : slice_get vs rg ≡ Some v = slice_get_read vs (length vs) rg v refl there at in
     let old : copies_of read vs rg ≡ map copy_of (read v) = ap (λ o. option_map_or (λ u. map copy_of (read u)) o []) before in
     let new : map copy_of (read w) ≡ copies_of read vs rg ++ copy_of x ∷ [] =
-        ap (map copy_of) e ∙ map-append copy_of (read v) (x ∷ []) ∙ ap (λ (cs : List Copy). cs ++ copy_of x ∷ []) (sym old) in
+    ap (map copy_of) e ∙ map-append copy_of (read v) (x ∷ []) ∙ ap (λ (cs : List Copy). cs ++ copy_of x ∷ []) (sym old) in
     read-set (λ o. option_map_or (λ u. map copy_of (read u)) o []) vs rg w there i
     ∙ ap (λ cs. with_at (copies_of read vs) rg cs i) new
 
@@ -209,3 +210,44 @@ module _ (test : ℕ → Bool) (queues i : ℕ) where
   seeking_queue_end past h =
       let none : queues - i ≡ 0 = omega arith in
       h.rest ∙ ap (λ n. find test (numbers_from (i + 1) n)) none
+
+-- rows that are changed by their place, before place i
+pub record IsPut {X : Type 0} (f : ℕ → Option X → Option X) (xs : List (Option X)) (i : ℕ) (ys : List (Option X)) : Type 0 where
+  pub before : (k : ℕ) → k < i → row ys k ≡ f k (row xs k)
+  pub behind : (k : ℕ) → i ≤ k → row ys k ≡ row xs k
+
+module _ {X : Type 0} (f : ℕ → Option X → Option X) (xs : List (Option X)) where
+  pub put_start : IsPut f xs 0 xs
+  put_start = record { before = λ k below. absurd (omega arith); behind = λ k past. refl }
+
+  row-set : (ys : List (Option X)) (i : ℕ) (y : Option X) → i < length ys → (k : ℕ) → row (set ys i y) k ≡ with_at (row ys) i y k
+  row-set ys i y there k = read-set option_flatten ys i y there k
+
+  placed_here : (ys : List (Option X)) (i : ℕ) (y : Option X) → with_at (row ys) i y i ≡ y
+  placed_here ys i y = ap (λ b. cond b y (row ys i)) (eq-eqb i i refl)
+
+  placed_other : (ys : List (Option X)) (i : ℕ) (y : Option X) (k : ℕ) → k ≢ i → with_at (row ys) i y k ≡ row ys k
+  placed_other ys i y k ne = ap (λ b. cond b y (row ys k)) (ne_eqb k i ne)
+
+  pub put_next : (ys : List (Option X)) (i : ℕ) (y : Option X) → i < length ys → y ≡ f i (row xs i) → IsPut f xs i ys → IsPut f xs (i + 1) (set ys i y)
+  put_next ys i y there e h = record {
+    before =
+        below_more (λ k. row (set ys i y) k ≡ f k (row xs k)) i
+        (λ k below. let ne : k ≢ i = omega arith in row-set ys i y there k ∙ placed_other ys i y k ne ∙ h.before k below)
+        (row-set ys i y there i ∙ placed_here ys i y ∙ e);
+    behind = λ k past. let ne : k ≢ i = omega arith in row-set ys i y there k ∙ placed_other ys i y k ne ∙ h.behind k (omega arith);
+  }
+
+  pub put_skip : (ys : List (Option X)) (i : ℕ) → f i (row xs i) ≡ row xs i → IsPut f xs i ys → IsPut f xs (i + 1) ys
+  put_skip ys i e h = record {
+    before = below_more (λ k. row ys k ≡ f k (row xs k)) i h.before (h.behind i (omega arith) ∙ sym e);
+    behind = λ k past. h.behind k (omega arith);
+  }
+
+  pub put_end : (ys : List (Option X)) (i : ℕ) → length xs ≤ i → ((k : ℕ) → f k None ≡ None) → IsPut f xs i ys → (k : ℕ) → row ys k ≡ f k (row xs k)
+  put_end ys i past none h k =
+      let within : k < i → row ys k ≡ f k (row xs k) = h.before k in
+      let outside : i ≤ k → row ys k ≡ f k (row xs k) = λ le.
+      let absent : row xs k ≡ None = ap option_flatten (slice_get_past xs k (omega arith)) in
+      h.behind k le ∙ absent ∙ sym (ap (f k) absent ∙ none k) in
+      ⊎_elim within outside (cases_lt k i)

@@ -1,4 +1,6 @@
 pub mod Going
 pub mod Places
+pub mod Reports
 pub mod Sound
+pub mod Spaces
 pub mod State

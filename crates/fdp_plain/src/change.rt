@@ -31,7 +31,7 @@ impl Kept {
     }
 
     /// What a handle of a group references from now on.
-    pub(crate) fn set_reference(&mut self, rg: u16, ruh: u8, reference: KeptReference)
+    pub(crate) fn set_reference(&mut self, rg: u16, ruh: u16, reference: KeptReference)
         requires handle { ruh < 16 }
         requires group { 16 * rg + ruh < length self.old.references.items }
         ensures state { plain_of self.new ≡ record (plain_of self.old) { references = with_reference (plain_of self.old).references rg ruh (reference_of reference) } }
@@ -73,8 +73,8 @@ impl Kept {
         ensures rows { length self.new.references.items ≡ length self.old.references.items }
     {
         if let Some(going) = self.going_with(ticket) {
-            let (rg, ruh) = (going.rg, going.ruh);
-            let reference = self.one_less(unit, self.reference(rg, u16::from(ruh)));
+            let (rg, ruh) = (going.rg, u16::from(going.ruh));
+            let reference = self.one_less(unit, self.reference(rg, ruh));
             self.set_reference(rg, ruh, reference);
         }
     }

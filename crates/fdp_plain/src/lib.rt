@@ -2,11 +2,15 @@
 #![tactic(auto)]
 
 mod change;
+mod create;
+mod effect;
+mod feature;
 mod going;
 mod look;
 mod room;
 mod state;
 mod target;
 mod trail;
+mod update;
 
 pub use state::{Destination, Kept, KeptBlock, KeptGoing, KeptReference, KeptReports, Space};

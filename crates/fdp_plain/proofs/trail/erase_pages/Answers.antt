@@ -1,4 +1,4 @@
-use Rattle.std.proofs.Common.{None, map}
+use Rattle.std.proofs.Common.{None}
 use Rattle.std.specs.Prelude.{option_and_then}
 use Rattle.fdp_base.specs.Sites.{outside}
 use Rattle.fdp_plain.proofs.Walks.{mapped_step}

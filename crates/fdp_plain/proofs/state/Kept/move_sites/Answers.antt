@@ -15,9 +15,9 @@ returns-clause-sites c =
     let at : v ≡ get_or k.copies.items c.args.rg v = cc in
     let before : slice_get k.copies.items c.args.rg ≡ Some v = slice_get_read k.copies.items (length k.copies.items) c.args.rg v refl c.requires at in
     let pass : map copy_of c.last_run-pass.result.now ≡ last_run (copies_at k c.args.rg) =
-        c.last_run-pass.ensures
-        ∙ ap (λ xs. last_run (map copy_of xs)) c.as_slice.ensures.value
-        ∙ ap (λ o. last_run (option_map_or (λ u. map copy_of (vec_items u)) o [])) (sym before) in
+    c.last_run-pass.ensures
+    ∙ ap (λ xs. last_run (map copy_of xs)) c.as_slice.ensures.value
+    ∙ ap (λ o. last_run (option_map_or (λ u. map copy_of (vec_items u)) o [])) (sym before) in
     λ t i.
-        row_of_rows vec_items (option_map (moved_by (map copy_of c.last_run-pass.result.now))) k.sites.items c.move_all.new.sites.items t i refl c.move_all.ensures.pages
-        ∙ ap (λ p. option_map (moved_by p) (site_at k (written t i))) pass
+    row_of_rows vec_items (option_map (moved_by (map copy_of c.last_run-pass.result.now))) k.sites.items c.move_all.new.sites.items t i refl c.move_all.ensures.pages
+    ∙ ap (λ p. option_map (moved_by p) (site_at k (written t i))) pass
