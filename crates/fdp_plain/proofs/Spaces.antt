@@ -1,11 +1,12 @@
 -- A namespace that is put into the table of the namespaces, or whose blocks become absent.
-use Rattle.std.proofs.Common.{◌≡◌, ℕ, find, [], ◌∷◌, zero, suc, replicate, ◌<◌, ◌≤◌, Bool, true, false, List, length, set, get_or, Option, None, Some, refl, ap, sym, ◌∙◌, cond, subst, eq-eqb, ne_eqb, ⊎_elim}
+use Rattle.std.proofs.Common.{◌≡◌, ◌-◌, arith, ℕ, find, [], ◌∷◌, zero, suc, replicate, ◌<◌, ◌≤◌, Bool, true, false, List, length, set, get_or, Option, None, Some, refl, ap, sym, ◌∙◌, cond, subst, eq-eqb, ne_eqb, ⊎_elim}
 use Rattle.std.specs.Prelude.{is_none, ◌==◌, ◌&&◌, if◌then◌else◌, option_map}
 use Rattle.std.specs.Option.{option_flatten}
 use Rattle.std.proofs.lemmas.Bool.{cases_eq}
 use Rattle.std.proofs.lemmas.Option.{slice_get-get_or, slice_get_past}
 use Rattle.fdp_base.specs.Effect.{without_blocks}
-use Rattle.fdp_base.specs.Numbers.{with_at}
+use Rattle.std.proofs.lemmas.Bool.Decides.{nat_tests}
+use Rattle.fdp_base.specs.Numbers.{is_among, with_at}
 use Rattle.fdp_base.specs.PlainState.{Block, Namespace, PlainState}
 use Rattle.fdp_plain.specs.declared.state.Space.{Space}
 use Rattle.fdp_plain.specs.Spaces.{block_in}
@@ -56,16 +57,16 @@ module _ (s : PlainState) (xs : List (Option Space)) (place : ℕ) (y : Option S
       ap (λ f. let t : PlainState = record s { namespaces = f; blocks = blocks_in (set xs place y) } in t) namespaces_put
       ∙ (λ d. record s { namespaces = with_at (namespaces_in xs) place (option_map namespace_of y); blocks = λ n lba. blocks_put n lba d })
 
-  -- a namespace stays, and its blocks become absent where a test passes
-  pub space_cleared : (test : ℕ → Bool) (e : Option Space) → option_map namespace_of y ≡ option_map namespace_of (get_or xs place e) → ((lba : ℕ) → block_in y lba ≡ (if test lba then None else block_in (get_or xs place e) lba))
+  -- a namespace stays, and its blocks change where a test passes
+  pub space_changed : (test : ℕ → Bool) (value : ℕ → Option Block) (e : Option Space) → option_map namespace_of y ≡ option_map namespace_of (get_or xs place e) → ((lba : ℕ) → block_in y lba ≡ (if test lba then value lba else block_in (get_or xs place e) lba))
       → (let now : PlainState = record s { namespaces = namespaces_in (set xs place y); blocks = blocks_in (set xs place y) } in now)
-      ≡ without_blocks (record s { namespaces = namespaces_in xs; blocks = blocks_in xs }) place test
-  space_cleared test e same gone =
+      ≡ record s { namespaces = namespaces_in xs; blocks = λ n lba. if n == place && test lba then value lba else blocks_in xs n lba }
+  space_changed test value e same put =
       let before : row xs place ≡ get_or xs place e = ap option_flatten (slice_get-get_or xs place e there) in
       let names : with_at (namespaces_in xs) place (option_map namespace_of y) ≡ namespaces_in xs = λ d n.
-      (ap (λ v. with_at (namespaces_in xs) place v n) (same ∙ ap (option_map namespace_of) (sym before)) ∙ with_at_same (namespaces_in xs) place n) d in
-      let blocks : (n lba : ℕ) → (if n == place then block_in y lba else blocks_in xs n lba) ≡ (if n == place && test lba then None else blocks_in xs n lba) = λ n lba.
-      ap (λ b. with_at (λ m. blocks_in xs m lba) place b n) (gone lba ∙ ap (λ z. if test lba then None else block_in z lba) (sym before)) ∙ with_at_if (λ m. blocks_in xs m lba) place None (test lba) n in
+          (ap (λ v. with_at (namespaces_in xs) place v n) (same ∙ ap (option_map namespace_of) (sym before)) ∙ with_at_same (namespaces_in xs) place n) d in
+      let blocks : (n lba : ℕ) → (if n == place then block_in y lba else blocks_in xs n lba) ≡ (if n == place && test lba then value lba else blocks_in xs n lba) = λ n lba.
+          ap (λ b. with_at (λ m. blocks_in xs m lba) place b n) (put lba ∙ ap (λ z. if test lba then value lba else block_in z lba) (sym before)) ∙ with_at_if (λ m. blocks_in xs m lba) place (value lba) (test lba) n in
       space_put
       ∙ ap (λ f. let t : PlainState = record s { namespaces = f; blocks = λ n lba. if n == place then block_in y lba else blocks_in xs n lba } in t) names
       ∙ (λ d. record s { namespaces = namespaces_in xs; blocks = λ n lba. blocks n lba d })
@@ -103,3 +104,14 @@ passes p y x rest false e f g = g f
 pub find_passes : {X : Type 0} (p : X → Bool) (xs : List X) (x : X) → find p xs ≡ Some x → p x ≡ true
 find_passes p [] x e = cc
 find_passes p (y ∷ ys) x e = passes p y x (find p ys) (p y) refl e (λ f. find_passes p ys x f)
+
+-- a choice where the values agree if the test holds
+pub if_same : {X : Type 0} (a t : Bool) (x y z : X) → (t ≡ true → x ≡ y) → cond (a && t) x z ≡ cond (a && t) y z
+if_same true true x y z h = h refl
+if_same true false x y z h = refl
+if_same false true x y z h = refl
+if_same false false x y z h = refl
+
+-- how far an address lies behind the first of so many
+pub offset_among : (slba count lba : ℕ) → is_among slba count lba ≡ true → lba - slba < count
+offset_among slba count lba e = grind (arith, nat_tests)

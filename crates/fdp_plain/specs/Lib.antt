@@ -1,3 +1,4 @@
+pub mod Counted
 pub mod Going
 pub mod Places
 pub mod Reports

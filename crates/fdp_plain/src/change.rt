@@ -1,13 +1,15 @@
-ghost use Rattle.std.specs.Prelude.{◌≡◌, ℕ, ◌+◌, ◌*◌, ◌<◌, true, false, length};
+ghost use Rattle.std.specs.Prelude.{◌≡◌, ℕ, ◌+◌, ◌*◌, ◌<◌, Bool, true, false, length};
 ghost use Rattle.fdp_base.specs.Effect.{no_reference, with_reference};
+ghost use Rattle.fdp_base.specs.declared.command.Command.{Command};
 ghost use Rattle.fdp_base.specs.Numbers.{with_at};
+ghost use Rattle.fdp_base.specs.Sites.{group_of};
 ghost use Rattle.std.specs.Option.{IfSome};
-ghost use Rattle.fdp_base.specs.Change.{changed_by, going_with, one_less, placed_references};
+ghost use Rattle.fdp_base.specs.Change.{changed_by, going_with, one_less, placed_references, started};
 ghost use Rattle.fdp_base.specs.declared.entry.Entry.TheVariants as entries;
 ghost use Rattle.fdp_plain.specs.Going.{HasRoomFor, IsHandlePlace};
-ghost use Rattle.fdp_plain.specs.State.{plain_of, reference_of, row};
+ghost use Rattle.fdp_plain.specs.State.{going_of, plain_of, reference_of, row};
 
-use crate::state::{Kept, KeptReference};
+use crate::state::{Kept, KeptGoing, KeptReference};
 
 impl Kept {
     /// A unit is out of use from now on.
@@ -91,5 +93,64 @@ impl Kept {
     {
         self.fill_reference(ticket, unit);
         self.count_page(ticket);
+    }
+
+    /// A write that was made for it is let go in a queue.
+    #[tactic(auto, unfolding(fdp_base::specs::Change::changed_by))]
+    pub fn start(&mut self, queue: u8, going: KeptGoing)
+        requires { queue < length self.old.going.items }
+        ensures state { (number : ℕ) (command : Command) (rg ruh : ℕ) (pid_valid : Bool) → going_of going ≡ started self.old.config (plain_of self.old) number command rg ruh pid_valid → plain_of self.new ≡ changed_by self.old.config (plain_of self.old) (entries.Started queue number command rg ruh pid_valid) }
+        ensures rest { self.new ≡ record self.old { going = self.new.going } }
+        ensures rows { length self.new.going.items ≡ length self.old.going.items }
+    {
+        self.set_going(queue, Some(going));
+    }
+
+    /// A unit was erased, so its group is worn no longer.
+    #[tactic(auto, unfolding(fdp_base::specs::Change::changed_by))]
+    pub fn erase(&mut self, unit: u32)
+        requires units { 0 < self.old.config.units }
+        requires group { group_of self.old.config unit < length self.old.worn.items }
+        ensures state { plain_of self.new ≡ changed_by self.old.config (plain_of self.old) (entries.Erased unit) }
+        ensures rest { self.new ≡ record self.old { worn = self.new.worn } }
+        ensures rows { length self.new.worn.items ≡ length self.old.worn.items }
+    {
+        self.set_worn(self.group_of(unit), false);
+    }
+
+    /// A unit is out of use: its erase failed, or a fetch of relocation from it.
+    #[tactic(auto, unfolding(fdp_base::specs::Change::changed_by))]
+    pub fn retire(&mut self, unit: u32)
+        requires { unit < length self.old.lost.items }
+        ensures retired { plain_of self.new ≡ changed_by self.old.config (plain_of self.old) (entries.Retired unit) }
+        ensures aside { plain_of self.new ≡ changed_by self.old.config (plain_of self.old) (entries.Aside unit) }
+        ensures rest { self.new ≡ record self.old { lost = self.new.lost } }
+        ensures rows { length self.new.lost.items ≡ length self.old.lost.items }
+    {
+        self.lose(unit);
+    }
+
+    /// A program failed, so the handle has no unit in this group.
+    #[tactic(auto, unfolding(fdp_base::specs::Change::changed_by))]
+    pub fn shut(&mut self, rg: u16, ruh: u8)
+        requires handle { ruh < 16 }
+        requires group { 16 * rg + ruh < length self.old.references.items }
+        ensures state { plain_of self.new ≡ changed_by self.old.config (plain_of self.old) (entries.Shut rg ruh) }
+        ensures rest { self.new ≡ record self.old { references = self.new.references } }
+        ensures rows { length self.new.references.items ≡ length self.old.references.items }
+    {
+        let none = self.no_reference();
+        self.set_reference(rg, u16::from(ruh), none);
+    }
+
+    /// Relocation found no free unit in a group.
+    #[tactic(auto, unfolding(fdp_base::specs::Change::changed_by))]
+    pub fn wear(&mut self, rg: u16)
+        requires { rg < length self.old.worn.items }
+        ensures state { plain_of self.new ≡ changed_by self.old.config (plain_of self.old) (entries.Worn rg) }
+        ensures rest { self.new ≡ record self.old { worn = self.new.worn } }
+        ensures rows { length self.new.worn.items ≡ length self.old.worn.items }
+    {
+        self.set_worn(u32::from(rg), true);
     }
 }

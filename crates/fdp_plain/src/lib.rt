@@ -12,5 +12,6 @@ mod state;
 mod target;
 mod trail;
 mod update;
+mod write;
 
 pub use state::{Destination, Kept, KeptBlock, KeptGoing, KeptReference, KeptReports, Space};
