@@ -64,9 +64,9 @@ module _ (s : PlainState) (xs : List (Option Space)) (place : ℕ) (y : Option S
   space_changed test value e same put =
       let before : row xs place ≡ get_or xs place e = ap option_flatten (slice_get-get_or xs place e there) in
       let names : with_at (namespaces_in xs) place (option_map namespace_of y) ≡ namespaces_in xs = λ d n.
-          (ap (λ v. with_at (namespaces_in xs) place v n) (same ∙ ap (option_map namespace_of) (sym before)) ∙ with_at_same (namespaces_in xs) place n) d in
+      (ap (λ v. with_at (namespaces_in xs) place v n) (same ∙ ap (option_map namespace_of) (sym before)) ∙ with_at_same (namespaces_in xs) place n) d in
       let blocks : (n lba : ℕ) → (if n == place then block_in y lba else blocks_in xs n lba) ≡ (if n == place && test lba then value lba else blocks_in xs n lba) = λ n lba.
-          ap (λ b. with_at (λ m. blocks_in xs m lba) place b n) (put lba ∙ ap (λ z. if test lba then value lba else block_in z lba) (sym before)) ∙ with_at_if (λ m. blocks_in xs m lba) place (value lba) (test lba) n in
+      ap (λ b. with_at (λ m. blocks_in xs m lba) place b n) (put lba ∙ ap (λ z. if test lba then value lba else block_in z lba) (sym before)) ∙ with_at_if (λ m. blocks_in xs m lba) place (value lba) (test lba) n in
       space_put
       ∙ ap (λ f. let t : PlainState = record s { namespaces = f; blocks = λ n lba. if n == place then block_in y lba else blocks_in xs n lba } in t) names
       ∙ (λ d. record s { namespaces = namespaces_in xs; blocks = λ n lba. blocks n lba d })

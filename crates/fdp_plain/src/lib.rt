@@ -10,6 +10,7 @@ mod look;
 mod room;
 mod state;
 mod target;
+mod totals;
 mod trail;
 mod update;
 mod write;

@@ -60,7 +60,13 @@ fn put_blocks(blocks: &mut [Option<KeptBlock>], slba: usize, mut made: Vec<Optio
 }
 
 /// The blocks of a going write.
-pub fn make_blocks(alloc: Global, block: u32, payload: &Payload, count: u32, going: &KeptGoing) -> Result<Vec<Option<KeptBlock>>, AllocError>
+pub fn make_blocks(
+    alloc: Global,
+    block: u32,
+    payload: &Payload,
+    count: u32,
+    going: &KeptGoing,
+) -> Result<Vec<Option<KeptBlock>>, AllocError>
     requires whole { block % 4 ≡ 0 }
     requires bytes { (index : ℕ) → index < count → HasBlock block payload.now index }
     ensures { IfOk result (λ made. AreMade block payload.now (going_of going.now) count made.items) }
@@ -73,7 +79,13 @@ pub fn make_blocks(alloc: Global, block: u32, payload: &Payload, count: u32, goi
 }
 
 /// Block `index` of a going write.
-fn make_block(alloc: Global, block: u32, payload: &Payload, index: u32, going: &KeptGoing) -> Result<KeptBlock, AllocError>
+fn make_block(
+    alloc: Global,
+    block: u32,
+    payload: &Payload,
+    index: u32,
+    going: &KeptGoing,
+) -> Result<KeptBlock, AllocError>
     requires whole { block % 4 ≡ 0 }
     requires bytes { HasBlock block payload.now index }
     ensures { IfOk result (λ made. block_of made ≡ written_block block payload.now (going_of going.now) index) }

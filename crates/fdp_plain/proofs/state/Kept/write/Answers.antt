@@ -16,7 +16,7 @@ returns-clause-state c = λ queue dtype dspec count payload g going made.
     let rows = c.args.made.items in
     let block = block_of_write k.config slba payload in
     let each : (n lba : ℕ) → (if n == nsid && is_among slba (length rows) lba then option_map block_of (row rows (lba - slba)) else s.blocks n lba) ≡ (if n == nsid && is_among slba count lba then option_map (block lba) (s.going queue) else s.blocks n lba) = λ n lba.
-        ap (λ m. cond (n == nsid && is_among slba m lba) (option_map block_of (row rows (lba - slba))) (s.blocks n lba)) made.count_is
-        ∙ if_same (n == nsid) (is_among slba count lba) (option_map block_of (row rows (lba - slba))) (Some (block lba g)) (s.blocks n lba) (λ among. made.each (lba - slba) (offset_among slba count lba among))
-        ∙ ap (λ o. cond (n == nsid && is_among slba count lba) (option_map (block lba) o) (s.blocks n lba)) (sym going) in
+    ap (λ m. cond (n == nsid && is_among slba m lba) (option_map block_of (row rows (lba - slba))) (s.blocks n lba)) made.count_is
+    ∙ if_same (n == nsid) (is_among slba count lba) (option_map block_of (row rows (lba - slba))) (Some (block lba g)) (s.blocks n lba) (λ among. made.each (lba - slba) (offset_among slba count lba among))
+    ∙ ap (λ o. cond (n == nsid && is_among slba count lba) (option_map (block lba) o) (s.blocks n lba)) (sym going) in
     c.put.ensures.state ∙ (λ d. record s { blocks = λ n lba. each n lba d })
