@@ -1,17 +1,25 @@
 //! A plain drive: a slow program that computes what the definitions of the drive say, from the list of its entries.
 #![tactic(auto)]
 
+mod bytes;
 mod change;
+mod configurations;
 mod create;
 mod effect;
+mod events;
 mod feature;
 mod going;
+mod handle_status;
+mod log;
+mod logs;
 mod look;
+mod refusal;
 mod room;
 mod state;
 mod target;
 mod totals;
 mod trail;
+mod transfer;
 mod update;
 mod write;
 
