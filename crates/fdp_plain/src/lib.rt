@@ -2,10 +2,16 @@
 #![tactic(auto)]
 
 mod bytes;
+mod change;
 mod configurations;
 mod ends;
 mod forms;
 mod data;
+mod create;
+mod effect;
+mod events;
+mod feature;
+mod going;
 mod handle_status;
 mod hosts;
 mod judge;
@@ -19,6 +25,10 @@ mod replies;
 mod room;
 mod state;
 mod target;
+mod totals;
+mod trail;
 mod transfer;
+mod update;
+mod write;
 
 pub use state::{Destination, Kept, KeptBlock, KeptGoing, KeptReference, KeptReports, Space};
