@@ -1,5 +1,5 @@
 -- Pieces are put one behind another: what is done, and what is left, come to the whole.
-use Rattle.std.proofs.Common.{◌≡◌, ℕ, suc, ◌+◌, ◌-◌, ◌<◌, ◌≤◌, Bool, true, false, cond, List, [], ◌∷◌, ◌++◌, length, drop, drop-cons, get_or, flat_map, map, filter, refl, sym, ◌∙◌, ap, add-one, append_assoc}
+use Rattle.std.proofs.Common.{◌≡◌, ℕ, ◌+◌, ◌<◌, ◌≤◌, Bool, true, false, cond, List, [], ◌∷◌, ◌++◌, length, drop, drop-cons, get_or, flat_map, map, filter, refl, sym, ◌∙◌, ap, add-one, append_assoc}
 use mathlib.Core.List.{append-nil}
 use Rattle.std.proofs.lemmas.List.{drop_all}
 use Rattle.fdp_base.specs.Numbers.{numbers_below}

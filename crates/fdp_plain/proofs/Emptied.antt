@@ -1,6 +1,6 @@
 -- A unit in which no block stands, by the rows of the tables.
-use Rattle.std.proofs.Common.{◌≡◌, ◌≢◌, ℕ, Bool, List, Option, None, Some, refl, sym, ◌∙◌, ap, subst, slice_get}
-use Rattle.std.specs.Prelude.{IfSome, MatchOption, option_and_then, option_map}
+use Rattle.std.proofs.Common.{◌≡◌, ◌≢◌, ℕ, Bool, List, Option, None, Some, refl, subst, slice_get}
+use Rattle.std.specs.Prelude.{IfSome, option_and_then, option_map}
 use Rattle.std.specs.Option.{option_flatten}
 use Rattle.std.specs.Bool.{Decides}
 use Rattle.fdp_base.specs.declared.entry.Spot.{Spot}

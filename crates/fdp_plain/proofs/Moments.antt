@@ -12,9 +12,9 @@ pub others_next : (xs : List ℕ) (moment n : ℕ) → get_or xs n 0 ≢ moment 
 others_next xs moment n other before i below =
     let within : i ≤ n = omega arith in
     ⊎_elim
-        (λ (is : i ≡ n). subst (λ (k : ℕ). get_or xs k 0 ≢ moment) (sym is) other)
-        (λ (lt : i < n). before i lt)
-        (eq-or-lt_of_le within)
+    (λ (is : i ≡ n). subst (λ (k : ℕ). get_or xs k 0 ≢ moment) (sym is) other)
+    (λ (lt : i < n). before i lt)
+    (eq-or-lt_of_le within)
 
 pub is_new : (xs : List ℕ) (moment n : ℕ) → length xs ≤ n → OthersBefore xs moment n → Contains (reverse xs) moment → ⊥
 is_new xs moment n all others has =

@@ -1,9 +1,9 @@
 -- Which units the table of references names.
-use Rattle.std.proofs.Common.{◌≡◌, ◌≢◌, ℕ, ◌+◌, ◌*◌, ◌/◌, ◌%◌, ◌<◌, Bool, true, false, cond, ltb, Option, None, Some, length, refl, sym, ◌∙◌, ap, arith, get_or, slice_get}
+use Rattle.std.proofs.Common.{◌≡◌, ℕ, ◌+◌, ◌*◌, ◌/◌, ◌%◌, ◌<◌, Bool, true, false, cond, ltb, Option, None, Some, refl, sym, ◌∙◌, ap, arith, slice_get}
 use Rattle.std.specs.Option.{option_map_or}
 use Rattle.std.proofs.Math.Nat.{div-add-mod, mod-lt}
-use Rattle.std.proofs.lemmas.Bool.{lt-ltb, ltb-true}
-use Rattle.std.proofs.lemmas.Option.{none-some, slice_get-get_or}
+use Rattle.std.proofs.lemmas.Bool.{lt-ltb}
+use Rattle.std.proofs.lemmas.Option.{none-some}
 use Rattle.fdp_base.specs.Effect.{no_reference}
 use Rattle.fdp_base.specs.PlainState.{Reference}
 use Rattle.fdp_base.specs.Step.{IsUnreferenced}
@@ -31,6 +31,6 @@ each_free k unit un i x e named =
     let lower : i % 16 < 16 = mod-lt i (omega arith) in
     let low : ltb (i % 16) 16 ≡ true = lt-ltb (i % 16) 16 lower in
     let at : reference_at k (i / 16) (i % 16) ≡ reference_of x =
-        ap (λ (b : Bool). cond b (option_map_or reference_of (slice_get k.references.items (16 * (i / 16) + i % 16)) (no_reference k.config)) (no_reference k.config)) low
-        ∙ ap (λ (o : Option KeptReference). option_map_or reference_of o (no_reference k.config)) row in
+    ap (λ (b : Bool). cond b (option_map_or reference_of (slice_get k.references.items (16 * (i / 16) + i % 16)) (no_reference k.config)) (no_reference k.config)) low
+    ∙ ap (λ (o : Option KeptReference). option_map_or reference_of o (no_reference k.config)) row in
     un (i / 16) (i % 16) (ap (λ (y : Reference). y.unit) at ∙ named)

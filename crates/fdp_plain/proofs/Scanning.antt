@@ -1,7 +1,7 @@
 -- Something is looked for in each element of a list.
 use mathlib.Core.Bool.{true≢false}
 use Rattle.std.specs.Bool.{Decides}
-use Rattle.std.proofs.Common.{true, false, refl, ◌≡◌, ℕ, ◌+◌, ◌<◌, ◌≤◌, List, Option, Some, length, get_or, slice_get, subst, sym, ◌∙◌, ap, arith, ⊎_elim}
+use Rattle.std.proofs.Common.{true, false, refl, ◌≡◌, ℕ, ◌+◌, ◌<◌, ◌≤◌, List, Some, length, get_or, slice_get, subst, sym, ◌∙◌, ap, arith, ⊎_elim}
 use Rattle.std.proofs.Math.Nat.{eq-or-lt_of_le}
 use Rattle.fdp_plain.specs.Judging.{EachIn}
 use Rattle.std.proofs.lemmas.Option.{slice_get-get_or, slice_get_within}
@@ -18,13 +18,13 @@ module _ {X : Type 0} (P : X → Type 0) where
   each_next xs n d within holds before i x below e =
       let within_now : i ≤ n = omega arith in
       ⊎_elim
-          (λ (is : i ≡ n).
-              let here : slice_get xs n ≡ Some x = ap (λ (k : ℕ). slice_get xs k) (sym is) ∙ e in
-              let there : slice_get xs n ≡ Some (get_or xs n d) = slice_get-get_or xs n d within in
-              let same : get_or xs n d ≡ x = cc in
-              subst P same holds)
-          (λ (lt : i < n). before i x lt e)
-          (eq-or-lt_of_le within_now)
+      (λ (is : i ≡ n).
+      let here : slice_get xs n ≡ Some x = ap (λ (k : ℕ). slice_get xs k) (sym is) ∙ e in
+      let there : slice_get xs n ≡ Some (get_or xs n d) = slice_get-get_or xs n d within in
+      let same : get_or xs n d ≡ x = cc in
+      subst P same holds)
+      (λ (lt : i < n). before i x lt e)
+      (eq-or-lt_of_le within_now)
 
   pub each_at_last : (xs : List X) (n : ℕ) → length xs ≤ n → EachBefore xs n → EachIn P xs
   each_at_last xs n all before i x e = before i x (omega (arith, slice_get_within xs i x e)) e

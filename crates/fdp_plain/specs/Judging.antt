@@ -1,5 +1,5 @@
 -- What is looked for in the tables when an entry is judged.
-use Rattle.std.specs.Prelude.{◌≡◌, ◌≢◌, ◌<◌, ℕ, Bool, true, IsTrue, IsFalse, Contains, slice_index, List, Option, Some, None, IfSome, MatchOption, slice_get}
+use Rattle.std.specs.Prelude.{◌≡◌, ◌≢◌, ◌<◌, ℕ, Bool, true, IsTrue, IsFalse, Contains, slice_index, List, Option, Some, IfSome, MatchOption, slice_get}
 use Rattle.fdp_base.specs.declared.entry.Reply.{Reply}
 use Rattle.fdp_base.specs.declared.entry.Spot.{Spot}
 use Rattle.fdp_base.specs.declared.status.TheConstants.Status as statuses

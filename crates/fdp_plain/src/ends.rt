@@ -22,7 +22,10 @@ impl Kept {
     {
         match &going.command {
             Command::Write {
-                nsid, slba, count, ..
+                nsid,
+                slba,
+                count,
+                ..
             } => self.is_over_budget(going.rg, *nsid, *slba, *count),
             Command::Read { .. } => false,
             Command::Zero { .. } => false,
@@ -59,7 +62,10 @@ impl Kept {
     {
         match &going.command {
             Command::Write {
-                nsid, dtype, dspec, ..
+                nsid,
+                dtype,
+                dspec,
+                ..
             } => {
                 let target = self.target(going.roomiest, *nsid, directed_by(*dtype, *dspec));
                 leads_to(target, going)

@@ -29,9 +29,11 @@ impl Kept {
         ensures { IfOk result (λ answer. Decides answer (IsStarted self.now.config (point_kept self.now) queue command.now rg ruh pid_valid)) }
     {
         let refusal = self.refusal(alloc, command)?;
-        Ok(self.is_startable(queue, command, refusal)
-            && self.is_handle(rg, ruh)
-            && self.is_place_for(nsid_of(command), rg, ruh, pid_valid))
+        Ok(
+            self.is_startable(queue, command, refusal)
+                && self.is_handle(rg, ruh)
+                && self.is_place_for(nsid_of(command), rg, ruh, pid_valid),
+        )
     }
 
     fn is_startable(&self, queue: u8, command: &Command, refusal: Option<Status>) -> bool

@@ -184,7 +184,8 @@ impl Kept {
             None => self.is_unreferenced(at.unit) && at.page == 0,
             Some(unit) => {
                 at.unit == unit
-                    && u64::from(at.page) + u64::from(reference.left) == u64::from(self.config.unit_pages)
+                    && u64::from(at.page) + u64::from(reference.left)
+                        == u64::from(self.config.unit_pages)
             }
         }
     }

@@ -4,13 +4,13 @@
 mod bytes;
 mod change;
 mod configurations;
-mod ends;
-mod forms;
-mod data;
 mod create;
+mod data;
 mod effect;
+mod ends;
 mod events;
 mod feature;
+mod forms;
 mod going;
 mod handle_status;
 mod hosts;

@@ -1,10 +1,11 @@
-ghost use Rattle.std.specs.Prelude.{◌≡◌, ℕ, ◌++◌, ◌∷◌, [], IfOk, OnOk, if◌then◌else◌, map, ◌==◌, ◌&&◌, nat_lt};
+ghost use Rattle.std.specs.Prelude.{◌≡◌, ℕ, ◌++◌, ◌∷◌, [], IfOk, OnOk, if◌then◌else◌, map};
 ghost use Rattle.fdp_base.specs.declared.entry.BlockName.{BlockName};
-ghost use Rattle.fdp_base.specs.Sites.{ascends, blocks_at, blocks_in, last_run, moved_blocks, pass_in, site_of, stands_at};
+ghost use Rattle.fdp_base.specs.Sites.{blocks_at, blocks_in, moved_blocks, pass_in, site_of, stands_at};
 ghost use Rattle.fdp_plain.specs.State.{copy_of, point_kept};
 
 use crate::room::NAMESPACE_IDS;
 use crate::state::Kept;
+use crate::trail::last_run;
 use fdp_base::{BlockName, Spot};
 use std::alloc::{AllocError, Global};
 
@@ -78,35 +79,4 @@ impl Kept {
             None => false,
         }
     }
-}
-
-/// The longest run at the end of these copies whose old pages lie in one unit and ascend.
-fn last_run(copies: &[(Spot, Spot)]) -> &[(Spot, Spot)]
-    ensures { map copy_of result.now ≡ last_run (map copy_of copies.now) }
-{
-    for start in 0..copies.len() {
-        if ascends(&copies[start..]) {
-            return &copies[start..];
-        }
-    }
-    &[]
-}
-
-/// Whether the old pages of these copies lie in one unit and ascend.
-fn ascends(copies: &[(Spot, Spot)]) -> bool
-    ensures { result ≡ ascends (map copy_of copies.now) }
-{
-    for next in 1..copies.len() {
-        if !goes_on(copies[next - 1].0, copies[next].0) {
-            return false;
-        }
-    }
-    true
-}
-
-/// Whether a page stands behind another in its unit.
-fn goes_on(before: Spot, page: Spot) -> bool
-    ensures { result ≡ ((before.unit == page.unit) && nat_lt before.page page.page) }
-{
-    before.unit == page.unit && before.page < page.page
 }

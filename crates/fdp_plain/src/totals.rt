@@ -1,9 +1,10 @@
 ghost use Rattle.std.specs.Prelude.{◌≡◌, ◌+◌, ◌^◌, ◌<◌, ◌≤◌};
-ghost use Rattle.fdp_base.specs.Totals.{blocks_written, erases_of, host_blocks_of, media_blocks_of};
+ghost use Rattle.fdp_base.specs.Totals.{erases_of, host_blocks_of, media_blocks_of};
 ghost use Rattle.fdp_plain.specs.Counted.{HasCountRoom};
 
+use crate::kinds::blocks_written;
 use crate::state::Kept;
-use fdp_base::{Command, Entry};
+use fdp_base::Entry;
 
 impl Kept {
     /// Adds what an entry counts to the sums.
@@ -42,28 +43,6 @@ fn host_blocks_of(entry: &Entry) -> u32
         Entry::Shut { .. } => 0,
         Entry::Worn { .. } => 0,
         Entry::Reopened => 0,
-    }
-}
-
-/// How many blocks a write carries.
-pub fn blocks_written(command: &Command) -> u32
-    ensures { result ≡ blocks_written command.now }
-{
-    match command {
-        Command::Write { count, .. } => *count,
-        Command::Read { .. } => 0,
-        Command::Zero { .. } => 0,
-        Command::Dealloc { .. } => 0,
-        Command::Flush { .. } => 0,
-        Command::Delete { .. } => 0,
-        Command::Status { .. } => 0,
-        Command::Update { .. } => 0,
-        Command::Log { .. } => 0,
-        Command::SetFdp { .. } => 0,
-        Command::GetFdp { .. } => 0,
-        Command::SetEvents { .. } => 0,
-        Command::Create { .. } => 0,
-        Command::Other { .. } => 0,
     }
 }
 

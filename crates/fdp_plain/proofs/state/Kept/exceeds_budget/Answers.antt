@@ -1,4 +1,4 @@
-use Rattle.std.proofs.Common.{◌≡◌, Bool, false, subst, sym}
+use Rattle.std.proofs.Common.{◌≡◌, false, subst, sym}
 use Rattle.std.specs.Option.{option_map_or}
 use Rattle.fdp_base.specs.declared.command.Command.{Command}
 use Rattle.fdp_base.specs.CommandKinds.{Write, write_of}

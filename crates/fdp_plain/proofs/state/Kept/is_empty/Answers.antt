@@ -1,4 +1,4 @@
-use Rattle.std.proofs.Common.{◌≡◌, ℕ, List, Option, Bool, true, false, arith, subst}
+use Rattle.std.proofs.Common.{List, Option, true, false, arith, subst}
 use Rattle.std.specs.Bool.{Decides}
 use Rattle.std.proofs.lemmas.Bool.Decides.{not_from_Decides}
 use Rattle.fdp_plain.specs.declared.state.Space.{Space}
@@ -14,7 +14,7 @@ pub returns-then-not-leaves : goal.returns-then-not-leaves
 returns-then-not-leaves c =
     let P : List (Option Space) → Type 0 = λ xs. Decides false (EachIn (Leaves c.args.self.now c.args.unit) xs) in
     empty_decides c.args.self.now c.args.unit false (subst P c.deref-space-items.ensures.value
-        (not_each_item (Leaves c.args.self.now c.args.unit) c.deref-space-items.result.now c.loop-space.space-index c.space-item.result (omega arith) c.space-item.is (not_from_Decides _ c.leaves.ensures c.if-not-leaves.true)))
+    (not_each_item (Leaves c.args.self.now c.args.unit) c.deref-space-items.result.now c.loop-space.space-index c.space-item.result (omega arith) c.space-item.is (not_from_Decides _ c.leaves.ensures c.if-not-leaves.true)))
 
 pub loop-space-preserved : goal.loop-space-preserved
 loop-space-preserved c =
@@ -24,4 +24,4 @@ pub returns : goal.returns
 returns c =
     let P : List (Option Space) → Type 0 = λ xs. Decides true (EachIn (Leaves c.args.self.now c.args.unit) xs) in
     empty_decides c.args.self.now c.args.unit true (subst P c.deref-space-items.ensures.value
-        (each (Leaves c.args.self.now c.args.unit) c.deref-space-items.result.now c.loop-space.space-index (omega arith) c.loop-space.invariant))
+    (each (Leaves c.args.self.now c.args.unit) c.deref-space-items.result.now c.loop-space.space-index (omega arith) c.loop-space.invariant))

@@ -1,4 +1,4 @@
-use Rattle.std.proofs.Common.{◌≡◌, ℕ, List, arith, get_or, refl, reverse, subst, sym}
+use Rattle.std.proofs.Common.{ℕ, List, arith, refl, reverse, subst, sym}
 use Rattle.std.specs.List.{Contains}
 use mathlib.Core.Bool.{true≢false}
 use Rattle.fdp_plain.proofs.Moments.{is_known, is_new}

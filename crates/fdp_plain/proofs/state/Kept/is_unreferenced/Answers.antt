@@ -1,4 +1,4 @@
-use Rattle.std.proofs.Common.{◌≡◌, ℕ, ◌∙◌, List, arith, refl, subst, sym}
+use Rattle.std.proofs.Common.{◌∙◌, List, arith, refl, subst, sym}
 use mathlib.Core.Bool.{true≢false}
 use Rattle.fdp_plain.specs.declared.state.KeptReference.{KeptReference}
 use Rattle.fdp_plain.specs.Judging.{EachIn, IsFreeOf}
@@ -15,9 +15,10 @@ pub returns-then-not-is_free_of : goal.returns-then-not-is_free_of
 returns-then-not-is_free_of c =
     let P : List KeptReference → Type 0 = EachIn (IsFreeOf c.args.unit) in
     let each : IsUnreferenced (plain_of c.args.self.now) c.args.unit → P c.deref-reference-items.result.now =
-        λ un. subst P (sym c.deref-reference-items.ensures.value) (each_free c.args.self.now c.args.unit un) in
-    (λ e. absurd (true≢false (sym e)),
-        λ un. absurd (true≢false (sym (c.is_free_of.ensures.1 (at_place (IsFreeOf c.args.unit) c.deref-reference-items.result.now c.loop-reference.reference-index _ (omega arith) (each un))) ∙ c.if-not-is_free_of.true)))
+    λ un. subst P (sym c.deref-reference-items.ensures.value) (each_free c.args.self.now c.args.unit un) in (
+      λ e. absurd (true≢false (sym e)),
+      λ un. absurd (true≢false (sym (c.is_free_of.ensures.1 (at_place (IsFreeOf c.args.unit) c.deref-reference-items.result.now c.loop-reference.reference-index _ (omega arith) (each un))) ∙ c.if-not-is_free_of.true)),
+    )
 
 pub loop-reference-preserved : goal.loop-reference-preserved
 loop-reference-preserved c =
@@ -27,5 +28,5 @@ pub returns : goal.returns
 returns c =
     let P : List KeptReference → Type 0 = EachIn (IsFreeOf c.args.unit) in
     let each : P c.args.self.now.references.items =
-        subst P c.deref-reference-items.ensures.value (each_at_last (IsFreeOf c.args.unit) c.deref-reference-items.result.now c.loop-reference.reference-index (omega arith) c.loop-reference.invariant) in
+    subst P c.deref-reference-items.ensures.value (each_at_last (IsFreeOf c.args.unit) c.deref-reference-items.result.now c.loop-reference.reference-index (omega arith) c.loop-reference.invariant) in
     (λ _. none_names c.args.self.now c.args.unit each, λ _. refl)

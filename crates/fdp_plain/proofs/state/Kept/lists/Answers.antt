@@ -1,6 +1,6 @@
-use Rattle.std.proofs.Common.{◌≡◌, ℕ, Bool, List, eqb, subst, sym}
+use Rattle.std.proofs.Common.{ℕ, List, subst}
 use Rattle.std.specs.Bool.{Decides}
-use Rattle.std.specs.List.{Contains, IsAnyAnswer}
+use Rattle.std.specs.List.{Contains}
 use Rattle.fdp_plain.proofs.Handles.{any_decides}
 use Rattle.fdp_plain.proofs.state.Kept.lists.Goals as goal
 

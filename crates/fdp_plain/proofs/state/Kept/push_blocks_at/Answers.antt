@@ -1,4 +1,4 @@
-use Rattle.std.proofs.Common.{◌≡◌, ℕ, ◌∙◌, ◌++◌, List, [], ◌∷◌, ap, arith, flat_map, sym}
+use Rattle.std.proofs.Common.{ℕ, ◌∙◌, ◌++◌, List, ap, arith, flat_map, sym}
 use Rattle.fdp_base.specs.declared.entry.BlockName.{BlockName}
 use Rattle.fdp_base.specs.Sites.{blocks_in}
 use Rattle.fdp_plain.specs.State.{point_kept}

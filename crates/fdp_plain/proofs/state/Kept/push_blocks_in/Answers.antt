@@ -1,4 +1,4 @@
-use Rattle.std.proofs.Common.{◌≡◌, ℕ, ◌∙◌, ◌++◌, List, ap, arith, sym}
+use Rattle.std.proofs.Common.{ℕ, ◌∙◌, ◌++◌, List, ap, arith, sym}
 use Rattle.fdp_base.specs.declared.entry.BlockName.{BlockName}
 use Rattle.fdp_base.specs.Numbers.{numbers_below}
 use Rattle.fdp_base.specs.Room.{size_of}
@@ -16,4 +16,4 @@ pub returns : goal.returns
 returns c =
     collecting_end (there c.args.self.now c.args.spot c.args.nsid) (size_of (plain_of c.args.self.now) c.args.nsid) c.loop-lba.lba c.args.into.now.items c.loop-lba.into.items (omega (arith, c.size_of-lba-end.ensures)) c.loop-lba.invariant
     ∙ ap (λ (xs : List BlockName). c.args.into.now.items ++ xs)
-        (sym (filtered (λ (lba : ℕ). record { nsid = c.args.nsid; lba = lba }) (λ lba. stands_at (site_of (point_kept c.args.self.now) c.args.nsid lba) c.args.spot) (numbers_below (size_of (plain_of c.args.self.now) c.args.nsid))))
+    (sym (filtered (λ (lba : ℕ). record { nsid = c.args.nsid; lba = lba }) (λ lba. stands_at (site_of (point_kept c.args.self.now) c.args.nsid lba) c.args.spot) (numbers_below (size_of (plain_of c.args.self.now) c.args.nsid))))
