@@ -1,0 +1,34 @@
+//! A plain drive: a slow program that computes what the definitions of the drive say, from the list of its entries.
+#![tactic(auto)]
+
+mod bytes;
+mod change;
+mod configurations;
+mod create;
+mod data;
+mod effect;
+mod ends;
+mod events;
+mod feature;
+mod forms;
+mod going;
+mod handle_status;
+mod hosts;
+mod judge;
+mod kinds;
+mod log;
+mod logs;
+mod look;
+mod passes;
+mod refusal;
+mod replies;
+mod room;
+mod state;
+mod target;
+mod totals;
+mod trail;
+mod transfer;
+mod update;
+mod write;
+
+pub use state::{Destination, Kept, KeptBlock, KeptGoing, KeptReference, KeptReports, Space};
