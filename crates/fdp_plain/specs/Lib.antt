@@ -2,6 +2,7 @@ pub mod Counted
 pub mod Going
 pub mod Places
 pub mod Reports
+pub mod Rules
 pub mod Sound
 pub mod Spaces
 pub mod State

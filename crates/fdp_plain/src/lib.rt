@@ -3,6 +3,7 @@
 
 mod bytes;
 mod change;
+mod completion;
 mod configurations;
 mod create;
 mod data;
@@ -15,6 +16,7 @@ mod going;
 mod handle_status;
 mod hosts;
 mod judge;
+mod judging;
 mod kinds;
 mod log;
 mod logs;
@@ -23,12 +25,16 @@ mod passes;
 mod refusal;
 mod replies;
 mod room;
+mod rule;
 mod state;
+mod success;
 mod target;
 mod totals;
 mod trail;
 mod transfer;
 mod update;
 mod write;
+mod writes;
 
+pub use rule::Rule;
 pub use state::{Destination, Kept, KeptBlock, KeptGoing, KeptReference, KeptReports, Space};
