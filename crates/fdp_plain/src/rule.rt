@@ -95,9 +95,10 @@ impl Kept {
     fn rule_of_write(&self, queue: u8, number: u16, command: &Command) -> Rule
         ensures { IsRuleOfWrite (plain_of self.now) queue number command.now result }
     {
-        match self.going_as(queue, number, command) {
-            Some(_going) => Rule::WriteEnd,
-            None => Rule::WriteRefusal,
+        if self.going_as(queue, number, command).is_some() {
+            Rule::WriteEnd
+        } else {
+            Rule::WriteRefusal
         }
     }
 }

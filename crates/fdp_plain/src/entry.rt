@@ -1,11 +1,10 @@
-ghost use Rattle.std.specs.Prelude.{◌≡◌, ◌<◌, Decides, IfOk, true};
-ghost use Rattle.fdp_base.specs.Sites.{moved_blocks};
-ghost use Rattle.fdp_base.specs.Step.{Follows, IsMoved};
+ghost use Rattle.std.specs.Prelude.{Decides, IfOk, true};
+ghost use Rattle.fdp_base.specs.Step.{Follows};
 ghost use Rattle.fdp_plain.specs.Sound.{IsSound};
 ghost use Rattle.fdp_plain.specs.State.{point_kept};
 
 use crate::state::Kept;
-use fdp_base::{BlockName, Entry, Spot};
+use fdp_base::{Entry, Spot};
 use std::alloc::{AllocError, Global};
 
 impl Kept {
@@ -54,19 +53,4 @@ impl Kept {
             Entry::Reopened => Ok(false),
         }
     }
-
-    /// Whether these are the blocks that the pass of a group moves.
-    pub fn is_moved(&self, alloc: Global, rg: u16, blocks: &[BlockName]) -> Result<bool, AllocError>
-        ensures { IfOk result (λ answer. Decides answer (IsMoved self.now.config (point_kept self.now) rg blocks.now)) }
-    {
-        let moved = self.moved_blocks(alloc, rg)?;
-        Ok(rg < self.config.groups && are_same(blocks, moved.as_slice()))
-    }
-}
-
-/// Whether two lists of blocks are the same.
-fn are_same(a: &[BlockName], b: &[BlockName]) -> bool
-    ensures { Decides result (a.now ≡ b.now) }
-{
-    a == b
 }
