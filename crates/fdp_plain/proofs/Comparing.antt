@@ -77,16 +77,16 @@ same_update a b c u v w =
 same_log : (a b c d e u v w x y : ℕ) → Decides (command.ghosts.eq (commands.Log a b c d e) (commands.Log u v w x y)) (commands.Log a b c d e ≡ commands.Log u v w x y)
 same_log a b c d e u v w x y = grind (arith, nat_tests)
 
-same_setfdp : (a : ℕ) (b : Bool) (c : ℕ) (u : ℕ) (v : Bool) (w : ℕ) → Decides (command.ghosts.eq (commands.SetFdp a b c) (commands.SetFdp u v w)) (commands.SetFdp a b c ≡ commands.SetFdp u v w)
-same_setfdp a b c u v w =
+same_set_fdp : (a : ℕ) (b : Bool) (c : ℕ) (u : ℕ) (v : Bool) (w : ℕ) → Decides (command.ghosts.eq (commands.SetFdp a b c) (commands.SetFdp u v w)) (commands.SetFdp a b c ≡ commands.SetFdp u v w)
+same_set_fdp a b c u v w =
     let each = both _ _ (Decides-eqb a u) (both _ _ (booleans_Decides b v) (Decides-eqb c w)) in
     (λ e. let fields = each.0 e in cc, λ e. each.1 (cc, (cc, cc)))
 
-same_getfdp : (a u : ℕ) → Decides (command.ghosts.eq (commands.GetFdp a) (commands.GetFdp u)) (commands.GetFdp a ≡ commands.GetFdp u)
-same_getfdp a u = grind (arith, nat_tests)
+same_get_fdp : (a u : ℕ) → Decides (command.ghosts.eq (commands.GetFdp a) (commands.GetFdp u)) (commands.GetFdp a ≡ commands.GetFdp u)
+same_get_fdp a u = grind (arith, nat_tests)
 
-same_setevents : (a : ℕ) (b : ℕ) (c : Bool) (d : List ℕ) (u : ℕ) (v : ℕ) (w : Bool) (x : List ℕ) → Decides (command.ghosts.eq (commands.SetEvents a b c d) (commands.SetEvents u v w x)) (commands.SetEvents a b c d ≡ commands.SetEvents u v w x)
-same_setevents a b c d u v w x =
+same_set_events : (a : ℕ) (b : ℕ) (c : Bool) (d : List ℕ) (u : ℕ) (v : ℕ) (w : Bool) (x : List ℕ) → Decides (command.ghosts.eq (commands.SetEvents a b c d) (commands.SetEvents u v w x)) (commands.SetEvents a b c d ≡ commands.SetEvents u v w x)
+same_set_events a b c d u v w x =
     let each = both _ _ (Decides-eqb a u) (both _ _ (Decides-eqb b v) (both _ _ (booleans_Decides c w) (bytes_eq-Decides d x))) in
     (λ e. let fields = each.0 e in cc, λ e. each.1 (cc, (cc, (cc, cc))))
 
@@ -110,9 +110,9 @@ same_command (commands.Delete a) (commands.Delete u) = same_delete a u
 same_command (commands.Status a b c) (commands.Status u v w) = same_status a b c u v w
 same_command (commands.Update a b c) (commands.Update u v w) = same_update a b c u v w
 same_command (commands.Log a b c d e) (commands.Log u v w x y) = same_log a b c d e u v w x y
-same_command (commands.SetFdp a b c) (commands.SetFdp u v w) = same_setfdp a b c u v w
-same_command (commands.GetFdp a) (commands.GetFdp u) = same_getfdp a u
-same_command (commands.SetEvents a b c d) (commands.SetEvents u v w x) = same_setevents a b c d u v w x
+same_command (commands.SetFdp a b c) (commands.SetFdp u v w) = same_set_fdp a b c u v w
+same_command (commands.GetFdp a) (commands.GetFdp u) = same_get_fdp a u
+same_command (commands.SetEvents a b c d) (commands.SetEvents u v w x) = same_set_events a b c d u v w x
 same_command (commands.Create a b c) (commands.Create u v w) = same_create a b c u v w
 same_command (commands.Other a b c d) (commands.Other u v w x) = same_other a b c d u v w x
 same_command _ _ = (λ e. absurd (false≢true e), λ e. cc)

@@ -36,5 +36,5 @@ mod update;
 mod write;
 mod writes;
 
-pub use rule::Rule;
+pub use rule::{Rule, falls_under_one_rule};
 pub use state::{Destination, Kept, KeptBlock, KeptGoing, KeptReference, KeptReports, Space};

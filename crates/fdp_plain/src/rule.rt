@@ -1,5 +1,8 @@
 ghost use Rattle.std.specs.Prelude.{◌≡◌};
+ghost use Rattle.fdp_base.specs.declared.entry.Entry.{Entry};
 ghost use Rattle.fdp_base.specs.Change.{is_media_error};
+ghost use Rattle.fdp_base.specs.PlainState.{PlainState};
+ghost use Rattle.fdp_plain.specs.declared.rule.Rule.{Rule};
 ghost use Rattle.fdp_plain.specs.Rules.{FallsUnder, IsRuleOfHost, IsRuleOfWrite, number_of};
 ghost use Rattle.fdp_plain.specs.State.{plain_of};
 
@@ -102,6 +105,11 @@ impl Kept {
         }
     }
 }
+
+/// Whatever stands, an entry falls under one rule only.
+pub fn falls_under_one_rule()
+    ensures { (s : PlainState) (entry : Entry) (a b : Rule) → FallsUnder s entry a → FallsUnder s entry b → a ≡ b }
+{}
 
 /// Whether a status is one of a media error.
 fn tells_media_error(status: Status) -> bool
