@@ -6,3 +6,4 @@ pub mod Sound
 pub mod Spaces
 pub mod State
 pub mod Judging
+pub mod Keeping

@@ -3,6 +3,7 @@
 
 mod bytes;
 mod change;
+mod closings;
 mod configurations;
 mod create;
 mod data;
@@ -15,11 +16,13 @@ mod going;
 mod handle_status;
 mod hosts;
 mod judge;
+mod kept_events;
 mod kinds;
 mod log;
 mod logs;
 mod look;
 mod passes;
+mod reallocations;
 mod refusal;
 mod replies;
 mod room;
