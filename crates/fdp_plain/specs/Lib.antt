@@ -7,3 +7,4 @@ pub mod Spaces
 pub mod State
 pub mod Judging
 pub mod Keeping
+pub mod Ready

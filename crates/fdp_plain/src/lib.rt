@@ -4,6 +4,7 @@
 mod bytes;
 mod change;
 mod closings;
+mod completion;
 mod configurations;
 mod create;
 mod data;
