@@ -8,3 +8,4 @@ pub mod State
 pub mod Judging
 pub mod Keeping
 pub mod Ready
+pub mod Fresh

@@ -13,6 +13,7 @@ mod ends;
 mod events;
 mod feature;
 mod forms;
+mod fresh;
 mod going;
 mod handle_status;
 mod hosts;
