@@ -1,6 +1,7 @@
 //! A plain drive: a slow program that computes what the definitions of the drive say, from the list of its entries.
 #![tactic(auto)]
 
+mod apply;
 mod bytes;
 mod change;
 mod closings;
