@@ -9,3 +9,4 @@ pub mod Judging
 pub mod Keeping
 pub mod Ready
 pub mod Fresh
+pub mod Making

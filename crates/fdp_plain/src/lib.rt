@@ -24,6 +24,7 @@ mod kinds;
 mod log;
 mod logs;
 mod look;
+mod make;
 mod passes;
 mod reallocations;
 mod refusal;
