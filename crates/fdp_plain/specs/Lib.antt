@@ -7,3 +7,7 @@ pub mod Sound
 pub mod Spaces
 pub mod State
 pub mod Judging
+pub mod Keeping
+pub mod Ready
+pub mod Fresh
+pub mod Making

@@ -1,8 +1,11 @@
 //! A plain drive: a slow program that computes what the definitions of the drive say, from the list of its entries.
 #![tactic(auto)]
 
+mod apply;
 mod bytes;
 mod change;
+mod closings;
+mod completed;
 mod completion;
 mod configurations;
 mod create;
@@ -13,15 +16,19 @@ mod entry;
 mod events;
 mod feature;
 mod forms;
+mod fresh;
 mod going;
 mod handle_status;
 mod hosts;
 mod judge;
+mod kept_events;
 mod kinds;
 mod log;
 mod logs;
 mod look;
+mod make;
 mod passes;
+mod reallocations;
 mod refusal;
 mod replies;
 mod room;
