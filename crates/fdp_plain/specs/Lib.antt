@@ -2,7 +2,12 @@ pub mod Counted
 pub mod Going
 pub mod Places
 pub mod Reports
+pub mod Rules
 pub mod Sound
 pub mod Spaces
 pub mod State
 pub mod Judging
+pub mod Keeping
+pub mod Ready
+pub mod Fresh
+pub mod Making

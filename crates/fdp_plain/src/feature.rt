@@ -87,7 +87,7 @@ fn clear_reports(reports: &mut [KeptReports])
     }
 }
 
-fn no_reports() -> KeptReports
+pub(crate) fn no_reports() -> KeptReports
     ensures { result ≡ no_reports }
 {
     KeptReports {

@@ -1,6 +1,7 @@
-ghost use Rattle.std.specs.Prelude.{◌≡◌, ℕ, ◌++◌, ◌∷◌, [], IfOk, OnOk, if◌then◌else◌, map};
+ghost use Rattle.std.specs.Prelude.{◌≡◌, ℕ, ◌++◌, ◌∷◌, [], Decides, IfOk, OnOk, if◌then◌else◌, map};
 ghost use Rattle.fdp_base.specs.declared.entry.BlockName.{BlockName};
 ghost use Rattle.fdp_base.specs.Sites.{blocks_at, blocks_in, moved_blocks, pass_in, site_of, stands_at};
+ghost use Rattle.fdp_base.specs.Step.{IsMoved};
 ghost use Rattle.fdp_plain.specs.State.{copy_of, point_kept};
 
 use crate::room::NAMESPACE_IDS;
@@ -20,6 +21,14 @@ impl Kept {
             self.push_blocks_at(copy.0, &mut blocks)?;
         }
         Ok(blocks)
+    }
+
+    /// Whether these are the blocks that the pass of a group moves.
+    pub fn is_moved(&self, alloc: Global, rg: u16, blocks: &[BlockName]) -> Result<bool, AllocError>
+        ensures { IfOk result (λ answer. Decides answer (IsMoved self.now.config (point_kept self.now) rg blocks.now)) }
+    {
+        let moved = self.moved_blocks(alloc, rg)?;
+        Ok(rg < self.config.groups && are_same(blocks, moved.as_slice()))
     }
 
     /// The pass under way in a group.
@@ -79,4 +88,11 @@ impl Kept {
             None => false,
         }
     }
+}
+
+/// Whether two lists of blocks are the same.
+fn are_same(a: &[BlockName], b: &[BlockName]) -> bool
+    ensures { Decides result (a.now ≡ b.now) }
+{
+    a == b
 }

@@ -4,7 +4,11 @@ use Rattle.std.proofs.lemmas.List.{take_all}
 use Rattle.fdp_base.specs.Effect.{References, effect_of, updated_by}
 use Rattle.fdp_base.specs.PlainState.{PlainState}
 use Rattle.fdp_plain.specs.State.{plain_of, reference_at}
+use Rattle.fdp_plain.proofs.Sounds.{referenced_sound}
 use Rattle.fdp_plain.proofs.state.Kept.update.Goals as goal
+
+pub update_one-requires : goal.update_one-requires
+update_one-requires c = referenced_sound c.args.self.now c.loop-pid.self c.loop-pid.invariant.rest c.loop-pid.invariant.rows c.requires
 
 pub returns-clause-state : goal.returns-clause-state
 unfolding effect_of
