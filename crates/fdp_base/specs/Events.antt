@@ -80,6 +80,10 @@ command_events c s queue (commands.SetEvents nsid handle enable types) = []
 command_events c s queue (commands.Create size given list) = []
 command_events c s queue (commands.Other admin opcode flags feature) = []
 
+-- how many blocks were moved, as an event tells it: its field has 16 bits, and stands still at their last value
+abbrev pub told_moved : ℕ → ℕ
+told_moved count = if nat_lt count 0x10000 then count else 0xffff
+
 -- the moved blocks of one handle: how many, and the first of them; namespace and location are valid
 abbrev pub reallocated : PlainState → ℕ → ℕ → List BlockName → List Event
 reallocated s rg ruh [] = []
@@ -89,7 +93,7 @@ reallocated s rg ruh (b ∷ bs) = record {
   pid = 0;
   position = s.position + 1;
   nsid = b.nsid;
-  moved = length (b ∷ bs);
+  moved = told_moved (length (b ∷ bs));
   lba = b.lba;
   rg = rg;
   ruh = ruh;

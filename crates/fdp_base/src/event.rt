@@ -25,7 +25,7 @@ pub struct Event {
     /// The position of the entry that made it.
     pub position: u64,
     pub nsid: u32,
-    /// Of 80h: how many blocks of the handle were moved.
+    /// Of 80h: how many blocks of the handle were moved; 65,535 where there were more.
     pub moved: u16,
     /// Of 80h: the address of the first of them.
     pub lba: u64,

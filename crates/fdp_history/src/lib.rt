@@ -1,0 +1,2 @@
+//! What holds after every legal history of a drive.
+#![tactic(auto)]

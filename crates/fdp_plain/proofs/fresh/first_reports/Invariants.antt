@@ -1,6 +1,0 @@
-use Rattle.std.proofs.Common.{◌≡◌, replicate}
-use Rattle.fdp_plain.specs.Reports.{no_reports}
-use Rattle.fdp_plain.proofs.fresh.first_reports.Given as goal
-
-abbrev pub invariant-loop : goal.invariant-loop
-invariant-loop l = l.rows.items ≡ replicate l.counter no_reports

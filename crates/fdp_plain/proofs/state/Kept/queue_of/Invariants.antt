@@ -1,7 +1,0 @@
-use Rattle.fdp_base.specs.Change.{holds_ticket}
-use Rattle.fdp_plain.specs.State.{plain_of}
-use Rattle.fdp_plain.proofs.Walks.{IsSeekingQueue}
-use Rattle.fdp_plain.proofs.state.Kept.queue_of.Given as goal
-
-abbrev pub invariant-loop-before : goal.invariant-loop-before
-invariant-loop-before l = IsSeekingQueue (holds_ticket (plain_of l.self) l.ticket) l.self.config.queues l.before

@@ -1,0 +1,2 @@
+//! The namespaces of a drive, and where a placement identifier leads.
+#![tactic(auto)]

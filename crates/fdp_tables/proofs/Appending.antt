@@ -1,0 +1,103 @@
+-- Bytes that are appended piece by piece.
+use Rattle.std.proofs.Common.{◌≡◌, ℕ, ◌+◌, ◌<◌, ◌≤◌, List, ◌∷◌, ◌++◌, length, drop, get_or, ap, sym, ◌∙◌, append_assoc, add-one, arith, drop-cons, ◌-◌}
+use Rattle.std.specs.Prelude.{flat_map}
+use Rattle.std.specs.List.{enumerate_from}
+use Rattle.std.proofs.lemmas.List.{append-nil, drop_all}
+use Rattle.fdp_base.specs.Numbers.{numbers_below, numbers_from}
+use Rattle.fdp_tables.proofs.Counting.{rest_end, rest_next, rest_of}
+
+-- what was appended, and what is left, come to the whole
+pub record IsAppending (piece : ℕ → List ℕ) (n i : ℕ) (start out : List ℕ) : Type 0 where
+  pub value : out ++ flat_map piece (rest_of i n) ≡ start ++ flat_map piece (numbers_below n)
+
+pub appending_next : (piece : ℕ → List ℕ) (n i : ℕ) (start out : List ℕ) → i < n → IsAppending piece n i start out → IsAppending piece n (i + 1) start (out ++ piece i)
+appending_next piece n i start out below h = record {
+  value = append_assoc out (piece i) (flat_map piece (rest_of (i + 1) n))
+      ∙ ap (λ xs. out ++ flat_map piece xs) (sym (rest_next i n below)) ∙ h.value;
+}
+
+pub appending_end : (piece : ℕ → List ℕ) (n i : ℕ) (start out : List ℕ) → n ≤ i → IsAppending piece n i start out → out ≡ start ++ flat_map piece (numbers_below n)
+appending_end piece n i start out past h =
+    sym (append-nil out) ∙ ap (λ xs. out ++ flat_map piece xs) (sym (rest_end i n past)) ∙ h.value
+
+-- the same, for each element of a list
+pub record IsAppendingOver {X : Type 0} (piece : X → List ℕ) (xs : List X) (i : ℕ) (start out : List ℕ) : Type 0 where
+  pub value : out ++ flat_map piece (drop i xs) ≡ start ++ flat_map piece xs
+
+pub appending_over_next : {X : Type 0} (piece : X → List ℕ) (xs : List X) (i : ℕ) (start out more : List ℕ) (d : X) → i < length xs → more ≡ out ++ piece (get_or xs i d) → IsAppendingOver piece xs i start out → IsAppendingOver piece xs (i + 1) start more
+appending_over_next piece xs i start out more d below e h =
+    let x = get_or xs i d in
+    let rest : drop i xs ≡ x ∷ drop (i + 1) xs = rw (add-one) (drop-cons xs i d below) in
+    record {
+      value = ap (λ ys. ys ++ flat_map piece (drop (i + 1) xs)) e
+          ∙ append_assoc out (piece x) (flat_map piece (drop (i + 1) xs))
+          ∙ ap (λ ys. out ++ flat_map piece ys) (sym rest) ∙ h.value;
+    }
+
+pub appending_over_end : {X : Type 0} (piece : X → List ℕ) (xs : List X) (i : ℕ) (start out : List ℕ) → length xs ≤ i → IsAppendingOver piece xs i start out → out ≡ start ++ flat_map piece xs
+appending_over_end piece xs i start out past h =
+    sym (append-nil out) ∙ ap (λ ys. out ++ flat_map piece ys) (sym (drop_all i xs past)) ∙ h.value
+
+-- pieces behind a start
+pub joined_2 : (s a b : List ℕ) → s ++ a ++ b ≡ s ++ (a ++ b)
+joined_2 s a b = append_assoc s a b
+
+pub joined_3 : (s a b d : List ℕ) → s ++ a ++ b ++ d ≡ s ++ (a ++ b ++ d)
+joined_3 s a b d = ap (λ x. x ++ d) (joined_2 s a b) ∙ append_assoc s (a ++ b) d
+
+pub joined_4 : (s a b d e : List ℕ) → s ++ a ++ b ++ d ++ e ≡ s ++ (a ++ b ++ d ++ e)
+joined_4 s a b d e = ap (λ x. x ++ e) (joined_3 s a b d) ∙ append_assoc s (a ++ b ++ d) e
+
+pub joined_7 : (s a b d e f g h : List ℕ) → s ++ a ++ b ++ d ++ e ++ f ++ g ++ h ≡ s ++ (a ++ b ++ d ++ e ++ f ++ g ++ h)
+joined_7 s a b d e f g h =
+    ap (λ x. x ++ f ++ g ++ h) (joined_4 s a b d e)
+    ∙ ap (λ x. x ++ g ++ h) (append_assoc s (a ++ b ++ d ++ e) f)
+    ∙ ap (λ x. x ++ h) (append_assoc s (a ++ b ++ d ++ e ++ f) g)
+    ∙ append_assoc s (a ++ b ++ d ++ e ++ f ++ g) h
+
+-- the same, for each element of a list with its place
+pub record IsAppendingPlaces (piece : (ℕ × ℕ) → List ℕ) (xs : List ℕ) (i : ℕ) (start out : List ℕ) : Type 0 where
+  pub value : out ++ flat_map piece (enumerate_from i (drop i xs)) ≡ start ++ flat_map piece (enumerate_from 0 xs)
+
+pub appending_places_next : (piece : (ℕ × ℕ) → List ℕ) (xs : List ℕ) (i : ℕ) (start out more : List ℕ) (d : ℕ) → i < length xs → more ≡ out ++ piece (i, get_or xs i d) → IsAppendingPlaces piece xs i start out → IsAppendingPlaces piece xs (i + 1) start more
+appending_places_next piece xs i start out more d below e h =
+    let x = get_or xs i d in
+    let rest : drop i xs ≡ x ∷ drop (i + 1) xs = rw (add-one) (drop-cons xs i d below) in
+    let behind = flat_map piece (enumerate_from (i + 1) (drop (i + 1) xs)) in
+    record {
+      value = ap (λ ys. ys ++ behind) e
+          ∙ append_assoc out (piece (i, x)) behind
+          ∙ ap (λ ys. out ++ flat_map piece (enumerate_from i ys)) (sym rest) ∙ h.value;
+    }
+
+pub appending_places_end : (piece : (ℕ × ℕ) → List ℕ) (xs : List ℕ) (i : ℕ) (start out : List ℕ) → length xs ≤ i → IsAppendingPlaces piece xs i start out → out ≡ start ++ flat_map piece (enumerate_from 0 xs)
+appending_places_end piece xs i start out past h =
+    sym (append-nil out) ∙ ap (λ ys. out ++ flat_map piece (enumerate_from i ys)) (sym (drop_all i xs past)) ∙ h.value
+
+pub joined_5 : (s a b d e f : List ℕ) → s ++ a ++ b ++ d ++ e ++ f ≡ s ++ (a ++ b ++ d ++ e ++ f)
+joined_5 s a b d e f = ap (λ x. x ++ f) (joined_4 s a b d e) ∙ append_assoc s (a ++ b ++ d ++ e) f
+
+-- the same, for numbers from one on
+pub record IsAppendingFrom (piece : ℕ → List ℕ) (first n i : ℕ) (start out : List ℕ) : Type 0 where
+  pub value : out ++ flat_map piece (rest_of i n) ≡ start ++ flat_map piece (rest_of first n)
+
+pub appending_from_next : (piece : ℕ → List ℕ) (first n i : ℕ) (start out more : List ℕ) → i < n → more ≡ out ++ piece i → IsAppendingFrom piece first n i start out → IsAppendingFrom piece first n (i + 1) start more
+appending_from_next piece first n i start out more below e h = record {
+  value = ap (λ ys. ys ++ flat_map piece (rest_of (i + 1) n)) e
+      ∙ append_assoc out (piece i) (flat_map piece (rest_of (i + 1) n))
+      ∙ ap (λ xs. out ++ flat_map piece xs) (sym (rest_next i n below)) ∙ h.value;
+}
+
+pub appending_from_end : (piece : ℕ → List ℕ) (first count i : ℕ) (start out : List ℕ) → first + count ≤ i → IsAppendingFrom piece first (first + count) i start out → out ≡ start ++ flat_map piece (numbers_from first count)
+appending_from_end piece first count i start out past h =
+    let all : first + count - first ≡ count = omega arith in
+    sym (append-nil out) ∙ ap (λ xs. out ++ flat_map piece xs) (sym (rest_end i (first + count) past)) ∙ h.value
+    ∙ ap (λ n. start ++ flat_map piece (numbers_from first n)) all
+
+pub joined_11 : (s a b d e f g h i j k l : List ℕ) → s ++ a ++ b ++ d ++ e ++ f ++ g ++ h ++ i ++ j ++ k ++ l ≡ s ++ (a ++ b ++ d ++ e ++ f ++ g ++ h ++ i ++ j ++ k ++ l)
+joined_11 s a b d e f g h i j k l =
+    ap (λ x. x ++ i ++ j ++ k ++ l) (joined_7 s a b d e f g h)
+    ∙ ap (λ x. x ++ j ++ k ++ l) (append_assoc s (a ++ b ++ d ++ e ++ f ++ g ++ h) i)
+    ∙ ap (λ x. x ++ k ++ l) (append_assoc s (a ++ b ++ d ++ e ++ f ++ g ++ h ++ i) j)
+    ∙ ap (λ x. x ++ l) (append_assoc s (a ++ b ++ d ++ e ++ f ++ g ++ h ++ i ++ j) k)
+    ∙ append_assoc s (a ++ b ++ d ++ e ++ f ++ g ++ h ++ i ++ j ++ k) l

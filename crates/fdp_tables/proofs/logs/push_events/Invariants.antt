@@ -1,0 +1,6 @@
+use Rattle.fdp_base.specs.LogPages.{event_bytes}
+use Rattle.fdp_tables.proofs.Appending.{IsAppendingOver}
+use Rattle.fdp_tables.proofs.logs.push_events.Given as goal
+
+abbrev pub invariant-loop-event : goal.invariant-loop-event
+invariant-loop-event l = IsAppendingOver event_bytes l.events l.event-index l.initial.log.items l.log.items
