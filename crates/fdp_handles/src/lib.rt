@@ -1,2 +1,9 @@
-//! The reclaim unit handles: which unit each references in each group, and how many blocks may still be written to it.
+//! What each reclaim unit handle references, and how much of it may still be written.
 #![tactic(auto)]
+
+mod handles;
+mod reference;
+#[cfg(test)]
+mod tests;
+
+pub use handles::Handles;

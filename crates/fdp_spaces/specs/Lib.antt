@@ -1,0 +1,2 @@
+pub mod SpaceTable
+pub mod Resolving
