@@ -1,7 +1,4 @@
-pub mod Logged
-pub mod Replies
-pub mod Pages
 pub mod Seen
-pub mod Media
+pub mod Steps
+pub mod Answers
 pub mod Sound
-pub mod Idle

@@ -1,0 +1,51 @@
+-- What a step of a group adds to its history.
+use Rattle.std.specs.Prelude.{◌≡◌, ℕ, List, [], ◌∷◌, ◌++◌, length, Some}
+use Rattle.fdp_base.specs.declared.command.Command.{Command}
+use Rattle.fdp_base.specs.declared.entry.Entry.{Entry}
+use Rattle.fdp_base.specs.declared.entry.Entry.TheVariants as entries
+use Rattle.fdp_base.specs.Change.{is_media_error}
+use Rattle.fdp_base.specs.CommandKinds.{IsWellFormed}
+use Rattle.fdp_base.specs.PlainState.{Going, PlainState}
+use Rattle.fdp_base.specs.Step.{IsQueue}
+use Rattle.fdp_flash.specs.FlashState.{FlashState}
+use Rattle.fdp_book.specs.declared.ticket.Done.{Done}
+use Rattle.fdp_book.specs.Book.{IsLonger, state_in}
+use Rattle.fdp_book.specs.Room.{RoomSeen, room_for}
+use Rattle.fdp_book.specs.Steps.{IsServed}
+use Rattle.fdp_book.specs.UsedOnce.{IsLegalOnce}
+use Rattle.fdp_core.specs.Seen.{HoldsHistory, Matches, Seen}
+
+-- no write is going in a queue with this number
+abbrev pub IsFree : PlainState → ℕ → ℕ → Type 0
+IsFree s queue number = (g : Going) → s.going queue ≡ Some g → g.number ≡ number → ⊥
+
+-- a command may be begun in a queue under a number, with this room
+pub record MayBegin {F : Type 0} (group : Seen F) (queue number : ℕ) (command : Command) (room : RoomSeen) : Type 0 where
+  pub queue_is : IsQueue group.book.config queue
+  pub served : IsServed command
+  pub formed : IsWellFormed group.book.config command
+  pub free : IsFree (state_in group.book) queue number
+  pub room_is : room ≡ room_for command group.book.config
+
+-- a step adds these entries: the history stays legal, and the flash matches it
+pub record Adds {F : Type 0} (state : F → FlashState) (old new : Seen F) (es : List Entry) : Type 0 where
+  pub book : IsLonger old.book new.book es
+  pub legal : IsLegalOnce (state new.flash).told new.book.config new.book.entries
+  pub flash_is : Matches (state old.flash) (state new.flash) es new.failed
+  pub cells : HoldsHistory new.book.config (state new.flash) new.book.entries new.failed
+
+-- steps that added these entries, or no step
+pub record Grows {F : Type 0} (state : F → FlashState) (old new : Seen F) (es : List Entry) : Type 0 where
+  pub config_is : new.book.config ≡ old.book.config
+  pub entries_are : new.book.entries ≡ old.book.entries ++ es
+  pub legal : IsLegalOnce (state old.flash).told old.book.config old.book.entries → IsLegalOnce (state new.flash).told new.book.config new.book.entries
+  pub flash_is : Matches (state old.flash) (state new.flash) es new.failed
+  pub cells : HoldsHistory old.book.config (state old.flash) old.book.entries old.failed → HoldsHistory new.book.config (state new.flash) new.book.entries new.failed
+
+-- A step completes a command: it adds its Host entry, behind other entries, with the flash's moment. The group has failed
+-- exactly where the reply tells of a media error.
+pub record Completes {F : Type 0} (state : F → FlashState) (old new : Seen F) (before : List Entry) (queue number : ℕ) (command : Command) (done : Done) : Type 0 where
+  pub step : Adds state old new (before ++ entries.Host queue number command done.reply done.moment ∷ [])
+  pub position_is : done.position ≡ length new.book.entries
+  pub moment_is : done.moment ≡ (state new.flash).moment
+  pub failed_is : new.failed ≡ is_media_error done.reply.status
