@@ -3,7 +3,7 @@ use crate::sequence::{BlockNames, Bytes};
 use crate::status::Status;
 
 /// A page of a unit.
-#[derive(Clone, Copy, Debug, PartialEq, Eq)]
+#[derive(Clone, Copy, Debug, Default, PartialEq, Eq)]
 pub struct Spot {
     pub unit: u32,
     /// The page within its unit.

@@ -15,11 +15,11 @@ use Rattle.fdp_base.specs.Step.{MaySucceed, exceeds_budget, goes_to}
 use Rattle.fdp_base.specs.Target.{Target}
 use Rattle.fdp_base.specs.Totals.{blocks_written}
 use Rattle.fdp_flash.specs.FlashState.{FlashState}
-use Rattle.fdp_book.specs.declared.ticket.Done.{Done}
-use Rattle.fdp_book.specs.declared.ticket.Ticket.{Ticket}
-use Rattle.fdp_book.specs.Book.{BookSeen, point_in, state_in}
-use Rattle.fdp_book.specs.Tickets.{IsTicketOf}
-use Rattle.fdp_book.specs.UsedOnce.{WantsUnit, is_used}
+use Rattle.fdp_core.specs.declared.ticket.Done.{Done}
+use Rattle.fdp_core.specs.declared.ticket.Ticket.{Ticket}
+use Rattle.fdp_core.specs.Book.{BookSeen, point_in, state_in}
+use Rattle.fdp_core.specs.Tickets.{IsTicketOf}
+use Rattle.fdp_core.specs.UsedOnce.{WantsUnit, is_used}
 use Rattle.fdp_core.specs.declared.answer.Begun.{Begun}
 use Rattle.fdp_core.specs.declared.answer.Begun.TheVariants as begun
 use Rattle.fdp_core.specs.declared.answer.Placed.{Placed}

@@ -1,4 +1,17 @@
+pub mod Logged
+pub mod Extent
+pub mod Destinations
+pub mod Room
+pub mod Pages
+pub mod UsedOnce
+pub mod Book
+pub mod Tickets
+pub mod BookSteps
+pub mod Reading
+pub mod Held
 pub mod Seen
+pub mod Media
+pub mod ReadSteps
 pub mod Steps
 pub mod Answers
 pub mod Sound

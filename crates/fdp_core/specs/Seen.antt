@@ -8,8 +8,8 @@ use Rattle.fdp_base.specs.Change.{is_media_error}
 use Rattle.fdp_base.specs.Counts.{counted}
 use Rattle.fdp_base.specs.Totals.{media_blocks}
 use Rattle.fdp_flash.specs.FlashState.{FlashState, Faulted}
-use Rattle.fdp_book.specs.Book.{BookSeen, first_book}
-use Rattle.fdp_book.specs.Pages.{cells_of}
+use Rattle.fdp_core.specs.Book.{BookSeen, first_book}
+use Rattle.fdp_core.specs.Pages.{cells_of}
 
 pub record Seen (F : Type 0) : Type 0 where
   -- the history, and the steps for which there is room

@@ -2,8 +2,8 @@
 use Rattle.std.specs.Prelude.{◌≡◌, ℕ, Bool, false, List, [], length}
 use Rattle.fdp_base.specs.Placement.{geometry_of}
 use Rattle.fdp_flash.specs.FlashState.{FlashState}
-use Rattle.fdp_book.specs.Book.{BookSeen, state_in}
-use Rattle.fdp_book.specs.UsedOnce.{IsLegalOnce}
+use Rattle.fdp_core.specs.Book.{BookSeen, state_in}
+use Rattle.fdp_core.specs.UsedOnce.{IsLegalOnce}
 use Rattle.fdp_core.specs.Seen.{HoldsHistory}
 
 -- the flash is cut as configured, the history is legal, and while no call failed the flash holds it and it tells of no media

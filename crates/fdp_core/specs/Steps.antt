@@ -8,11 +8,11 @@ use Rattle.fdp_base.specs.CommandKinds.{IsWellFormed}
 use Rattle.fdp_base.specs.PlainState.{Going, PlainState}
 use Rattle.fdp_base.specs.Step.{IsQueue}
 use Rattle.fdp_flash.specs.FlashState.{FlashState}
-use Rattle.fdp_book.specs.declared.ticket.Done.{Done}
-use Rattle.fdp_book.specs.Book.{IsLonger, state_in}
-use Rattle.fdp_book.specs.Room.{RoomSeen, room_for}
-use Rattle.fdp_book.specs.Steps.{IsServed}
-use Rattle.fdp_book.specs.UsedOnce.{IsLegalOnce}
+use Rattle.fdp_core.specs.declared.ticket.Done.{Done}
+use Rattle.fdp_core.specs.Book.{IsLonger, state_in}
+use Rattle.fdp_core.specs.Room.{RoomSeen, room_for}
+use Rattle.fdp_core.specs.BookSteps.{IsServed}
+use Rattle.fdp_core.specs.UsedOnce.{IsLegalOnce}
 use Rattle.fdp_core.specs.Seen.{HoldsHistory, Matches, Seen}
 
 -- no write is going in a queue with this number

@@ -1,9 +1,0 @@
-pub mod Logged
-pub mod Extent
-pub mod Room
-pub mod Pages
-pub mod UsedOnce
-pub mod Book
-pub mod Tickets
-pub mod Steps
-pub mod Reading

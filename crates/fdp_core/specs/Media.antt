@@ -1,0 +1,26 @@
+-- What calls of the flash leave of it.
+use Rattle.std.specs.Prelude.{◌≡◌, ℕ, IsTrue, List, Some, slice_get, slice_set}
+use Rattle.fdp_base.specs.declared.entry.Spot.{Spot}
+use Rattle.fdp_flash.specs.declared.cell.Cell.TheVariants.{Whole}
+use Rattle.fdp_flash.specs.Layout.{page_number}
+use Rattle.fdp_base.specs.Counts.{counted}
+use Rattle.fdp_flash.specs.declared.cell.Cell.{Cell}
+use Rattle.fdp_flash.specs.FlashState.{FlashState}
+use Rattle.fdp_core.specs.Seen.{IsKept}
+
+-- calls that read, or no call
+pub record IsReadFrom (old new : FlashState) : Type 0 where
+  pub kept : IsKept old new
+  pub programs : new.programs ≡ old.programs
+  pub cells : IsTrue old.told → new.cells ≡ old.cells
+
+-- a call that programmed this page of data
+pub record IsProgrammedTo (old new : FlashState) (number : ℕ) (page : Cell) : Type 0 where
+  pub kept : IsKept old new
+  pub programs : new.programs ≡ counted old.programs
+  pub faults : new.faults ≡ old.faults
+  pub cells : IsTrue old.told → new.cells ≡ slice_set old.cells number page
+
+-- some page that is whole with this spare stands there
+abbrev pub IsWholeAt : FlashState → Spot → List ℕ → Type 0
+IsWholeAt flash at spare = (bytes : List ℕ) × (slice_get flash.cells (page_number flash.geometry at) ≡ Some (Whole spare bytes))

@@ -1,0 +1,80 @@
+ghost use Rattle.std.specs.Prelude.{◌≡◌, ◌<◌, [], true};
+ghost use Rattle.fdp_base.specs.declared.status.TheConstants.Status as statuses;
+ghost use Rattle.fdp_base.specs.Answer.{bare};
+ghost use Rattle.fdp_base.specs.PlainState.{Going};
+ghost use Rattle.fdp_base.specs.Step.{MaySucceed};
+ghost use Rattle.fdp_core.specs.Book.{point_in, state_in};
+ghost use Rattle.fdp_core.specs.BookSteps.{Completes, IsReady, IsVerdict};
+ghost use Rattle.fdp_core.specs.Tickets.{IsTicketOf};
+
+use super::Book;
+use crate::extent::extent_of;
+use crate::flight::Flight;
+use crate::ticket::{Done, Ticket};
+use fdp_base::{Spot, Status};
+use fdp_map::{Map, Mapped};
+
+impl Book {
+    /// Whether a write whose pages are all placed may succeed, or the status with which it ends. It looks at each of its blocks.
+    pub fn verdict(&self, ticket: &Ticket) -> Result<(), Status>
+        requires { IsReady self.now ticket.now }
+        ensures { (g : Going) → IsTicketOf (state_in self.now) ticket.now g → IsVerdict self.now g result }
+    {
+        let flight = self.flight(ticket);
+        let extent = flight.extent();
+        if !self.is_there(flight, extent) {
+            Err(Status::INVALID_NAMESPACE)
+        } else if self.is_over_budget(flight.rg, extent) {
+            Err(Status::CAPACITY_EXCEEDED)
+        } else {
+            Ok(())
+        }
+    }
+
+    /// A write succeeds: its blocks stand at its pages. It puts each of them in the map.
+    pub fn commit(&mut self, ticket: Ticket, moment: u64) -> Done
+        requires may { (g : Going) → IsTicketOf (state_in self.old) ticket g → MaySucceed self.old.config (point_in self.old) g }
+        requires ready { IsReady self.old ticket }
+        requires spare { 0 < self.old.spare }
+        ensures { (g : Going) → IsTicketOf (state_in self.old) ticket g → Completes self.old self.new [] ticket.queue g.number g.command (bare statuses.SUCCESS true) moment result }
+    {
+        let queue = ticket.give_up();
+        let flight = self.flights[usize::from(queue)].take().unwrap();
+        let Flight {
+            number,
+            ticket: position,
+            birth: _,
+            rg,
+            ruh,
+            pid_valid: _,
+            roomiest: _,
+            room,
+            pages,
+        } = flight;
+        let (command, replies) = room.end(Status::SUCCESS, true);
+        let extent = extent_of(&command).unwrap();
+        let first = Mapped {
+            spot: Spot { unit: 0, page: 0 },
+            ticket: position,
+            index: 0,
+            generation: self.setting.generation,
+            rg,
+            ruh,
+        };
+        put_pages(&mut self.map, extent.nsid, extent.slba, first, pages.as_slice());
+        self.sums.host_blocks += u64::from(extent.count);
+        self.push_host(queue, number, command, replies, moment)
+    }
+}
+
+/// Blocks stand at these pages, from an address on. `first` says what they have in common.
+fn put_pages(map: &mut Map, nsid: u32, slba: u64, first: Mapped, pages: &[Spot]) {
+    for (index, spot) in pages.iter().enumerate() {
+        let mapped = Mapped {
+            spot: *spot,
+            index: index as u32,
+            ..first
+        };
+        map.put(nsid, slba + index as u64, mapped);
+    }
+}

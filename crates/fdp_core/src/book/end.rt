@@ -1,0 +1,80 @@
+ghost use Rattle.std.specs.Prelude.{◌≡◌, ◌<◌, [], ◌∷◌, ◌++◌, false, length};
+ghost use Rattle.fdp_base.specs.declared.entry.Entry.TheVariants as entries;
+ghost use Rattle.fdp_base.specs.Answer.{bare};
+ghost use Rattle.fdp_base.specs.PlainState.{Going};
+ghost use Rattle.fdp_core.specs.Book.{state_in};
+ghost use Rattle.fdp_core.specs.BookSteps.{Completes, IsFlying};
+ghost use Rattle.fdp_core.specs.Tickets.{IsTicketOf};
+
+use super::Book;
+use crate::room::Replies;
+use crate::ticket::{Done, Ticket};
+use fdp_base::{Command, Entry, Reply, Status};
+
+impl Book {
+    /// A going write ends with this status, and changes nothing.
+    pub fn end(&mut self, ticket: Ticket, status: Status, moment: u64) -> Done
+        requires going { IsFlying self.old ticket }
+        requires spare { 0 < self.old.spare }
+        ensures { (g : Going) → IsTicketOf (state_in self.old) ticket g → Completes self.old self.new [] ticket.queue g.number g.command (bare status false) moment result }
+    {
+        let queue = ticket.give_up();
+        let flight = self.flights[usize::from(queue)].take().unwrap();
+        let (command, replies) = flight.room.end(status, false);
+        self.push_host(queue, flight.number, command, replies, moment)
+    }
+
+    /// A going write ends with this status and changes nothing, in the step in which its handle is shut.
+    pub fn end_shut(&mut self, ticket: Ticket, status: Status, moment: u64) -> Done
+        requires going { IsFlying self.old ticket }
+        requires spare { 0 < self.old.spare }
+        ensures { (g : Going) → IsTicketOf (state_in self.old) ticket g → Completes self.old self.new (entries.Shut g.rg g.ruh ∷ []) ticket.queue g.number g.command (bare status false) moment result }
+    {
+        let queue = ticket.give_up();
+        let flight = self.flights[usize::from(queue)].take().unwrap();
+        let (rg, ruh) = (flight.rg, flight.ruh);
+        let (command, replies) = flight.room.end(status, false);
+        self.handles.shut(rg, ruh);
+        let Replies { history, answer } = replies;
+        let host = Entry::Host {
+            queue,
+            number: flight.number,
+            command,
+            reply: history,
+            moment,
+        };
+        self.log.push_both(Entry::Shut { rg, ruh }, host);
+        self.done(moment, answer)
+    }
+
+    /// The Host entry of a command, as a step of its own.
+    pub(super) fn push_host(
+        &mut self,
+        queue: u8,
+        number: u16,
+        command: Command,
+        replies: Replies,
+        moment: u64,
+    ) -> Done {
+        let Replies { history, answer } = replies;
+        self.log.push(Entry::Host {
+            queue,
+            number,
+            command,
+            reply: history,
+            moment,
+        });
+        self.done(moment, answer)
+    }
+
+    /// The answer to the command whose Host entry is the last.
+    pub(super) fn done(&self, moment: u64, reply: Reply) -> Done
+        ensures { result ≡ record { position = length self.now.entries; moment = moment; reply = reply } }
+    {
+        Done {
+            position: self.log.entries().len() as u64,
+            moment,
+            reply,
+        }
+    }
+}

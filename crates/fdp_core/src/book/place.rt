@@ -1,0 +1,129 @@
+ghost use Rattle.std.specs.Prelude.{◌≡◌, ◌<◌, Some};
+ghost use Rattle.fdp_base.specs.CommandKinds.{Write, write_of};
+ghost use Rattle.fdp_base.specs.PlainState.{Going};
+ghost use Rattle.fdp_core.specs.Book.{state_in};
+ghost use Rattle.fdp_core.specs.BookSteps.{IsWaiting, Places};
+ghost use Rattle.fdp_core.specs.Tickets.{ComesTo, IsNextSpot, IsTicketOf};
+
+use super::Book;
+use crate::extent::Extent;
+use crate::flight::Flight;
+use crate::next_page::NextPage;
+use crate::ticket::Ticket;
+use fdp_base::{DataSpare, Entry, Payload, Spot};
+
+impl Book {
+    /// What a going write comes to next: its end, or the place and the spare bytes of its next page. It takes a constant time.
+    pub fn next_page(&self, ticket: &Ticket) -> NextPage
+        requires { IsWaiting self.now ticket.now }
+        ensures { (g : Going) → IsTicketOf (state_in self.now) ticket.now g → ComesTo self.now ticket.now g result }
+    {
+        let flight = self.flight(ticket);
+        let extent = flight.extent();
+        if !self.is_there(flight, extent) {
+            return NextPage::Gone;
+        }
+        match self.next_spot(flight.rg, flight.ruh) {
+            Some(spot) => NextPage::At {
+                spot,
+                index: flight.pages.len() as u32,
+                spare: self.next_spare(flight, extent).encode(),
+            },
+            None => NextPage::WantsUnit,
+        }
+    }
+
+    /// What the write of a ticket carries.
+    pub fn payload(&self, ticket: &Ticket) -> &Payload
+        requires { IsWaiting self.now ticket.now }
+        ensures { (g : Going) (w : Write) → IsTicketOf (state_in self.now) ticket.now g → write_of g.command ≡ Some w → result.now ≡ w.payload }
+    {
+        self.flight(ticket).payload()
+    }
+
+    /// The next page of a going write was programmed here. Says whether that was its last.
+    pub fn place(&mut self, ticket: &Ticket, spot: Spot) -> bool
+        requires waiting { IsWaiting self.old ticket.now }
+        requires next { (g : Going) → IsTicketOf (state_in self.old) ticket.now g → IsNextSpot self.old ticket.now g spot }
+        requires spare { 0 < self.old.spare }
+        ensures { (g : Going) → IsTicketOf (state_in self.old) ticket.now g → Places self.old self.new ticket.now g spot result }
+    {
+        let flight = self.flight(ticket);
+        let (rg, ruh) = (flight.rg, flight.ruh);
+        let index = flight.pages.len() as u32;
+        if self.handles.unit(rg, ruh).is_none() {
+            self.used[usize::from(rg)] += 1;
+        }
+        self.handles.place(rg, ruh, spot.unit);
+        self.sums.media_blocks += 1;
+        self.log.push(Entry::Placed {
+            ticket: ticket.position,
+            index,
+            unit: spot.unit,
+            page: spot.page,
+        });
+        push_page(&mut self.flights[usize::from(ticket.queue)], spot)
+    }
+
+    /// The write of a ticket.
+    pub(super) fn flight(&self, ticket: &Ticket) -> &Flight {
+        match &self.flights[usize::from(ticket.queue)] {
+            Some(flight) => flight,
+            None => unreachable!(),
+        }
+    }
+
+    /// Whether the namespace of a write is there, and is the one that it was when the write was started.
+    pub(super) fn is_there(&self, flight: &Flight, extent: Extent) -> bool {
+        match self.spaces.birth(extent.nsid) {
+            Some(birth) => birth == flight.birth,
+            None => false,
+        }
+    }
+
+    /// Where the next page of a handle goes, unless it wants a unit and each of its group is used.
+    fn next_spot(&self, rg: u16, ruh: u8) -> Option<Spot> {
+        match self.handles.next_page(rg, ruh) {
+            Some(spot) => Some(spot),
+            None => self.unused_spot(rg),
+        }
+    }
+
+    /// The start of the first unit of a group that was not used.
+    fn unused_spot(&self, rg: u16) -> Option<Spot> {
+        let used = self.used[usize::from(rg)];
+        if used < self.config.units {
+            Some(Spot {
+                unit: u32::from(rg) * self.config.units + used,
+                page: 0,
+            })
+        } else {
+            None
+        }
+    }
+
+    /// What the spare bytes of the next page of a write say.
+    fn next_spare(&self, flight: &Flight, extent: Extent) -> DataSpare {
+        let index = flight.pages.len();
+        DataSpare {
+            ruh: flight.ruh,
+            rg: flight.rg,
+            generation: self.setting.generation,
+            ticket: flight.ticket,
+            nsid: extent.nsid,
+            index: index as u16,
+            lba: extent.slba + index as u64,
+        }
+    }
+}
+
+/// A page more of a flight is placed. Says whether that was its last.
+fn push_page(flight: &mut Option<Flight>, spot: Spot) -> bool {
+    match flight {
+        Some(flight) => {
+            flight.pages.push(spot);
+            flight.pages.len() == flight.extent().count as usize
+        }
+        None => unreachable!(),
+    }
+}

@@ -1,0 +1,19 @@
+//! The drive on one thread: a group of reclaim units that serves commands step by step, and keeps the history.
+#![tactic(auto)]
+
+mod answer;
+mod book;
+mod destination;
+mod extent;
+mod flight;
+mod group;
+mod log;
+mod media;
+mod next_page;
+mod room;
+mod ticket;
+
+pub use answer::{Begun, Placed};
+pub use group::Group;
+pub use room::Room;
+pub use ticket::{Done, Ticket};
