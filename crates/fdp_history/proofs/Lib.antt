@@ -1,0 +1,5 @@
+pub mod Tables
+pub mod Checks
+pub mod Changed
+pub mod Parts
+pub mod References
