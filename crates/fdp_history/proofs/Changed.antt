@@ -25,11 +25,10 @@ namespace-as c s t nsid n same later h = record {
 }
 
 -- the blocks of a write lie in a state's namespace
-HasRange : PlainState → Command → Type 0
+abbrev HasRange : PlainState → Command → Type 0
 HasRange s command = IfSome (write_of command) (λ (w : Write). w.slba + w.count ≤ size_of s w.nsid)
 
 range-as : (s t : PlainState) (command : Command) → t.namespaces (nsid_of command) ≡ s.namespaces (nsid_of command) → HasRange s command → HasRange t command
-unfolding HasRange
 range-as s t (commands.Write nsid slba count dtype dspec payload) same range = subst (λ (o : Option Namespace). slba + count ≤ option_map_or (λ x. x.size) o 0) (sym same) range
 range-as s t (commands.Read nsid slba count) same range = tt
 range-as s t (commands.Zero nsid slba count) same range = tt
@@ -46,11 +45,10 @@ range-as s t (commands.Create size given list) same range = tt
 range-as s t (commands.Other admin opcode flags feature) same range = tt
 
 -- where the namespace of a going write is still there, it and the configuration are those of before
-pub IsSameSpace : DriveConfig → PlainState → PlainState → Going → Type 0
+abbrev pub IsSameSpace : DriveConfig → PlainState → PlainState → Going → Type 0
 IsSameSpace c s t g = IsTrue (is_there t g) → (t.namespaces (nsid_of g.command) ≡ s.namespaces (nsid_of g.command)) × (handles_in_force c t ≡ handles_in_force c s)
 
 pub going-as : (c : DriveConfig) (s t : PlainState) (queue : ℕ) (g : Going) → s.position ≤ t.position → IsSameSpace c s t g → IsOrderlyGoing c s queue g → IsOrderlyGoing c t queue g
-unfolding IsSameSpace HasRange
 going-as c s t queue g later space h =
     let before : IsTrue (is_there t g) → IsTrue (is_there s g) = λ there. subst (λ (o : Option Namespace). option_map_or (λ x. x.birth == g.birth) o false ≡ true) (space there).0 there in
     record {
@@ -110,7 +108,6 @@ own-parts c s h = record { writes = h.writes; tickets = h.tickets; blocks = h.bl
 
 -- so is a state with these parts
 pub with-parts : (c : DriveConfig) (s t : PlainState) → s.position ≤ t.position → t.index ≡ s.index → handles_in_force c t ≡ handles_in_force c s → t.generation ≡ s.generation → t.namespaces ≡ s.namespaces → AreOrderlyParts c s t → IsOrderlyState c s → IsOrderlyState c t
-unfolding IsSameSpace
 with-parts c s t later index handles generation namespaces parts h =
     let space : (nsid : ℕ) → t.namespaces nsid ≡ s.namespaces nsid = λ nsid. ap (λ (f : ℕ → Option Namespace). f nsid) namespaces in
     record {

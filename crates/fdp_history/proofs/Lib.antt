@@ -3,3 +3,6 @@ pub mod Checks
 pub mod Changed
 pub mod Parts
 pub mod References
+pub mod Payloads
+pub mod Blocks
+pub mod Spaces

@@ -8,11 +8,10 @@ use Rattle.fdp_history.specs.OrderlyState.{IsOrderlyBlock, IsOrderlyGoing, IsOrd
 use Rattle.fdp_history.proofs.Changed.{own-parts, unit-kept, with-parts}
 
 -- the position after one entry more
-pub later : PlainState → PlainState
+abbrev pub later : PlainState → PlainState
 later s = record s { position = s.position + 1 }
 
 pub orderly-later : (c : DriveConfig) (s : PlainState) → IsOrderlyState c s → IsOrderlyState c (later s)
-unfolding later
 orderly-later c s h = with-parts c s (record s { position = s.position + 1 }) (omega arith) refl refl refl refl (record { writes = h.writes; tickets = h.tickets; blocks = h.blocks; references = h.references; kept = unit-kept c s h; units = h.units; media = omega (arith, h.media) }) h
 
 pub going-changed : (c : DriveConfig) (s : PlainState) (going : ℕ → Option Going) → ((queue : ℕ) (g : Going) → going queue ≡ Some g → IsOrderlyGoing c s queue g) → ((a b : ℕ) (g h : Going) → going a ≡ Some g → going b ≡ Some h → g.ticket ≡ h.ticket → a ≡ b) → IsOrderlyState c s → IsOrderlyState c (record s { going = going })
