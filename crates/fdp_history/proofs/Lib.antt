@@ -6,3 +6,6 @@ pub mod References
 pub mod Payloads
 pub mod Blocks
 pub mod Spaces
+pub mod Effects
+pub mod Starting
+pub mod Placing
