@@ -9,3 +9,9 @@ pub mod Spaces
 pub mod Effects
 pub mod Starting
 pub mod Placing
+pub mod States
+pub mod Trails
+pub mod Points
+
+
+
