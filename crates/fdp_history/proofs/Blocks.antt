@@ -38,17 +38,17 @@ pub write-orderly : (c : DriveConfig) (s : PlainState) (queue : ℕ) (g : Going)
 write-orderly c s queue g nsid slba count dtype dspec payload valid going command there h =
     blocks-changed c s (with_blocks c s (s.going queue) nsid slba count payload).blocks
     (λ n lba b e.
-        either-block c s n lba (n == nsid && is_among slba count lba) (option_map (block_of_write c slba payload lba) (s.going queue)) (s.blocks n lba) b
-        (λ inside new.
-            let parts = and_parts (n == nsid) (is_among slba count lba) inside in
-            let among = and_parts (nat_le slba lba) (nat_lt lba (slba + count)) parts.1 in
-            let same : n ≡ nsid = eqb-true n nsid parts.0 in
-            let written : Some (block_of_write c slba payload lba g) ≡ Some b = ap (option_map (block_of_write c slba payload lba)) (sym going) ∙ new in
-            let is : block_of_write c slba payload lba g ≡ b = cc in
-            let block = write-block c s queue g nsid slba count dtype dspec lba payload valid (h.writes queue g going) command there (leb-true slba lba among.0) (ltb-true lba (slba + count) among.1) in
-            subst (λ (k : ℕ). IsOrderlyBlock c s k lba b) (sym same) (subst (IsOrderlyBlock c s nsid lba) is block))
-        (λ outside old. h.blocks n lba b old)
-        e)
+    either-block c s n lba (n == nsid && is_among slba count lba) (option_map (block_of_write c slba payload lba) (s.going queue)) (s.blocks n lba) b
+    (λ inside new.
+    let parts = and_parts (n == nsid) (is_among slba count lba) inside in
+    let among = and_parts (nat_le slba lba) (nat_lt lba (slba + count)) parts.1 in
+    let same : n ≡ nsid = eqb-true n nsid parts.0 in
+    let written : Some (block_of_write c slba payload lba g) ≡ Some b = ap (option_map (block_of_write c slba payload lba)) (sym going) ∙ new in
+    let is : block_of_write c slba payload lba g ≡ b = cc in
+    let block = write-block c s queue g nsid slba count dtype dspec lba payload valid (h.writes queue g going) command there (leb-true slba lba among.0) (ltb-true lba (slba + count) among.1) in
+    subst (λ (k : ℕ). IsOrderlyBlock c s k lba b) (sym same) (subst (IsOrderlyBlock c s nsid lba) is block))
+    (λ outside old. h.blocks n lba b old)
+    e)
     h
 
 -- blocks become absent

@@ -1,18 +1,17 @@
 -- What a command passes that is not refused.
-use Rattle.std.proofs.Common.{◌≡◌, ℕ, zero, suc, ◌+◌, ◌<◌, ◌≤◌, Bool, true, false, not, cond, length, List, [], ◌∷◌, Option, Some, None, refl, sym, ◌∙◌, ap, subst, arith, eqb}
-use Rattle.std.specs.Prelude.{◌&&◌, ◌||◌, ◌==◌, All, IfSome, IsTrue, is_some, nat_le, nat_lt}
+use Rattle.std.proofs.Common.{◌≡◌, ℕ, ◌+◌, ◌<◌, ◌≤◌, Bool, true, false, cond, length, List, [], ◌∷◌, Option, Some, None, refl, arith}
+use Rattle.std.specs.Prelude.{◌==◌, All, IfSome, IsTrue, nat_le, nat_lt}
 use Rattle.std.specs.List.{list_all, list_any}
-use Rattle.std.proofs.lemmas.Bool.{or_parts, and_parts, ltb-false, leb-false, eqb-false}
+use Rattle.std.proofs.lemmas.Bool.{or_parts, ltb-false, leb-false, eqb-false}
 use Rattle.std.proofs.lemmas.List.Elements.{All-cons, All-nil}
 use Rattle.fdp_base.specs.declared.command.Command.{Command}
 use Rattle.fdp_base.specs.declared.command.Command.TheVariants as commands
 use Rattle.fdp_base.specs.declared.config.DriveConfig.{DriveConfig}
-use Rattle.fdp_base.specs.declared.payload.Payload.{Payload}
 use Rattle.fdp_base.specs.declared.status.Status.{Status}
 use Rattle.fdp_base.specs.CommandKinds.{IsWellFormed, Write, is_write, write_of}
 use Rattle.fdp_base.specs.PlainState.{PlainState}
 use Rattle.fdp_base.specs.Point.{Point}
-use Rattle.fdp_base.specs.Refusal.{Check, checks_of, first_that_holds, is_absent, is_present, refusal_of}
+use Rattle.fdp_base.specs.Refusal.{Check, checks_of, first_that_holds, is_present, refusal_of}
 use Rattle.fdp_base.specs.Room.{handles_in_force, namespace_ids, size_of}
 use Rattle.fdp_base.specs.Totals.{blocks_written}
 

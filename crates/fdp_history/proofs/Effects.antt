@@ -1,5 +1,5 @@
 -- What a completed command leaves.
-use Rattle.std.proofs.Common.{◌≡◌, ℕ, ◌+◌, ◌≤◌, Bool, true, false, cond, List, [], ◌∷◌, length, Option, Some, None, refl, sym, ◌∙◌, ap, subst, arith, ⊎_elim}
+use Rattle.std.proofs.Common.{◌≡◌, ℕ, ◌+◌, ◌≤◌, Bool, true, false, cond, List, ◌∷◌, length, Option, Some, None, refl, sym, ◌∙◌, ap, subst, arith, ⊎_elim}
 use Rattle.std.specs.Prelude.{◌&&◌, IsTrue, MatchBool, if◌then◌else◌}
 use Rattle.fdp_base.specs.declared.command.Command.{Command}
 use Rattle.fdp_base.specs.declared.command.Command.TheVariants as commands
@@ -39,12 +39,12 @@ module _ (told : Bool) (c : DriveConfig) (p : Point) (queue number : ℕ) (comma
       ⊎_elim
       (λ gone. absurd (unmade _ refl gone.1))
       (λ more. ⊎_elim
-          (λ full. absurd (unmade _ refl full.2))
-          (λ more. ⊎_elim
-              (λ success. success.0)
-              (λ more. ⊎_elim (λ failed. failed.0) (λ early. absurd (unmade _ refl early.3)) more)
-              more)
-          more)
+      (λ full. absurd (unmade _ refl full.2))
+      (λ more. ⊎_elim
+      (λ success. success.0)
+      (λ more. ⊎_elim (λ failed. failed.0) (λ early. absurd (unmade _ refl early.3)) more)
+      more)
+      more)
       end
 
   either : (b : Bool) → MatchBool b (IsWriteReply told c p queue number command reply moment) (IsPlainReply told c p command reply moment) → MatchBool b ((g : Going) × IsGoing p.state queue number command g × MaySucceed c p g) (refusal_of c p command ≡ None)
@@ -120,7 +120,7 @@ completed-orderly c s done queue moment write failed rest h changed =
     let first : PlainState = record done { position = s.position + 1 } in
     let at : IsOrderlyState c first = subst (λ (n : ℕ). IsOrderlyState c (record done { position = n + 1 })) rest.position changed in
     let fewer : (i : ℕ) (g : Going) → (if write then with_at s.going queue None else s.going) i ≡ Some g → done.going i ≡ Some g =
-        λ i g e. ap (λ (f : ℕ → Option Going). f i) rest.going ∙ fewer-going s queue write i g e in
+    λ i g e. ap (λ (f : ℕ → Option Going). f i) rest.going ∙ fewer-going s queue write i g e in
     media-changed c _ _ (one-moment s.media moment s.position failed h.media) (going-fewer c first _ fewer at)
 
 -- a command was completed whose change, where it was made, left an orderly state

@@ -12,6 +12,6 @@ pub mod Placing
 pub mod States
 pub mod Trails
 pub mod Points
-
-
-
+pub mod Fresh
+pub mod Histories
+pub mod Sums

@@ -1,11 +1,11 @@
 -- A state in which one part changed.
-use Rattle.std.proofs.Common.{◌≡◌, ℕ, ◌+◌, ◌≤◌, Bool, List, length, Option, Some, refl, subst, arith}
-use Rattle.std.specs.Prelude.{IfSome, IsFalse}
+use Rattle.std.proofs.Common.{◌≡◌, ℕ, ◌+◌, ◌≤◌, Bool, List, length, Option, Some, refl, arith}
+use Rattle.std.specs.Prelude.{IsFalse}
 use Rattle.fdp_base.specs.declared.config.DriveConfig.{DriveConfig}
 use Rattle.fdp_base.specs.declared.event.EventKind.{EventKind}
-use Rattle.fdp_base.specs.PlainState.{Block, Going, PlainState, Reference}
-use Rattle.fdp_history.specs.OrderlyState.{IsOrderlyBlock, IsOrderlyGoing, IsOrderlyReference, IsOrderlyState}
-use Rattle.fdp_history.proofs.Changed.{own-parts, unit-kept, with-parts}
+use Rattle.fdp_base.specs.PlainState.{Block, Going, PlainState}
+use Rattle.fdp_history.specs.OrderlyState.{IsOrderlyBlock, IsOrderlyGoing, IsOrderlyState}
+use Rattle.fdp_history.proofs.Changed.{unit-kept, with-parts}
 
 -- the position after one entry more
 abbrev pub later : PlainState → PlainState

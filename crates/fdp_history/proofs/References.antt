@@ -1,6 +1,6 @@
 -- Orderly references, and one that is changed.
-use Rattle.std.proofs.Common.{◌≡◌, ◌⊎◌, inl, inr, ℕ, zero, suc, ◌+◌, ◌-◌, ◌<◌, ◌≤◌, Bool, true, false, cond, ltb, List, [], ◌∷◌, Option, Some, None, refl, sym, ◌∙◌, ap, subst, arith, eq-eqb, ne_eqb, ⊎_elim}
-use Rattle.std.specs.Prelude.{IfSome, IsFalse, ◌==◌, fold, if◌then◌else◌, nat_lt}
+use Rattle.std.proofs.Common.{◌≡◌, ◌⊎◌, inl, inr, ℕ, ◌-◌, ◌<◌, Bool, true, false, cond, List, [], ◌∷◌, Option, Some, None, refl, sym, ◌∙◌, ap, subst, arith, eq-eqb, ne_eqb, ⊎_elim}
+use Rattle.std.specs.Prelude.{IfSome, IsFalse, fold, nat_lt}
 use Rattle.std.specs.Option.{option_map_or}
 use Rattle.std.proofs.lemmas.Bool.{cases_eq, ltb-true}
 use Rattle.fdp_base.specs.declared.config.DriveConfig.{DriveConfig}
@@ -12,7 +12,7 @@ use Rattle.fdp_base.specs.Sites.{group_of}
 use Rattle.fdp_base.specs.Step.{IsDataUnit}
 use Rattle.fdp_base.specs.Target.{Target, named_by}
 use Rattle.fdp_history.specs.OrderlyState.{IsOrderlyReference, IsOrderlyState}
-use Rattle.fdp_history.proofs.Changed.{unit-kept, with-parts}
+use Rattle.fdp_history.proofs.Changed.{with-parts}
 
 -- each is orderly, and no unit is referenced twice
 pub record AreOrderlyReferences (c : DriveConfig) (s : PlainState) (references : References) : Type 0 where
@@ -49,9 +49,9 @@ module _ (references : References) (rg ruh : ℕ) (x : Reference) where
   read i k =
       ⊎_elim
       (λ (e : i ≡ rg). ⊎_elim
-          (λ (f : k ≡ ruh). inl (e, f, rw (eq-eqb i rg e, eq-eqb k ruh f) refl))
-          (λ ne. inr (rw (eq-eqb i rg e, ne_eqb k ruh ne, e) refl))
-          (cases_eq k ruh))
+      (λ (f : k ≡ ruh). inl (e, f, rw (eq-eqb i rg e, eq-eqb k ruh f) refl))
+      (λ ne. inr (rw (eq-eqb i rg e, ne_eqb k ruh ne, e) refl))
+      (cases_eq k ruh))
       (λ ne. inr (rw (ne_eqb i rg ne) refl))
       (cases_eq i rg)
 
@@ -66,17 +66,17 @@ module _ (references : References) (rg ruh : ℕ) (x : Reference) where
     units = λ i k j l unit e f.
         ⊎_elim
         (λ here. ⊎_elim
-            (λ also. (here.0 ∙ sym also.0, here.1 ∙ sym also.1))
-            (λ there.
-                let same = alone unit j l (ap (λ (y : Reference). y.unit) (sym here.2) ∙ e) (ap (λ (y : Reference). y.unit) (sym there) ∙ f) in
-                (here.0 ∙ sym same.0, here.1 ∙ sym same.1))
-            (read j l))
+        (λ also. (here.0 ∙ sym also.0, here.1 ∙ sym also.1))
+        (λ there.
+        let same = alone unit j l (ap (λ (y : Reference). y.unit) (sym here.2) ∙ e) (ap (λ (y : Reference). y.unit) (sym there) ∙ f) in
+        (here.0 ∙ sym same.0, here.1 ∙ sym same.1))
+        (read j l))
         (λ there. ⊎_elim
-            (λ also.
-                let same = alone unit i k (ap (λ (y : Reference). y.unit) (sym also.2) ∙ f) (ap (λ (y : Reference). y.unit) (sym there) ∙ e) in
-                (same.0 ∙ sym also.0, same.1 ∙ sym also.1))
-            (λ too. h.units i k j l unit (ap (λ (y : Reference). y.unit) (sym there) ∙ e) (ap (λ (y : Reference). y.unit) (sym too) ∙ f))
-            (read j l))
+        (λ also.
+        let same = alone unit i k (ap (λ (y : Reference). y.unit) (sym also.2) ∙ f) (ap (λ (y : Reference). y.unit) (sym there) ∙ e) in
+        (same.0 ∙ sym also.0, same.1 ∙ sym also.1))
+        (λ too. h.units i k j l unit (ap (λ (y : Reference). y.unit) (sym there) ∙ e) (ap (λ (y : Reference). y.unit) (sym too) ∙ f))
+        (read j l))
         (read i k);
   }
 

@@ -1,11 +1,10 @@
 -- Namespaces that are created and deleted, and another configuration while there is none.
-use Rattle.std.proofs.Common.{◌≡◌, ◌≢◌, ℕ, ◌+◌, ◌<◌, ◌≤◌, Bool, true, false, cond, List, [], ◌∷◌, length, Option, Some, None, refl, sym, ◌∙◌, ap, subst, arith, ne_eqb, ⊎_elim}
-use Rattle.std.specs.Prelude.{◌==◌, ◌&&◌, All, IfSome, IsTrue, find, if◌then◌else◌, is_none, is_some, nat_le, unwrap_or}
+use Rattle.std.proofs.Common.{◌≡◌, ◌≢◌, ℕ, ◌+◌, ◌<◌, ◌≤◌, Bool, true, false, cond, List, [], ◌∷◌, length, Option, Some, None, refl, sym, ◌∙◌, ap, subst, arith, ne_eqb}
+use Rattle.std.specs.Prelude.{◌==◌, ◌&&◌, All, if◌then◌else◌, is_none, nat_le, unwrap_or}
 use Rattle.std.specs.List.{list_all, list_any}
 use Rattle.std.specs.Option.{option_map_or}
-use Rattle.std.proofs.lemmas.Bool.{cases_eq, eqb-false, eqb-true, leb-false}
-use Rattle.std.proofs.lemmas.List.Elements.{All-cons, All-get_or, All-nil, All-weaker}
-use Rattle.fdp_base.specs.declared.config.Class.{Class}
+use Rattle.std.proofs.lemmas.Bool.{eqb-false, eqb-true, leb-false}
+use Rattle.std.proofs.lemmas.List.Elements.{All-cons, All-nil, All-weaker}
 use Rattle.fdp_base.specs.declared.config.DriveConfig.{DriveConfig}
 use Rattle.fdp_base.specs.Config.{IsValidConfig}
 use Rattle.fdp_base.specs.CommandKinds.{nsid_of}
@@ -16,8 +15,7 @@ use Rattle.fdp_base.specs.Placement.{handle_count}
 use Rattle.fdp_base.specs.PlainState.{Block, Going, Namespace, PlainState}
 use Rattle.fdp_base.specs.Refusal.{is_absent, is_present}
 use Rattle.fdp_base.specs.Room.{handles_in_force, namespace_ids, size_of}
-use Rattle.fdp_base.specs.Sites.{is_there}
-use Rattle.fdp_history.specs.OrderlyState.{IsOrderlyBlock, IsOrderlyGoing, IsOrderlyNamespace, IsOrderlyReference, IsOrderlyState}
+use Rattle.fdp_history.specs.OrderlyState.{IsOrderlyNamespace, IsOrderlyState}
 use Rattle.fdp_history.proofs.Changed.{IsSameSpace, block-as, going-as, namespace-as, reference-as, unit-kept}
 use Rattle.fdp_history.proofs.Checks.{IsAcceptedCreate}
 use Rattle.fdp_history.proofs.References.{no_reference-orderly}
@@ -84,10 +82,12 @@ abbrev pub with_space : PlainState → ℕ → Namespace → PlainState
 with_space s nsid n = record s { position = s.position + 1; namespaces = with_at s.namespaces nsid (Some n) }
 
 born-later : (c : DriveConfig) (s : PlainState) (nsid : ℕ) (n : Namespace) (g : Going) → n.birth ≡ s.position + 1 → g.birth ≤ s.position → IsSameSpace c s (with_space s nsid n) g
-born-later c s nsid n g birth older there =
-    (with_at-each s.namespaces nsid (Some n) (λ i o. option_map_or (λ x. x.birth == g.birth) o false ≡ true → o ≡ s.namespaces i)
-        (λ same. let e : n.birth ≡ g.birth = eqb-true n.birth g.birth same in absurd (omega (arith, e, birth, older)))
-        (λ i ne yes. refl) (nsid_of g.command) there, refl)
+born-later c s nsid n g birth older there = (
+  with_at-each s.namespaces nsid (Some n) (λ i o. option_map_or (λ x. x.birth == g.birth) o false ≡ true → o ≡ s.namespaces i)
+      (λ same. let e : n.birth ≡ g.birth = eqb-true n.birth g.birth same in absurd (omega (arith, e, birth, older)))
+      (λ i ne yes. refl) (nsid_of g.command) there,
+  refl,
+)
 
 pub with_space-orderly : (c : DriveConfig) (s : PlainState) (nsid : ℕ) (n : Namespace) → s.namespaces nsid ≡ None → n.birth ≡ s.position + 1 → IsOrderlyNamespace c (with_space s nsid n) nsid n → IsOrderlyState c s → IsOrderlyState c (with_space s nsid n)
 with_space-orderly c s nsid n none birth good h =
@@ -153,10 +153,10 @@ unfolding namespace_ids
 none-there c s h none nsid =
     let P : Option Namespace → Type 0 = λ o. s.namespaces nsid ≡ o → o ≡ None in
     elim (s.namespaces nsid) as P [
-      None ↦ λ _. refl
-    | Some n ↦ λ e.
-        let id = (h.namespaces nsid n e).identifier in
-        sym e ∙ none-any s.namespaces 1 16 none nsid id.0 (omega (arith, id.1))
+      | None ↦ λ _. refl
+      | Some n ↦ λ e.
+          let id = (h.namespaces nsid n e).identifier in
+          sym e ∙ none-any s.namespaces 1 16 none nsid id.0 (omega (arith, id.1))
     ] refl
 
 pub configured-orderly : (c : DriveConfig) (s : PlainState) (enable : Bool) (index : ℕ) → IsValidConfig c → index < length c.fdp → list_any (is_present s) namespace_ids ≡ false → IsOrderlyState c s → IsOrderlyState c (configured c s enable index)

@@ -1,6 +1,6 @@
 -- A write that is let go.
-use Rattle.std.proofs.Common.{◌≡◌, ◌⊎◌, inl, inr, ℕ, ◌+◌, ◌<◌, ◌≤◌, Bool, true, false, not, Option, Some, None, refl, sym, ◌∙◌, ap, subst, arith, ⊎_elim, length}
-use Rattle.std.specs.Prelude.{IsTrue, find, unwrap_or}
+use Rattle.std.proofs.Common.{◌≡◌, ◌⊎◌, inl, inr, ℕ, ◌+◌, ◌<◌, ◌≤◌, Bool, not, Option, Some, None, refl, sym, ◌∙◌, ap, subst, arith, ⊎_elim}
+use Rattle.std.specs.Prelude.{find, unwrap_or}
 use Rattle.std.specs.List.{list_any}
 use Rattle.std.specs.Option.{option_map_or}
 use Rattle.fdp_base.specs.declared.command.Command.{Command}
@@ -9,7 +9,7 @@ use Rattle.fdp_base.specs.declared.entry.Entry.TheVariants as entries
 use Rattle.fdp_base.specs.Change.{after, birth_of, changed_by, started}
 use Rattle.fdp_base.specs.CommandKinds.{nsid_of}
 use Rattle.fdp_base.specs.Config.{IsValidConfig}
-use Rattle.fdp_base.specs.Numbers.{numbers_below, numbers_from, with_at}
+use Rattle.fdp_base.specs.Numbers.{numbers_below, with_at}
 use Rattle.fdp_base.specs.PlainState.{Going, Namespace, PlainState}
 use Rattle.fdp_base.specs.Point.{Point}
 use Rattle.fdp_base.specs.Room.{has_more_room, roomiest}
@@ -63,17 +63,17 @@ started-orderly c p queue number command rg ruh pid_valid valid start h =
     let now = orderly-later c s h in
     going-changed c (later s) (with_at s.going queue (Some new))
     (λ i g e. ⊎_elim
-        (λ here. subst (λ (k : ℕ). IsOrderlyGoing c (later s) k g) (sym here.0) (subst (IsOrderlyGoing c (later s) queue) here.1 (started-going c p queue number command rg ruh pid_valid valid start h)))
-        (λ there. now.writes i g there)
-        (read-started s queue i new g e))
+    (λ here. subst (λ (k : ℕ). IsOrderlyGoing c (later s) k g) (sym here.0) (subst (IsOrderlyGoing c (later s) queue) here.1 (started-going c p queue number command rg ruh pid_valid valid start h)))
+    (λ there. now.writes i g there)
+    (read-started s queue i new g e))
     (λ a b g k e f same. ⊎_elim
-        (λ here. ⊎_elim
-            (λ also. here.0 ∙ sym also.0)
-            (λ there. let ticket : s.position + 1 ≡ g.ticket = ap (λ (x : Going). x.ticket) here.1 in absurd (omega (arith, ticket, same, (h.writes b k there).ticket.1)))
-            (read-started s queue b new k f))
-        (λ there. ⊎_elim
-            (λ also. let ticket : s.position + 1 ≡ k.ticket = ap (λ (x : Going). x.ticket) also.1 in absurd (omega (arith, ticket, same, (h.writes a g there).ticket.1)))
-            (λ too. h.tickets a b g k there too same)
-            (read-started s queue b new k f))
-        (read-started s queue a new g e))
+    (λ here. ⊎_elim
+    (λ also. here.0 ∙ sym also.0)
+    (λ there. let ticket : s.position + 1 ≡ g.ticket = ap (λ (x : Going). x.ticket) here.1 in absurd (omega (arith, ticket, same, (h.writes b k there).ticket.1)))
+    (read-started s queue b new k f))
+    (λ there. ⊎_elim
+    (λ also. let ticket : s.position + 1 ≡ k.ticket = ap (λ (x : Going). x.ticket) also.1 in absurd (omega (arith, ticket, same, (h.writes a g there).ticket.1)))
+    (λ too. h.tickets a b g k there too same)
+    (read-started s queue b new k f))
+    (read-started s queue a new g e))
     now

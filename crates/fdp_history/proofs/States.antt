@@ -1,13 +1,12 @@
 -- What each entry that may follow leaves of an orderly state.
-use Rattle.std.proofs.Common.{◌≡◌, ◌≢◌, ℕ, ◌+◌, ◌≤◌, Bool, true, false, Option, Some, None, refl, sym, ◌∙◌, ap, subst, arith, ne_eqb}
-use Rattle.std.specs.Prelude.{IsFalse}
+use Rattle.std.proofs.Common.{◌≢◌, ℕ, Bool, true, false, Some, None, refl, ◌∙◌, ap, ne_eqb}
 use Rattle.fdp_base.specs.declared.config.DriveConfig.{DriveConfig}
 use Rattle.fdp_base.specs.declared.entry.Entry.{Entry}
 use Rattle.fdp_base.specs.declared.entry.Entry.TheVariants as entries
 use Rattle.fdp_base.specs.Change.{after, changed_by}
 use Rattle.fdp_base.specs.Config.{IsValidConfig}
 use Rattle.fdp_base.specs.Numbers.{with_at}
-use Rattle.fdp_base.specs.PlainState.{Going, PlainState}
+use Rattle.fdp_base.specs.PlainState.{PlainState}
 use Rattle.fdp_base.specs.Point.{Point}
 use Rattle.fdp_base.specs.Step.{Follows, IsUnreferenced}
 use Rattle.fdp_history.specs.OrderlyState.{IsOrderlyState}
@@ -24,8 +23,8 @@ lost-orderly c s unit free h =
     let now = orderly-later c s h in
     lost-changed c (later s) (with_at s.is_lost unit true)
     (λ rg ruh u e.
-        let ne : u ≢ unit = λ same. free rg ruh (e ∙ ap (λ (n : ℕ). Some n) same) in
-        rw (ne_eqb u unit ne) (unit-kept c s h rg ruh u e))
+    let ne : u ≢ unit = λ same. free rg ruh (e ∙ ap (λ (n : ℕ). Some n) same) in
+    rw (ne_eqb u unit ne) (unit-kept c s h rg ruh u e))
     now
 
 -- no write goes, no handle has a unit, and each unit is in use

@@ -1,5 +1,5 @@
 -- What each entry that may follow leaves of sites and copies.
-use Rattle.std.proofs.Common.{◌≡◌, ℕ, ◌+◌, ◌<◌, ◌≤◌, Bool, true, false, cond, find, List, [], ◌∷◌, ◌++◌, Option, Some, None, refl, sym, ◌∙◌, ap, subst, arith}
+use Rattle.std.proofs.Common.{◌≡◌, ℕ, ◌+◌, Bool, true, false, cond, find, List, [], ◌∷◌, Option, Some, None, refl, sym, subst, arith}
 use Rattle.std.specs.Prelude.{◌==◌, ◌&&◌, All, if◌then◌else◌, option_and_then, option_map}
 use Rattle.std.specs.Option.{option_map_or}
 use Rattle.std.proofs.lemmas.Bool.{and_parts, eqb-true}
@@ -9,7 +9,7 @@ use Rattle.fdp_base.specs.declared.entry.Entry.{Entry}
 use Rattle.fdp_base.specs.declared.entry.Entry.TheVariants as entries
 use Rattle.fdp_base.specs.declared.entry.Spot.{Spot}
 use Rattle.fdp_base.specs.Numbers.{with_at}
-use Rattle.fdp_base.specs.PlainState.{PageName, PageName.written, PlainState}
+use Rattle.fdp_base.specs.PlainState.{PageName.written}
 use Rattle.fdp_base.specs.Point.{Copy, Point, Trail}
 use Rattle.fdp_base.specs.Sites.{ascends, is_page_of, is_spot, last_run, moved_by, outside, pass_in, traced_by}
 use Rattle.fdp_base.specs.Step.{Follows, IsPage, IsPlaced}
@@ -36,8 +36,8 @@ find-all P test [] x h e = absurd cc
 find-all P test (y ∷ ys) x h e =
     let Q : Bool → Type 0 = λ b. test y ≡ b → cond b (Some y) (find test ys) ≡ Some x → P x × (test x ≡ true) in
     elim (test y) as Q [
-      true ↦ λ t some. let same : y ≡ x = cc in (subst P same (All-head P y ys h), subst (λ z. test z ≡ true) same t)
-    | false ↦ λ t some. find-all P test ys x (All-tail P y ys h) some
+      | true ↦ λ t some. let same : y ≡ x = cc in (subst P same (All-head P y ys h), subst (λ z. test z ≡ true) same t)
+      | false ↦ λ t some. find-all P test ys x (All-tail P y ys h) some
     ] refl e
 
 -- a page moves to its copy, or stays
@@ -45,8 +45,8 @@ moved-page : (c : DriveConfig) (rg : ℕ) (pass : List Copy) (spot : Spot) → A
 moved-page c rg pass spot copies page =
     let P : Option Copy → Type 0 = λ o. find (λ (x : Copy). is_spot x.from spot) pass ≡ o → IsPage c (option_map_or (λ (x : Copy). x.to) o spot) in
     elim (find (λ (x : Copy). is_spot x.from spot) pass) as P [
-      None ↦ λ _. page
-    | Some x ↦ λ e. (find-all (IsOrderlyCopy c rg) (λ (y : Copy). is_spot y.from spot) pass x copies e).0.to
+      | None ↦ λ _. page
+      | Some x ↦ λ e. (find-all (IsOrderlyCopy c rg) (λ (y : Copy). is_spot y.from spot) pass x copies e).0.to
     ] refl
 
 -- what stood at a page before it moved
@@ -82,14 +82,14 @@ placed-sites c p ticket index unit page placed state h t i spot e =
     let new : Spot = record { unit = unit; page = page } in
     let P : Bool → Type 0 = λ b. (ticket == t && index == i) ≡ b → cond b (Some new) (p.trail.site (written t i)) ≡ Some spot → IsOrderlySite c p.state.position t i spot in
     elim (ticket == t && index == i) as P [
-      true ↦ λ here some.
-        let both = and_parts (ticket == t) (index == i) here in
-        let at : new ≡ spot = cc in
-        let first = placed-site c p ticket index unit page placed state in
-        subst (λ (k : ℕ). IsOrderlySite c p.state.position k i spot) (eqb-true ticket t both.0)
-        (subst (λ (k : ℕ). IsOrderlySite c p.state.position ticket k spot) (eqb-true index i both.1)
-        (subst (IsOrderlySite c p.state.position ticket index) at first))
-    | false ↦ λ there some. h.sites t i spot some
+      | true ↦ λ here some.
+          let both = and_parts (ticket == t) (index == i) here in
+          let at : new ≡ spot = cc in
+          let first = placed-site c p ticket index unit page placed state in
+          subst (λ (k : ℕ). IsOrderlySite c p.state.position k i spot) (eqb-true ticket t both.0)
+          (subst (λ (k : ℕ). IsOrderlySite c p.state.position ticket k spot) (eqb-true index i both.1)
+          (subst (IsOrderlySite c p.state.position ticket index) at first))
+      | false ↦ λ there some. h.sites t i spot some
     ] refl e
 
 pub trail-next : (told : Bool) (c : DriveConfig) (p : Point) (e : Entry) → Follows told c p e → IsOrderlyState c p.state → IsOrderlyTrail c p.state.position p.trail → IsOrderlyTrail c (p.state.position + 1) (traced_by c p.trail e)
