@@ -95,6 +95,9 @@ pub record IsAcceptedCreate (c : DriveConfig) (s : PlainState) (size : ℕ) (lis
   pub number : length list ≤ 16
   pub free : list_all (is_present s) namespace_ids ≡ false
 
+some-blocks : (size : ℕ) → (size == 0) ≡ false → 1 ≤ size
+some-blocks size empty = let nonzero : size ≡ 0 → ⊥ = eqb-false size 0 empty in omega (arith, nonzero)
+
 pub accepted-create : (c : DriveConfig) (p : Point) (size : ℕ) (given : Bool) (list : List ℕ) → refusal_of c p (commands.Create size given list) ≡ None → IsAcceptedCreate c p.state size list
 unfolding checks_of
 accepted-create c p size given list e =
@@ -102,9 +105,8 @@ accepted-create c p size given list e =
     let empty : (size == 0) ≡ false = (or_parts _ _ held.0).0 in
     let known : list_any (nat_le (handles_in_force c p.state)) list ≡ false = (or_parts _ _ (or_parts _ _ held.1.0).0).0 in
     let many : nat_lt 16 (length list) ≡ false = (or_parts _ _ held.1.0).1 in
-    let nonzero : size ≡ 0 → ⊥ = eqb-false size 0 empty in
     record {
-      size_is = omega (arith, nonzero);
+      size_is = some-blocks size empty;
       handles = none-passes (nat_le (handles_in_force c p.state)) list known;
       number = ltb-false 16 (length list) many;
       free = held.1.1.0;
