@@ -12,7 +12,7 @@ use Rattle.fdp_base.specs.CommandKinds.{IsWellFormed, Write, is_write, write_of}
 use Rattle.fdp_base.specs.PlainState.{PlainState}
 use Rattle.fdp_base.specs.Point.{Point}
 use Rattle.fdp_base.specs.Refusal.{Check, checks_of, first_that_holds, is_present, refusal_of}
-use Rattle.fdp_base.specs.Room.{handles_in_force, namespace_ids, size_of}
+use Rattle.fdp_base.specs.Room.{handles_in_force, handles_of, namespace_ids, size_of}
 use Rattle.fdp_base.specs.Totals.{blocks_written}
 
 -- none of these checks holds
@@ -82,6 +82,14 @@ accepted-feature c p group enable index e =
     let held = passes c p (commands.SetFdp group enable index) e in
     let past : nat_le (length c.fdp) index ≡ false = (or_parts _ _ held.0).1 in
     (leb-false (length c.fdp) index past, held.1.0)
+
+-- Set Features for events names a placement handle of a namespace
+pub accepted-events : (c : DriveConfig) (p : Point) (nsid handle : ℕ) (enable : Bool) (types : List ℕ) → refusal_of c p (commands.SetEvents nsid handle enable types) ≡ None → handle < length (handles_of p.state nsid)
+unfolding checks_of
+accepted-events c p nsid handle enable types e =
+    let held = passes c p (commands.SetEvents nsid handle enable types) e in
+    let past : nat_le (length (handles_of p.state nsid)) handle ≡ false = (or_parts _ _ held.1.1.0).0 in
+    leb-false (length (handles_of p.state nsid)) handle past
 
 -- no element passes
 none-passes : (test : ℕ → Bool) (xs : List ℕ) → list_any test xs ≡ false → All (λ x. test x ≡ false) xs

@@ -1,34 +1,19 @@
 -- What each entry that may follow leaves of where the blocks stand.
-use Rattle.std.proofs.Common.{◌≡◌, ◌≢◌, ◌⊎◌, List, ne_eqb, ℕ, ◌+◌, ◌<◌, ◌≤◌, Bool, true, false, cond, Option, Some, None, refl, sym, ◌∙◌, ap, subst, arith, ⊎_elim}
-use Rattle.std.specs.Prelude.{◌==◌, ◌&&◌, IfSome, IsFalse, IsTrue, MatchBool, if◌then◌else◌, is_some, option_and_then, option_map}
-use Rattle.std.proofs.lemmas.Bool.{and_parts, eqb-true}
+use Rattle.std.proofs.Common.{◌≡◌, ℕ, Bool, true, false, refl, sym, ◌∙◌, arith}
+use Rattle.std.specs.Prelude.{IsFalse}
 use Rattle.fdp_base.specs.declared.command.Command.{Command}
 use Rattle.fdp_base.specs.declared.config.DriveConfig.{DriveConfig}
 use Rattle.fdp_base.specs.declared.entry.Entry.{Entry}
 use Rattle.fdp_base.specs.declared.entry.Entry.TheVariants as entries
 use Rattle.fdp_base.specs.declared.entry.Reply.{Reply}
-use Rattle.fdp_base.specs.declared.entry.Spot.{Spot}
-use Rattle.fdp_base.specs.Change.{after, changed_by, placed_going, started}
-use Rattle.fdp_base.specs.CommandKinds.{is_write}
-use Rattle.fdp_base.specs.Config.{IsValidConfig}
+use Rattle.fdp_base.specs.Change.{after, changed_by}
 use Rattle.fdp_base.specs.Next.{next}
-use Rattle.fdp_base.specs.Numbers.{with_at}
-use Rattle.fdp_base.specs.PlainState.{Block, Going, PageName, PageName.found, PageName.written, PlainState}
-use Rattle.fdp_base.specs.Point.{Copy, Point}
-use Rattle.fdp_base.specs.Refusal.{refusal_of}
-use Rattle.fdp_base.specs.declared.entry.BlockName.{BlockName}
-use Rattle.fdp_base.specs.Sites.{group_of, is_page_of, moved_by, outside, pass_in, site_of, traced_by}
-use Rattle.fdp_base.specs.Step.{Follows, IsErasable, IsGoing, IsPage, IsPlaced, MaySucceed}
-use Rattle.fdp_base.specs.Totals.{blocks_written}
-use Rattle.fdp_history.specs.Orderly.{IsOrderly, IsOrderlyCopy}
-use Rattle.fdp_history.specs.Standing.{IsBlockStanding, IsStanding}
-use Rattle.fdp_history.proofs.Effects.{IsApplicable, applicable, fewer-going}
-use Rattle.fdp_history.proofs.Groups.{moved-group}
-use Rattle.fdp_history.proofs.Placing.{read-placed}
-use Rattle.fdp_history.proofs.Starting.{read-started}
-use Rattle.fdp_history.proofs.Tables.{with_at-each}
-use Rattle.fdp_history.proofs.Trails.{all-last_run, moved-page, stood-before, was-before}
-use Rattle.fdp_history.proofs.Written.{IsWritten, host-left}
+use Rattle.fdp_base.specs.Point.{Point}
+use Rattle.fdp_base.specs.Sites.{traced_by}
+use Rattle.fdp_base.specs.Step.{Follows}
+use Rattle.fdp_history.specs.Orderly.{IsOrderly}
+use Rattle.fdp_history.specs.Standing.{IsStanding}
+use Rattle.fdp_history.proofs.Effects.{applicable}
 use Rattle.fdp_history.proofs.StandingPages.{erased-standing, moved-standing, placed-standing}
 use Rattle.fdp_history.proofs.StandingWrites.{host-standing, standing-still, started-standing}
 

@@ -1,34 +1,22 @@
 -- Where the blocks stand after a page is placed, pages move, or a unit is erased.
-use Rattle.std.proofs.Common.{◌≡◌, ◌≢◌, ◌⊎◌, List, ne_eqb, ℕ, ◌+◌, ◌<◌, ◌≤◌, Bool, true, false, cond, Option, Some, None, refl, sym, ◌∙◌, ap, subst, arith, ⊎_elim}
-use Rattle.std.specs.Prelude.{◌==◌, ◌&&◌, IfSome, IsFalse, IsTrue, MatchBool, if◌then◌else◌, is_some, option_and_then, option_map}
+use Rattle.std.proofs.Common.{◌≡◌, ◌≢◌, List, ne_eqb, ℕ, Bool, true, false, cond, Option, Some, None, refl, sym, ◌∙◌, ap, subst, arith, ⊎_elim}
+use Rattle.std.specs.Prelude.{◌==◌, ◌&&◌, IfSome, if◌then◌else◌, option_and_then, option_map}
 use Rattle.std.proofs.lemmas.Bool.{and_parts, eqb-true}
-use Rattle.fdp_base.specs.declared.command.Command.{Command}
 use Rattle.fdp_base.specs.declared.config.DriveConfig.{DriveConfig}
-use Rattle.fdp_base.specs.declared.entry.Entry.{Entry}
 use Rattle.fdp_base.specs.declared.entry.Entry.TheVariants as entries
-use Rattle.fdp_base.specs.declared.entry.Reply.{Reply}
 use Rattle.fdp_base.specs.declared.entry.Spot.{Spot}
-use Rattle.fdp_base.specs.Change.{after, changed_by, placed_going, started}
-use Rattle.fdp_base.specs.CommandKinds.{is_write}
-use Rattle.fdp_base.specs.Config.{IsValidConfig}
+use Rattle.fdp_base.specs.Change.{after, changed_by}
 use Rattle.fdp_base.specs.Next.{next}
-use Rattle.fdp_base.specs.Numbers.{with_at}
-use Rattle.fdp_base.specs.PlainState.{Block, Going, PageName, PageName.found, PageName.written, PlainState}
+use Rattle.fdp_base.specs.PlainState.{Block, Going, PageName, PageName.found, PageName.written}
 use Rattle.fdp_base.specs.Point.{Copy, Point}
-use Rattle.fdp_base.specs.Refusal.{refusal_of}
 use Rattle.fdp_base.specs.declared.entry.BlockName.{BlockName}
 use Rattle.fdp_base.specs.Sites.{group_of, is_page_of, moved_by, outside, pass_in, site_of, traced_by}
-use Rattle.fdp_base.specs.Step.{Follows, IsErasable, IsGoing, IsPage, IsPlaced, MaySucceed}
-use Rattle.fdp_base.specs.Totals.{blocks_written}
+use Rattle.fdp_base.specs.Step.{IsErasable, IsPlaced}
 use Rattle.fdp_history.specs.Orderly.{IsOrderly, IsOrderlyCopy}
 use Rattle.fdp_history.specs.Standing.{IsBlockStanding, IsStanding}
-use Rattle.fdp_history.proofs.Effects.{IsApplicable, applicable, fewer-going}
 use Rattle.fdp_history.proofs.Groups.{moved-group}
 use Rattle.fdp_history.proofs.Placing.{read-placed}
-use Rattle.fdp_history.proofs.Starting.{read-started}
-use Rattle.fdp_history.proofs.Tables.{with_at-each}
 use Rattle.fdp_history.proofs.Trails.{all-last_run, moved-page, stood-before, was-before}
-use Rattle.fdp_history.proofs.Written.{IsWritten, host-left}
 
 -- ---- a page that is placed
 
@@ -37,12 +25,12 @@ other-page : (ticket index : ℕ) (name : PageName) (new old : Option Spot) → 
 other-page ticket index (written t i) new old apart =
     let P : Bool → Type 0 = λ b. (ticket == t && index == i) ≡ b → cond b new old ≡ old in
     elim (ticket == t && index == i) as P [
-      true ↦ λ same.
-        let both = and_parts (ticket == t) (index == i) same in
-        let one : ticket ≡ t = eqb-true ticket t both.0 in
-        let two : index ≡ i = eqb-true index i both.1 in
-        absurd (apart cc)
-    | false ↦ λ _. refl
+      | true ↦ λ same.
+          let both = and_parts (ticket == t) (index == i) same in
+          let one : ticket ≡ t = eqb-true ticket t both.0 in
+          let two : index ≡ i = eqb-true index i both.1 in
+          absurd (apart cc)
+      | false ↦ λ _. refl
     ] refl
 other-page ticket index (found spot) new old apart = refl
 
@@ -70,14 +58,14 @@ module _ (c : DriveConfig) (p : Point) (ticket index unit page : ℕ) (placed : 
   placed-write queue i g x spot was same group site =
       let P : Bool → Type 0 = λ b. (ticket == g.ticket && index == i) ≡ b → cond b (Some new_spot) (p.trail.site (written g.ticket i)) ≡ Some spot → group_of c spot.unit ≡ g.rg in
       elim (ticket == g.ticket && index == i) as P [
-        true ↦ λ here some.
-          let both = and_parts (ticket == g.ticket) (index == i) here in
-          let at : new_spot ≡ spot = cc in
-          let one : queue ≡ placed.queue = orderly.state.tickets queue placed.queue x placed.going was placed.going_is (sym same ∙ sym (eqb-true ticket g.ticket both.0) ∙ sym placed.same) in
-          let is : Some x ≡ Some placed.going = sym was ∙ ap p.state.going one ∙ placed.going_is in
-          let write : x ≡ placed.going = cc in
-          ap (λ (s : Spot). group_of c s.unit) (sym at) ∙ placed.group ∙ ap (λ (k : Going). k.rg) (sym write) ∙ sym group
-      | false ↦ λ there some. h.writes queue i x spot was (ap (λ (t : ℕ). p.trail.site (written t i)) (sym same) ∙ some) ∙ sym group
+        | true ↦ λ here some.
+            let both = and_parts (ticket == g.ticket) (index == i) here in
+            let at : new_spot ≡ spot = cc in
+            let one : queue ≡ placed.queue = orderly.state.tickets queue placed.queue x placed.going was placed.going_is (sym same ∙ sym (eqb-true ticket g.ticket both.0) ∙ sym placed.same) in
+            let is : Some x ≡ Some placed.going = sym was ∙ ap p.state.going one ∙ placed.going_is in
+            let write : x ≡ placed.going = cc in
+            ap (λ (s : Spot). group_of c s.unit) (sym at) ∙ placed.group ∙ ap (λ (k : Going). k.rg) (sym write) ∙ sym group
+        | false ↦ λ there some. h.writes queue i x spot was (ap (λ (t : ℕ). p.trail.site (written t i)) (sym same) ∙ some) ∙ sym group
       ] refl site
 
   pub placed-standing : IsStanding c (next c p (entries.Placed ticket index unit page))

@@ -1,5 +1,5 @@
 -- Which blocks a command leaves: those that stood there, and those of the write that was going.
-use Rattle.std.proofs.Common.{◌≡◌, ◌⊎◌, inl, inr, ℕ, ◌+◌, ◌-◌, ◌<◌, ◌≤◌, Bool, true, false, cond, Option, Some, None, refl, sym, ◌∙◌, ap, subst, arith, ⊎_elim}
+use Rattle.std.proofs.Common.{◌≡◌, ◌⊎◌, inl, inr, ℕ, ◌+◌, ◌-◌, ◌<◌, ◌≤◌, Bool, true, false, cond, Option, Some, None, refl, sym, ap, arith, ⊎_elim}
 use Rattle.std.specs.Prelude.{◌==◌, ◌&&◌, IsTrue, if◌then◌else◌, nat_le, nat_lt, option_map}
 use Rattle.std.proofs.lemmas.Bool.{and_parts, leb-true, ltb-true}
 use Rattle.fdp_base.specs.declared.command.Command.{Command}
@@ -38,27 +38,27 @@ write-left : (c : DriveConfig) (s : PlainState) (queue nsid slba count dtype dsp
 unfolding IsLeft
 write-left c s queue nsid slba count dtype dspec n lba payload b e =
     let P : Bool → Type 0 = λ t. (n == nsid && is_among slba count lba) ≡ t → cond t (option_map (block_of_write c slba payload lba) (s.going queue)) (s.blocks n lba) ≡ Some b
-        → (s.blocks n lba ≡ Some b) ⊎ IsWritten s queue (commands.Write nsid slba count dtype dspec payload) b in
+    → (s.blocks n lba ≡ Some b) ⊎ IsWritten s queue (commands.Write nsid slba count dtype dspec payload) b in
     let Q : Option Going → Type 0 = λ o. s.going queue ≡ o → slba ≤ lba → lba < slba + count → option_map (block_of_write c slba payload lba) o ≡ Some b → IsWritten s queue (commands.Write nsid slba count dtype dspec payload) b in
     elim (n == nsid && is_among slba count lba) as P [
-      true ↦ λ inside new.
-        let parts = and_parts (n == nsid) (is_among slba count lba) inside in
-        let among = and_parts (nat_le slba lba) (nat_lt lba (slba + count)) parts.1 in
-        inr ((elim (s.going queue) as Q [
-          None ↦ λ is low high none. absurd cc
-        | Some g ↦ λ is low high some.
-            let same : block_of_write c slba payload lba g ≡ b = cc in
-            record {
-              write = refl;
-              going = g;
-              going_is = is;
-              index = lba - slba;
-              index_is = omega (arith, low, high);
-              page = ap (λ (x : Block). x.page) (sym same);
-              group = ap (λ (x : Block). x.rg) (sym same);
-            }
-        ]) refl (leb-true slba lba among.0) (ltb-true lba (slba + count) among.1) new)
-    | false ↦ λ outside old. inl old
+      | true ↦ λ inside new.
+          let parts = and_parts (n == nsid) (is_among slba count lba) inside in
+          let among = and_parts (nat_le slba lba) (nat_lt lba (slba + count)) parts.1 in
+          inr ((elim (s.going queue) as Q [
+            | None ↦ λ is low high none. absurd cc
+            | Some g ↦ λ is low high some.
+                let same : block_of_write c slba payload lba g ≡ b = cc in
+                record {
+                  write = refl;
+                  going = g;
+                  going_is = is;
+                  index = lba - slba;
+                  index_is = omega (arith, low, high);
+                  page = ap (λ (x : Block). x.page) (sym same);
+                  group = ap (λ (x : Block). x.rg) (sym same);
+                }
+          ]) refl (leb-true slba lba among.0) (ltb-true lba (slba + count) among.1) new)
+      | false ↦ λ outside old. inl old
     ] refl e
 
 effect-left : (c : DriveConfig) (s : PlainState) (queue : ℕ) (command : Command) (n lba : ℕ) (b : Block) → (effect_of c s queue command).blocks n lba ≡ Some b → IsLeft s queue command n lba b
@@ -85,6 +85,6 @@ unfolding after changed_by IsLeft
 host-left c s queue number command reply moment n lba b e =
     let P : Bool → Type 0 = λ t. reply.applied ≡ t → (cond t (effect_of c s queue command) s).blocks n lba ≡ Some b → (s.blocks n lba ≡ Some b) ⊎ (IsTrue reply.applied × IsWritten s queue command b) in
     elim reply.applied as P [
-      true ↦ λ made new. ⊎_elim (λ old. inl old) (λ written. inr (made, written)) (effect-left c s queue command n lba b new)
-    | false ↦ λ unmade old. inl old
+      | true ↦ λ made new. ⊎_elim (λ old. inl old) (λ written. inr (made, written)) (effect-left c s queue command n lba b new)
+      | false ↦ λ unmade old. inl old
     ] refl e

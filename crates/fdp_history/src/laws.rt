@@ -1,9 +1,10 @@
-ghost use Rattle.std.specs.Prelude.{Bool, IsFalse, List, ℕ};
+ghost use Rattle.std.specs.Prelude.{◌≡◌, Bool, IsFalse, IsTrue, List, None, ℕ};
 ghost use Rattle.fdp_base.specs.declared.command.Command.{Command};
 ghost use Rattle.fdp_base.specs.declared.config.DriveConfig.{DriveConfig};
 ghost use Rattle.fdp_base.specs.declared.entry.Entry.{Entry};
 ghost use Rattle.fdp_base.specs.declared.entry.Entry.TheVariants as entries;
 ghost use Rattle.fdp_base.specs.declared.entry.Reply.{Reply};
+ghost use Rattle.fdp_base.specs.CommandKinds.{is_write};
 ghost use Rattle.fdp_base.specs.Config.{IsValidConfig};
 ghost use Rattle.fdp_base.specs.History.{fresh, point_of};
 ghost use Rattle.fdp_base.specs.Legal.{IsLegal};
@@ -38,8 +39,11 @@ pub fn steps_keep_order()
     ensures summed { (told : Bool) (c : DriveConfig) (p : Point) (e : Entry) → IsValidConfig c → IsOrderly c p → IsSummed p → Follows told c p e → IsSummed (next c p e) }
 {}
 
-/// The end of a command whose change is not made leaves all orderly, and the blocks where they stand, whatever it answers.
+/// The end of a command whose change is not made leaves all orderly, the blocks where they stand and the sums bounded,
+/// whatever it answers; after the end of a write none is going in its queue.
 pub fn unmade_changes_keep_order()
     ensures orderly { (c : DriveConfig) (p : Point) (queue number : ℕ) (command : Command) (reply : Reply) (moment : ℕ) → IsOrderly c p → IsFalse reply.applied → IsOrderly c (next c p (entries.Host queue number command reply moment)) }
     ensures standing { (c : DriveConfig) (p : Point) (queue number : ℕ) (command : Command) (reply : Reply) (moment : ℕ) → IsOrderly c p → IsStanding c p → IsFalse reply.applied → IsStanding c (next c p (entries.Host queue number command reply moment)) }
+    ensures summed { (c : DriveConfig) (p : Point) (queue number : ℕ) (command : Command) (reply : Reply) (moment : ℕ) → IsSummed p → IsFalse reply.applied → IsSummed (next c p (entries.Host queue number command reply moment)) }
+    ensures idle { (c : DriveConfig) (p : Point) (queue number : ℕ) (command : Command) (reply : Reply) (moment : ℕ) → IsTrue (is_write command) → (next c p (entries.Host queue number command reply moment)).state.going queue ≡ None }
 {}
