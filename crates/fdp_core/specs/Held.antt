@@ -23,6 +23,7 @@ use Rattle.fdp_flash.specs.declared.cell.Cell.TheVariants.{Whole}
 use Rattle.fdp_flash.specs.Cells.{IsBlankFrom, IsBlankUnit}
 use Rattle.fdp_flash.specs.Layout.{page_number}
 use Rattle.fdp_history.specs.Orderly.{IsOrderly}
+use Rattle.fdp_history.specs.Standing.{IsStanding}
 use Rattle.fdp_spaces.specs.SpaceTable.{SpaceTable, namespace_at}
 use Rattle.fdp_handles.specs.HandleTable.{HandleTable, reference_at}
 use Rattle.fdp_map.specs.MapTable.{MapTable, mapped_at, size_in}
@@ -147,6 +148,7 @@ pub record AreUnitsOf (c : DriveConfig) (es : List Entry) (s : PlainState) (cell
 pub record IsHeld (c : DriveConfig) (es : List Entry) (setting : Setting) (sums : Sums) (spaces : SpaceTable) (handles : HandleTable) (map : MapTable) (flights : List (Option Flight)) (used : List ℕ) : Type 0 where
   pub config : IsValidConfig c
   pub orderly : IsOrderly c (point_of c (fresh c) es)
+  pub standing : IsStanding c (point_of c (fresh c) es)
   pub setting_is : IsSettingOf (point_of c (fresh c) es).state setting
   pub sums_are : AreSumsOf es sums
   pub all_units : HasAllUnits (point_of c (fresh c) es).state
