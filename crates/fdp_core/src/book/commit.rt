@@ -8,6 +8,7 @@ ghost use Rattle.fdp_core.specs.BookSteps.{Completes, IsReady, IsVerdict};
 ghost use Rattle.fdp_core.specs.Tickets.{IsTicketOf};
 
 use super::Book;
+use super::end::push_host;
 use crate::extent::extent_of;
 use crate::flight::Flight;
 use crate::ticket::{Done, Ticket};
@@ -63,7 +64,7 @@ impl Book {
         };
         put_pages(&mut self.map, extent.nsid, extent.slba, first, pages.as_slice());
         self.sums.host_blocks += u64::from(extent.count);
-        self.push_host(queue, number, command, replies, moment)
+        push_host(&mut self.log, queue, number, command, replies, moment)
     }
 }
 
