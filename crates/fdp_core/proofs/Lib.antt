@@ -4,3 +4,6 @@ pub mod HeldAt
 pub mod Alike
 pub mod Flights
 pub mod HeldEnded
+pub mod Flown
+pub mod Units
+pub mod Nexts

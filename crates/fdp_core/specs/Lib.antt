@@ -9,6 +9,7 @@ pub mod Tickets
 pub mod BookSteps
 pub mod Reading
 pub mod Held
+pub mod Flown
 pub mod Seen
 pub mod Media
 pub mod ReadSteps
