@@ -7,3 +7,9 @@ pub mod HeldEnded
 pub mod Flown
 pub mod Units
 pub mod Nexts
+pub mod Writes
+pub mod Starting
+pub mod HeldStarted
+pub mod LetGo
+pub mod Budgets
+pub mod Roomiest
