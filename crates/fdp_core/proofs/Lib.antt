@@ -13,3 +13,4 @@ pub mod HeldStarted
 pub mod LetGo
 pub mod Budgets
 pub mod Roomiest
+pub mod Refusals
