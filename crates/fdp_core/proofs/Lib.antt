@@ -14,3 +14,14 @@ pub mod LetGo
 pub mod Budgets
 pub mod Roomiest
 pub mod Refusals
+pub mod LegalOnce
+pub mod GroupSound
+pub mod GroupAdds
+pub mod GroupHost
+pub mod GroupEnded
+pub mod GroupCommit
+pub mod GroupReads
+pub mod GroupBegins
+pub mod GroupPlacing
+pub mod GroupPlaced
+pub mod GroupFresh

@@ -40,7 +40,7 @@ impl<F: Flash> Model for Group<F> {
 
     ghost view = { λ g. record { book = g.book; failed = g.failed; flash = g.flash } };
 
-    ghost invariant = { λ g. IsSound (F.state g.flash) g.book g.failed g.block.items };
+    ghost invariant = { λ g. IsSound (F.state g.flash) g.book.config g.book.entries g.failed g.block.items };
 }
 
 impl<F: Flash + Drop> Group<F> {
@@ -107,6 +107,7 @@ impl<F: Flash> Group<F> {
     }
 
     /// The position of the first entry of this run.
+    #[tactic(auto, unfolding(fdp_base::specs::History::fresh))]
     pub fn first(&self) -> u64
         ensures { result ≡ (fresh self.now.book.config).totals.position + 1 }
     {
