@@ -144,16 +144,19 @@ pub fails-to-place : {F : Type 0} (state : F → FlashState) (old new : Seen F) 
     IsTrue (is_there (state_in old.book) g) → book.Completes old.book new.book (entries.Shut g.rg g.ruh ∷ []) ticket.queue g.number g.command (bare statuses.WRITE_FAULT false) moment done →
     moment ≡ (state new.flash).moment → EndsInPlacing state old new ticket g done
 fails-to-place state old new ticket g moment done block so broken kept programs fault there completed moment_is =
-    inr (inr (there, record {
-      completes = completes state old new (entries.Shut g.rg g.ruh ∷ []) ticket.queue g.number g.command (bare statuses.WRITE_FAULT false) moment done block so completed moment_is (record {
-        kept = kept;
-        programs = programs;
-        unplaced = refl;
-        is_error = broken;
-        quiet = sym broken;
-        fault = λ _. fault;
-        no_fault = λ wrong. absurd (false≢true (sym wrong ∙ broken));
-      });
-      reply_is = ap (λ (d : Done). d.reply) completed.done_is;
-      failed = broken;
-    }))
+    inr (inr (
+      there,
+      record {
+        completes = completes state old new (entries.Shut g.rg g.ruh ∷ []) ticket.queue g.number g.command (bare statuses.WRITE_FAULT false) moment done block so completed moment_is (record {
+          kept = kept;
+          programs = programs;
+          unplaced = refl;
+          is_error = broken;
+          quiet = sym broken;
+          fault = λ _. fault;
+          no_fault = λ wrong. absurd (false≢true (sym wrong ∙ broken));
+        });
+        reply_is = ap (λ (d : Done). d.reply) completed.done_is;
+        failed = broken;
+      },
+    ))

@@ -15,7 +15,6 @@ use Rattle.fdp_core.specs.UsedOnce.{IsLegalOnce, IsStepOnce}
 use Rattle.fdp_core.proofs.LegalOnce.{orderly-legal_once}
 use Rattle.fdp_core.proofs.Longer.{cells_of-push, legal_once-push}
 
-
 -- an equal history of an equal drive
 pub sound-as : (f : FlashState) (c d : DriveConfig) (es fs : List Entry) (failed : Bool) (block : List ℕ) → d ≡ c → fs ≡ es → IsSound f c es failed block → IsSound f d fs failed block
 sound-as f c d es fs failed block p q h =

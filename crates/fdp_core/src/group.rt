@@ -8,9 +8,9 @@ ghost use Rattle.fdp_core.specs.BookSteps.{IsFlying};
 ghost use Rattle.fdp_core.specs.UsedOnce.{IsLegalOnce};
 ghost use Rattle.fdp_core.specs.Seen.{HoldsHistory, new_over};
 
-use fdp_base::{DriveConfig, Entry, Totals};
 use crate::book::Book;
 use crate::ticket::Ticket;
+use fdp_base::{DriveConfig, Entry, Totals};
 use fdp_flash::Flash;
 use std::alloc::{AllocError, Global};
 use std::marker::Model;

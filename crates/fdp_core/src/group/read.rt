@@ -50,12 +50,7 @@ impl<F: Flash> Group<F> {
 }
 
 /// Reads blocks for both replies, and says whether that failed.
-fn read_replies<F: Flash>(
-    flash: &mut F,
-    book: &Book,
-    extent: Extent,
-    room: Room,
-) -> (Replies, bool)
+fn read_replies<F: Flash>(flash: &mut F, book: &Book, extent: Extent, room: Room) -> (Replies, bool)
     requires geometry { (F.state flash.old).geometry ≡ geometry_of book.now.config }
     requires cells { IsTrue (F.state flash.old).told → (F.state flash.old).cells ≡ cells_of book.now.config book.now.entries }
     requires room { room ≡ room_for (commands.Read extent.nsid extent.slba extent.count) book.now.config }
@@ -98,7 +93,13 @@ fn read_blocks<F: Flash>(
     for index in 0..extent.count {
         let start = index as usize * size;
         let lba = extent.slba + u64::from(index);
-        read_block(flash, book, extent.nsid, lba, &mut into[start..start + size])?;
+        read_block(
+            flash,
+            book,
+            extent.nsid,
+            lba,
+            &mut into[start..start + size],
+        )?;
     }
     Ok(())
 }

@@ -39,8 +39,11 @@ returns-in-Gone g c going is =
     let new : Seen g.row.F.Denot = record { book = c.end.new.self; failed = old.failed; flash = old.flash } in
     let well = subst (λ (s : Seen g.row.F.Denot). s.failed ≡ false) (sym c.self.view_is) c.requires.sound in
     subst (λ (s : Seen g.row.F.Denot). IsTicketOf (state_in s.book) c.args.ticket going → EndsInPlacing g.F.Flash.state s new c.args.ticket going c.end.result) c.self.view_is
-    (λ here. inl (c.in-Gone.ensures going here, ends-alone g.F.Flash.state (record { book = old.book; failed = old.failed; flash = old.flash }) new c.args.ticket going (bare statuses.INVALID_NAMESPACE false) c.moment-moment.result c.end.result old.block.items
-    (invariant_of-self g c) refl well (c.end.ensures going here) c.moment-moment.ensures refl))
+    (λ here. inl (
+      c.in-Gone.ensures going here,
+      ends-alone g.F.Flash.state (record { book = old.book; failed = old.failed; flash = old.flash }) new c.args.ticket going (bare statuses.INVALID_NAMESPACE false) c.moment-moment.result c.end.result old.block.items
+          (invariant_of-self g c) refl well (c.end.ensures going here) c.moment-moment.ensures refl,
+    ))
     is
 
 pub returns-in-WantsUnit : goal.returns-in-WantsUnit
@@ -49,6 +52,9 @@ returns-in-WantsUnit g c going is =
     let new : Seen g.row.F.Denot = record { book = c.end-in-WantsUnit.new.self; failed = old.failed; flash = old.flash } in
     let well = subst (λ (s : Seen g.row.F.Denot). s.failed ≡ false) (sym c.self.view_is) c.requires.sound in
     subst (λ (s : Seen g.row.F.Denot). IsTicketOf (state_in s.book) c.args.ticket going → EndsInPlacing g.F.Flash.state s new c.args.ticket going c.end-in-WantsUnit.result) c.self.view_is
-    (λ here. inr (inl (c.in-WantsUnit.ensures going here, ends-alone g.F.Flash.state (record { book = old.book; failed = old.failed; flash = old.flash }) new c.args.ticket going (bare statuses.CAPACITY_EXCEEDED false) c.moment-moment-in-WantsUnit.result c.end-in-WantsUnit.result old.block.items
-    (invariant_of-self-in-WantsUnit g c) refl well (c.end-in-WantsUnit.ensures going here) c.moment-moment-in-WantsUnit.ensures refl)))
+    (λ here. inr (inl (
+      c.in-WantsUnit.ensures going here,
+      ends-alone g.F.Flash.state (record { book = old.book; failed = old.failed; flash = old.flash }) new c.args.ticket going (bare statuses.CAPACITY_EXCEEDED false) c.moment-moment-in-WantsUnit.result c.end-in-WantsUnit.result old.block.items
+          (invariant_of-self-in-WantsUnit g c) refl well (c.end-in-WantsUnit.ensures going here) c.moment-moment-in-WantsUnit.ensures refl,
+    )))
     is
