@@ -13,7 +13,7 @@ returns-then-has_no_room c = λ payload.
     let there : is_absent (state_in now) c.args.nsid ≡ false = not-absent now.config (state_in now) c.self.inside.spaces c.args.nsid c.size.result c.is_none.result spaces c.size.ensures.value c.is_none.ensures c.if-is_none.false in
     let room : has_no_room now.config (state_in now) c.args.nsid c.args.slba c.args.count (directed_by c.args.dtype c.args.dspec) ≡ true =
     ap (has_no_room now.config (state_in now) c.args.nsid c.args.slba c.args.count) (sym c.directed_by.ensures) ∙ sym c.has_no_room.ensures ∙ c.if-has_no_room.true in
-    sym (refused-room now.config (point_in now) c.args.nsid c.args.slba c.args.count c.args.dtype c.args.dspec payload true there (sym c.has_bad_field.ensures ∙ c.if-has_bad_field.false) (sym c.is_past_end.ensures ∙ c.if-is_past_end.false) room)
+    sym (refused-room now.config (point_in now) c.args.nsid c.args.slba c.args.count c.args.dtype c.args.dspec payload true there (sym c.has_bad_field.ensures ∙ c.if-has_bad_field.false) (sym c.is_past_end.ensures.value ∙ c.if-is_past_end.false) room)
 
 pub returns : goal.returns
 returns c = λ payload.
@@ -22,4 +22,4 @@ returns c = λ payload.
     let there : is_absent (state_in now) c.args.nsid ≡ false = not-absent now.config (state_in now) c.self.inside.spaces c.args.nsid c.size.result c.is_none.result spaces c.size.ensures.value c.is_none.ensures c.if-is_none.false in
     let room : has_no_room now.config (state_in now) c.args.nsid c.args.slba c.args.count (directed_by c.args.dtype c.args.dspec) ≡ false =
     ap (has_no_room now.config (state_in now) c.args.nsid c.args.slba c.args.count) (sym c.directed_by.ensures) ∙ sym c.has_no_room.ensures ∙ c.if-has_no_room.false in
-    sym (refused-room now.config (point_in now) c.args.nsid c.args.slba c.args.count c.args.dtype c.args.dspec payload false there (sym c.has_bad_field.ensures ∙ c.if-has_bad_field.false) (sym c.is_past_end.ensures ∙ c.if-is_past_end.false) room)
+    sym (refused-room now.config (point_in now) c.args.nsid c.args.slba c.args.count c.args.dtype c.args.dspec payload false there (sym c.has_bad_field.ensures ∙ c.if-has_bad_field.false) (sym c.is_past_end.ensures.value ∙ c.if-is_past_end.false) room)
