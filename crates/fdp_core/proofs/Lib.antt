@@ -25,3 +25,8 @@ pub mod GroupBegins
 pub mod GroupPlacing
 pub mod GroupPlaced
 pub mod GroupFresh
+pub mod Grown
+pub mod UnitsMore
+pub mod PlacedPages
+pub mod HeldPlaced
+pub mod PlaceSteps

@@ -1,13 +1,15 @@
-ghost use Rattle.std.specs.Prelude.{◌≡◌, ◌<◌, [], ◌∷◌, ◌++◌, false, length};
+ghost use Rattle.std.specs.Prelude.{◌≡◌, ◌<◌, [], ◌∷◌, ◌++◌, false, length, slice_set, IsSome, None, Some};
 ghost use Rattle.fdp_base.specs.declared.entry.Entry.TheVariants as entries;
 ghost use Rattle.fdp_base.specs.Answer.{bare};
 ghost use Rattle.fdp_base.specs.PlainState.{Going};
 ghost use Rattle.fdp_core.specs.Book.{state_in};
 ghost use Rattle.fdp_core.specs.BookSteps.{Completes, IsFlying};
+ghost use Rattle.fdp_core.specs.Held.{flight_in};
 ghost use Rattle.fdp_core.specs.Logged.{IsLogged};
 ghost use Rattle.fdp_core.specs.Tickets.{IsTicketOf};
 
 use super::Book;
+use crate::flight::Flight;
 use crate::log::Log;
 use crate::room::Replies;
 use crate::ticket::{Done, Ticket};
@@ -21,7 +23,7 @@ impl Book {
         ensures { (g : Going) → IsTicketOf (state_in self.old) ticket g → Completes self.old self.new [] ticket.queue g.number g.command (bare status false) moment result }
     {
         let queue = ticket.give_up();
-        let flight = self.flights[usize::from(queue)].take().unwrap();
+        let flight = take_flight(&mut self.flights, queue);
         let (command, replies) = flight.room.end(status, false);
         push_host(&mut self.log, queue, flight.number, command, replies, moment)
     }
@@ -33,7 +35,7 @@ impl Book {
         ensures { (g : Going) → IsTicketOf (state_in self.old) ticket g → Completes self.old self.new (entries.Shut g.rg g.ruh ∷ []) ticket.queue g.number g.command (bare status false) moment result }
     {
         let queue = ticket.give_up();
-        let flight = self.flights[usize::from(queue)].take().unwrap();
+        let flight = take_flight(&mut self.flights, queue);
         let (rg, ruh) = (flight.rg, flight.ruh);
         let (command, replies) = flight.room.end(status, false);
         self.handles.shut(rg, ruh);
@@ -48,6 +50,15 @@ impl Book {
         self.log.push_both(Entry::Shut { rg, ruh }, host);
         done(&self.log, moment, answer)
     }
+}
+
+/// The flight in a queue, which is gone from there.
+pub(super) fn take_flight(flights: &mut Vec<Option<Flight>>, queue: u8) -> Flight
+    requires { IsSome (flight_in flights.old.items queue) }
+    ensures flight { flight_in flights.old.items queue ≡ Some result }
+    ensures rest { flights.new.items ≡ slice_set flights.old.items queue None }
+{
+    flights[usize::from(queue)].take().unwrap()
 }
 
 /// The Host entry of a command, as a step of its own, and the answer to it.
