@@ -1,4 +1,6 @@
 pub mod Longer
+pub mod Configuring
+pub mod HeldFresh
 pub mod HeldSums
 pub mod HeldAt
 pub mod Alike

@@ -8,6 +8,7 @@ pub mod Book
 pub mod Tickets
 pub mod BookSteps
 pub mod Reading
+pub mod Configured
 pub mod Held
 pub mod Flown
 pub mod Seen
