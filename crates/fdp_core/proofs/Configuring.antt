@@ -1,5 +1,5 @@
 -- The namespaces that a drive is made with, one after another.
-use Rattle.std.proofs.Common.{◌≡◌, ℕ, zero, suc, ◌+◌, ◌-◌, ◌*◌, ◌<◌, ◌≤◌, Bool, true, false, cond, List, [], ◌∷◌, length, take, get_or, Option, None, Some, refl, ap, sym, ◌∙◌, arith, add-one}
+use Rattle.std.proofs.Common.{◌≡◌, ℕ, zero, suc, ◌+◌, ◌-◌, ◌*◌, ◌<◌, ◌≤◌, Bool, true, false, cond, List, [], ◌∷◌, length, take, get_or, Option, None, Some, refl, ap, sym, subst, ◌∙◌, arith, add-one}
 use Rattle.std.specs.Prelude.{◌==◌, option_map}
 use Rattle.std.proofs.lemmas.Bool.Decides.{nat_tests}
 use Rattle.fdp_base.specs.declared.config.DriveConfig.{DriveConfig}
@@ -62,20 +62,26 @@ listing-next made groups i old new n d below is same put h = record {
 -- the first namespaces have places, and no block is there
 pub record IsRoomy (made : List NamespaceConfig) (i : ℕ) (x : MapTable) : Type 0 where
   pub sizes : (nsid : ℕ) → size_in x nsid ≡ size_of_some (namespaces_from 1 (take i made) nsid)
+  pub most : (nsid : ℕ) → size_in x nsid ≤ 262144
   pub absent : (nsid lba : ℕ) → mapped_at x nsid lba ≡ None
+
+either-few : (b : Bool) (m n : ℕ) → m ≤ 262144 → n ≤ 262144 → cond b m n ≤ 262144
+either-few true m n h k = h
+either-few false m n h k = k
 
 size_of-either : (b : Bool) (x : Namespace) (o : Option Namespace) → size_of_some (cond b (Some x) o) ≡ cond b x.size (size_of_some o)
 size_of-either true x o = refl
 size_of-either false x o = refl
 
-pub roomy-next : (made : List NamespaceConfig) (i : ℕ) (old new : MapTable) (size : ℕ) (d : NamespaceConfig) → i < length made → size ≡ (get_or made i d).blocks → size_in new ≡ with_at (size_in old) (i + 1) size → mapped_at new ≡ mapped_at old → IsRoomy made i old → IsRoomy made (i + 1) new
-roomy-next made i old new size d below is put same h = record {
+pub roomy-next : (made : List NamespaceConfig) (i : ℕ) (old new : MapTable) (size : ℕ) (d : NamespaceConfig) → i < length made → size ≡ (get_or made i d).blocks → size ≤ 262144 → size_in new ≡ with_at (size_in old) (i + 1) size → mapped_at new ≡ mapped_at old → IsRoomy made i old → IsRoomy made (i + 1) new
+roomy-next made i old new size d below is few put same h = record {
   sizes = λ nsid.
       ap (λ (f : ℕ → ℕ). f nsid) put
       ∙ ap (λ (m : ℕ). cond (nsid == i + 1) m (size_in old nsid)) is
       ∙ ap (λ (m : ℕ). cond (nsid == i + 1) (get_or made i d).blocks m) (h.sizes nsid)
       ∙ sym (size_of-either (nsid == i + 1) (made_as (get_or made i d)) (namespaces_from 1 (take i made) nsid))
       ∙ ap size_of_some (sym (more_at made i nsid d below));
+  most = λ nsid. subst (λ (f : ℕ → ℕ). f nsid ≤ 262144) (sym put) (either-few (nsid == i + 1) size (size_in old nsid) few (h.most nsid));
   absent = λ nsid lba. ap (λ (f : ℕ → ℕ → Option _). f nsid lba) same ∙ h.absent nsid lba;
 }
 

@@ -1,29 +1,26 @@
 -- The tables of a book before its first entry.
-use Rattle.std.proofs.Common.{◌≡◌, ℕ, zero, suc, ◌+◌, ◌*◌, ◌<◌, ◌≤◌, false, List, [], length, Option, None, Some, refl, ap, sym, subst, ◌∙◌, arith, replicate}
+use Rattle.std.proofs.Common.{◌≡◌, ℕ, zero, suc, ◌+◌, ◌*◌, ◌<◌, ◌≤◌, List, [], Option, None, Some, refl, ap, sym, subst, ◌∙◌, arith, replicate}
 use Rattle.std.specs.Prelude.{option_map, slice_get, slice_index}
 use Rattle.std.proofs.lemmas.List.{length-replicate}
 use Rattle.std.proofs.lemmas.Option.{none-some}
 use Rattle.fdp_base.specs.declared.config.DriveConfig.{DriveConfig}
-use Rattle.fdp_base.specs.declared.entry.Entry.{Entry}
 use Rattle.fdp_base.specs.Config.{IsValidConfig}
 use Rattle.fdp_base.specs.Effect.{no_reference}
 use Rattle.fdp_base.specs.Geometry.{all_pages}
 use Rattle.fdp_base.specs.History.{first_state, fresh, point_of, state_of}
 use Rattle.fdp_base.specs.Placement.{geometry_of}
-use Rattle.fdp_base.specs.PlainState.{Block, Going}
 use Rattle.fdp_flash.specs.declared.cell.Cell.TheVariants.{Blank}
 use Rattle.fdp_flash.proofs.Lists.{slice_get-replicate}
 use Rattle.fdp_history.proofs.Fresh.{orderly-fresh, standing-fresh}
 use Rattle.fdp_handles.specs.HandleTable.{HandleTable, reference_at}
-use Rattle.fdp_map.specs.MapTable.{MapTable, mapped_at, size_in}
+use Rattle.fdp_map.specs.MapTable.{MapTable}
 use Rattle.fdp_map.specs.declared.mapped.Mapped.{Mapped}
 use Rattle.fdp_spaces.specs.SpaceTable.{SpaceTable}
-use Rattle.fdp_core.specs.declared.book.Setting.{Setting}
-use Rattle.fdp_core.specs.declared.book.Sums.{Sums}
 use Rattle.fdp_core.specs.declared.flight.Flight.{Flight}
 use Rattle.fdp_core.specs.Configured.{AreConfiguredSpaces, IsConfiguredMap}
-use Rattle.fdp_core.specs.Held.{AreFlightsOf, AreUnitsOf, IsFlightOf, IsHeld, IsMapOf, IsMappedAs, flight_in, going_of}
+use Rattle.fdp_core.specs.Held.{AreFlightsOf, AreUnitsOf, IsHeld, IsMapOf, IsMappedAs, flight_in, going_of}
 use Rattle.fdp_core.specs.Pages.{blank_cells, cells_from, cells_of}
+use Rattle.std.proofs.lemmas.Nat.{mul-le, row_fits}
 use Rattle.fdp_core.proofs.Units.{unit-below}
 
 -- no flight is in a row of empty ones
@@ -48,7 +45,10 @@ module _ (c : DriveConfig) (valid : IsValidConfig c) where
 
   blank-at : (unit page : ℕ) → unit < c.groups * c.units → page < c.unit_pages → slice_get (blank_cells c) (unit * c.unit_pages + page) ≡ Some Blank
   unfolding blank_cells
-  blank-at unit page below in_unit = slice_get-replicate (all_pages (geometry_of c)) (unit * c.unit_pages + page) Blank ?
+  blank-at unit page below in_unit =
+      let row : unit * c.unit_pages + c.unit_pages ≤ c.groups * c.units * c.unit_pages = row_fits unit c.unit_pages (c.groups * c.units) c.unit_pages below (omega arith) in
+      let all = mul-le c.unit_pages (c.groups * c.units) c.unit_pages (c.groups * c.units + 2 * c.area_units) (omega arith) (omega arith) in
+      slice_get-replicate (all_pages (geometry_of c)) (unit * c.unit_pages + page) Blank (omega (arith, row, all, in_unit))
 
   units-fresh : AreUnitsOf c [] (point_of c (fresh c) []).state (cells_of c []) (replicate c.groups 0)
   unfolding point_of state_of first_state cells_of cells_from blank_cells
@@ -69,6 +69,7 @@ module _ (c : DriveConfig) (valid : IsValidConfig c) where
   unfolding point_of state_of first_state fresh
   map-fresh x h = record {
     sizes = λ nsid. sym (h.sizes nsid);
+    most = h.most;
     blocks = λ nsid lba. subst (λ (m : Option Mapped). IsMappedAs c (point_of c (fresh c) []) (cells_of c []) nsid lba None m) (sym (h.absent nsid lba)) tt;
   }
 
@@ -83,7 +84,7 @@ module _ (c : DriveConfig) (valid : IsValidConfig c) where
     orderly = orderly-fresh c valid;
     standing = standing-fresh c;
     setting_is = record { enabled = refl; index = refl; generation = refl };
-    sums_are = record { host_blocks_are = refl; media_blocks_are = refl; no_erases = refl };
+    sums_are = record { host_blocks_are = refl; media_blocks_are = refl; no_erases = refl; few_host_blocks = omega arith; few_media_blocks = omega arith };
     all_units = record { kept = λ unit. refl; unworn = λ rg. refl };
     spaces_are = record { groups = sym s.groups; namespaces = λ nsid. sym (s.namespaces nsid) };
     handles_are = record { unit_pages = sym unit_pages; groups = sym groups; references = λ rg ruh. sym (references rg ruh) };

@@ -34,4 +34,5 @@ pub record AreConfiguredSpaces (c : DriveConfig) (x : SpaceTable) : Type 0 where
 -- the table has a place for each of their blocks, and no block
 pub record IsConfiguredMap (c : DriveConfig) (x : MapTable) : Type 0 where
   pub sizes : (nsid : ℕ) → size_in x nsid ≡ size_of_some (namespaces_from 1 c.namespaces nsid)
+  pub most : (nsid : ℕ) → size_in x nsid ≤ 262144
   pub absent : (nsid lba : ℕ) → mapped_at x nsid lba ≡ None

@@ -64,7 +64,13 @@ impl Book {
             rg,
             ruh,
         };
-        put_pages(&mut self.map, extent.nsid, extent.slba, first, pages.as_slice());
+        put_pages(
+            &mut self.map,
+            extent.nsid,
+            extent.slba,
+            first,
+            pages.as_slice(),
+        );
         self.sums.host_blocks += u64::from(extent.count);
         push_host(&mut self.log, queue, number, command, replies, moment)
     }

@@ -25,7 +25,14 @@ impl Book {
         let queue = ticket.give_up();
         let flight = take_flight(&mut self.flights, queue);
         let (command, replies) = flight.room.end(status, false);
-        push_host(&mut self.log, queue, flight.number, command, replies, moment)
+        push_host(
+            &mut self.log,
+            queue,
+            flight.number,
+            command,
+            replies,
+            moment,
+        )
     }
 
     /// A going write ends with this status and changes nothing, in the step in which its handle is shut.

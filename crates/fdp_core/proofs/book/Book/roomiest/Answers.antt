@@ -15,9 +15,9 @@ loop-rg-preserved c =
     let budgets : ℕ → ℕ = budget now.config (state_in now) in
     let stores : ℕ → ℕ = stored (state_in now) in
     elim c.if-has_more_room.branch [
-      then-has_more_room w ↦ subst (IsRoomiest budgets stores (c.loop-rg.rg + 1)) (sym w.best-is)
+      | then-has_more_room w ↦ subst (IsRoomiest budgets stores (c.loop-rg.rg + 1)) (sym w.best-is)
           (roomiest-more budgets stores c.loop-rg.rg c.loop-rg.best c.loop-rg.invariant (ltb-true _ _ (sym c.has_more_room.ensures ∙ w.if-has_more_room.true)))
-    | else-has_more_room w ↦ subst (IsRoomiest budgets stores (c.loop-rg.rg + 1)) (sym w.best-is)
+      | else-has_more_room w ↦ subst (IsRoomiest budgets stores (c.loop-rg.rg + 1)) (sym w.best-is)
           (roomiest-no_more budgets stores c.loop-rg.rg c.loop-rg.best c.loop-rg.invariant (ltb-false _ _ (sym c.has_more_room.ensures ∙ w.if-has_more_room.false)))
     ]
 

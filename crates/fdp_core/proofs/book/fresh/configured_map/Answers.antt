@@ -8,6 +8,7 @@ use Rattle.fdp_core.proofs.book.fresh.configured_map.Goals as goal
 pub loop-place-init : goal.loop-place-init
 loop-place-init c = record {
   sizes = c.in_ok-map.ensures.sizes;
+  most = λ nsid. omega (arith, c.in_ok-map.ensures.sizes nsid);
   absent = c.in_ok-map.ensures.blocks;
 }
 
@@ -31,7 +32,7 @@ loop-place-preserved c =
     let namespace = c.index-namespaces-place.result in
     let below : place < length made = omega (arith, c.loop-place-test.true, ap length c.as_slice-namespaces.ensures) in
     let is : (get_or c.as_slice-namespaces.result.now place namespace).blocks ≡ (get_or made place namespace).blocks = ap (λ (xs : List NamespaceConfig). (get_or xs place namespace).blocks) c.as_slice-namespaces.ensures in
-    roomy-next made place c.loop-place.map c.add.new.self _ namespace below is c.in_ok-add.ensures.sizes c.in_ok-add.ensures.blocks c.loop-place.invariant
+    roomy-next made place c.loop-place.map c.add.new.self _ namespace below is (subst (λ (xs : List NamespaceConfig). (get_or xs place namespace).blocks ≤ 262144) (sym c.as_slice-namespaces.ensures) (blocks-few c.args.config.now c.requires place namespace below)) c.in_ok-add.ensures.sizes c.in_ok-add.ensures.blocks c.loop-place.invariant
 
 pub returns : goal.returns
 returns c =
@@ -39,5 +40,6 @@ returns c =
     let all : take c.loop-place.place made ≡ made = take_all c.loop-place.place made (omega (arith, c.loop-place-test.false, ap length c.as_slice-namespaces.ensures)) in
     record {
       sizes = λ nsid. c.loop-place.invariant.sizes nsid ∙ ap (λ (xs : List NamespaceConfig). size_of_some (namespaces_from 1 xs nsid)) all;
+      most = c.loop-place.invariant.most;
       absent = c.loop-place.invariant.absent;
     }
