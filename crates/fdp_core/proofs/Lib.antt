@@ -32,3 +32,7 @@ pub mod UnitsMore
 pub mod PlacedPages
 pub mod HeldPlaced
 pub mod PlaceSteps
+pub mod Verdicts
+pub mod Lasting
+pub mod HeldShut
+pub mod Endings
