@@ -36,3 +36,4 @@ pub mod Verdicts
 pub mod Lasting
 pub mod HeldShut
 pub mod Endings
+pub mod Going
