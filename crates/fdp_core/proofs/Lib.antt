@@ -37,3 +37,6 @@ pub mod Lasting
 pub mod HeldShut
 pub mod Endings
 pub mod Going
+pub mod PutPages
+pub mod Committed
+pub mod HeldCommitted
