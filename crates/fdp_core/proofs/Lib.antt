@@ -40,3 +40,4 @@ pub mod Going
 pub mod PutPages
 pub mod Committed
 pub mod HeldCommitted
+pub mod Committing

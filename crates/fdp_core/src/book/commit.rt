@@ -71,8 +71,9 @@ impl Book {
             first,
             pages.as_slice(),
         );
+        let done = push_host(&mut self.log, queue, number, command, replies, moment);
         self.sums.host_blocks += u64::from(extent.count);
-        push_host(&mut self.log, queue, number, command, replies, moment)
+        done
     }
 }
 
