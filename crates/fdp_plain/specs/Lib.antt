@@ -1,0 +1,6 @@
+pub mod Run
+pub mod Rows
+pub mod Standing
+pub mod Refusing
+pub mod Reserved
+pub mod Prepared
