@@ -1,5 +1,6 @@
 pub mod Run
 pub mod Rows
+pub mod Longer
 pub mod Standing
 pub mod Refusing
 pub mod Reserved

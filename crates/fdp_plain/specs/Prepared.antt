@@ -1,14 +1,10 @@
 -- What is made for an entry before anything changes.
-use Rattle.std.specs.Prelude.{◌≡◌, ℕ, MatchBool, None, replicate, true}
-use Rattle.fdp_base.specs.declared.command.Command.{Command}
+use Rattle.std.specs.Prelude.{◌≡◌, ℕ, None, replicate}
 use Rattle.fdp_base.specs.declared.entry.Entry.{Entry}
 use Rattle.fdp_base.specs.declared.entry.Entry.TheVariants as entries
-use Rattle.fdp_base.specs.declared.entry.Reply.{Reply}
-use Rattle.fdp_base.specs.Step.{IsHost}
 use Rattle.fdp_base.specs.Totals.{blocks_written}
 use Rattle.fdp_tables.specs.declared.state.Kept.{Kept}
 use Rattle.fdp_tables.specs.Ready.{IsChangeReady}
-use Rattle.fdp_tables.specs.State.{point_kept}
 use Rattle.fdp_plain.specs.declared.prepare.Prepared.{Prepared}
 
 -- how many pages are to be written for an entry: those of a write that it lets go
@@ -25,8 +21,7 @@ pages_of (entries.Shut rg ruh) = 0
 pages_of (entries.Worn rg) = 0
 pages_of entries.Reopened = 0
 
--- an entry, a place for each page that is to be written for it, and what its change needs
-pub record IsPrepared (k : Kept) (e : Entry) (x : Prepared) : Type 0 where
-  pub entry : x.entry ≡ e
-  pub pages : x.pages.items ≡ replicate (pages_of e) None
-  pub ready : IsChangeReady k e x.made.blocks.items x.made.space x.made.going
+-- what the change of an entry needs, and a place for each page that is to be written for it
+pub record IsPrepared (k : Kept) (x : Prepared) : Type 0 where
+  pub ready : IsChangeReady k x.entry x.made.blocks.items x.made.space x.made.going
+  pub pages : x.pages.items ≡ replicate (pages_of x.entry) None

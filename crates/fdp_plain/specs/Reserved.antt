@@ -40,9 +40,9 @@ abbrev pub HasMomentSpare : Kept → Type 0
 HasMomentSpare k = vec_len k.media < vec_capacity k.media
 
 -- there is spare room for an entry and for so many events
-pub record HasSpare (k : Kept) (e : Entry) (events : ℕ) : Type 0 where
+pub record HasSpare (k : Kept) (e : Entry) (count : ℕ) : Type 0 where
   pub entries : vec_len k.entries < vec_capacity k.entries
-  pub events : vec_len k.events + events ≤ vec_capacity k.events
+  pub events : vec_len k.events + count ≤ vec_capacity k.events
   pub moment : HasMomentSpare k
   pub sites : vec_len k.sites < vec_capacity k.sites
   pub copy : HasCopySpare k e

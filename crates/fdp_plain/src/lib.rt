@@ -2,6 +2,7 @@
 #![tactic(auto)]
 
 mod commit;
+mod copied;
 mod plain;
 mod prepare;
 mod refused;

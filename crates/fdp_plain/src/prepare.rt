@@ -1,4 +1,4 @@
-ghost use Rattle.std.specs.Prelude.{◌≡◌, true, None, IfOk, replicate};
+ghost use Rattle.std.specs.Prelude.{◌≡◌, ℕ, true, None, IfOk, replicate};
 ghost use Rattle.fdp_base.specs.Events.{kept_of_entry};
 ghost use Rattle.fdp_tables.specs.Ready.{IsChangeReady, IsHostReady};
 ghost use Rattle.fdp_tables.specs.Sound.{IsSound};
@@ -7,6 +7,7 @@ ghost use Rattle.fdp_base.specs.Step.{Follows, IsHost};
 ghost use Rattle.fdp_plain.specs.Prepared.{IsPrepared, pages_of};
 ghost use Rattle.fdp_plain.specs.Reserved.{HasMomentSpare};
 
+use crate::copied::copied;
 use fdp_base::{Command, Entry, Event, Reply, Spot};
 use fdp_tables::{Kept, Made, blocks_written};
 use std::alloc::{AllocError, Global};
@@ -27,12 +28,13 @@ pub(crate) fn prepare(kept: &Kept, alloc: Global, entry: &Entry) -> Result<Prepa
     requires sound { IsSound kept.now }
     requires follows { Follows true kept.now.config (point_kept kept.now) entry.now }
     requires moment { HasMomentSpare kept.now }
-    ensures { IfOk result (λ prepared. IsPrepared kept.now entry.now prepared) }
+    ensures entry { IfOk result (λ prepared. prepared.entry ≡ entry.now) }
+    ensures ready { IfOk result (λ prepared. IsPrepared kept.now prepared) }
 {
     Ok(Prepared {
         made: make(kept, alloc, entry)?,
         pages: no_pages(alloc, pages_of(entry))?,
-        entry: copy_of(entry)?,
+        entry: copied(alloc, entry)?,
     })
 }
 
@@ -152,10 +154,4 @@ fn no_pages(alloc: Global, count: u32) -> Result<Vec<Option<Spot>>, AllocError>
         pages.push(None)?;
     }
     Ok(pages)
-}
-
-fn copy_of(entry: &Entry) -> Result<Entry, AllocError>
-    ensures { IfOk result (λ copy. copy ≡ entry.now) }
-{
-    entry.clone()
 }

@@ -1,0 +1,14 @@
+-- Rows that get spare room hold what they held.
+use Rattle.std.proofs.Common.{◌≡◌, ℕ, ◌<◌, List, length, get_or, set, Some, slice_get, ap, sym, ◌∙◌, arith, map}
+use Rattle.std.proofs.Math.Seq.{map-set_same}
+use Rattle.std.proofs.lemmas.Grind.{common_steps}
+use Rattle.std.proofs.lemmas.Option.{gets}
+use Rattle.std.proofs.lemmas.Bool.Decides.{nat_tests}
+
+-- a row in place of one that reads as it does
+pub same_rows : {V X : Type 0} (read : V → X) (xs : List V) (i : ℕ) (v w : V) → v ≡ get_or xs i v → read w ≡ read v → map read (set xs i w) ≡ map read xs
+same_rows read xs i v w at e = map-set_same read xs i w v (e ∙ ap read at)
+
+-- the row that was put there
+pub put_row : {V : Type 0} (xs : List V) (i : ℕ) (w : V) → i < length xs → slice_get (set xs i w) i ≡ Some w
+put_row xs i w there = grind (arith, common_steps, gets, nat_tests)
