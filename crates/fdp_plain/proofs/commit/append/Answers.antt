@@ -1,7 +1,4 @@
-use Rattle.std.proofs.Common.{◌++◌, arith, refl, sym, ◌∙◌, ap, append_assoc, List}
-use mathlib.Core.List.{append-nil}
-use Rattle.std.proofs.lemmas.List.{take_more, take-all}
-use Rattle.fdp_base.specs.declared.event.Event.{Event}
+use Rattle.std.proofs.Common.{arith}
 use Rattle.fdp_plain.proofs.commit.append.Goals as goal
 
 pub push_reserved-requires : goal.push_reserved-requires
