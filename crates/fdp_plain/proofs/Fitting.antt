@@ -1,5 +1,5 @@
 -- An entry that may follow has its rows among the sites and the copies.
-use Rattle.std.proofs.Common.{◌≡◌, ℕ, ◌+◌, ◌*◌, ◌<◌, ◌≤◌, true, length, List, Option, Some, None, refl, arith, subst, sym, ◌∙◌}
+use Rattle.std.proofs.Common.{◌≡◌, ℕ, ◌*◌, ◌<◌, ◌^◌, true, length, List, Option, Some, None, refl, arith, subst, sym}
 use Rattle.std.specs.Prelude.{slice_get, ◌/◌}
 use Rattle.std.specs.Option.{IfSome, IsSomeAnd}
 use Rattle.std.proofs.Math.Nat.{div-lt_iff_lt-mul}
@@ -9,11 +9,27 @@ use Rattle.fdp_base.specs.declared.entry.Entry.TheVariants as entries
 use Rattle.fdp_base.specs.Step.{Follows, IsDataUnit}
 use Rattle.fdp_base.specs.Totals.{blocks_written}
 use Rattle.fdp_tables.specs.declared.state.Kept.{Kept}
+use Rattle.fdp_tables.specs.Counted.{HasCountRoom}
 use Rattle.fdp_tables.specs.Keeping.{HasEvents}
-use Rattle.fdp_tables.specs.Places.{HasGroupOf, HasPlaces}
+use Rattle.fdp_tables.specs.Places.{HasCopyRoom, HasGroup, HasGroupOf, HasPage, HasPlaces}
 use Rattle.fdp_tables.specs.Sound.{IsSound}
 use Rattle.fdp_tables.specs.State.{point_kept}
 use Rattle.fdp_plain.specs.Reserved.{HasCopyGroup, HasCopySpare}
+
+-- the tables k with what a change left in a
+abbrev pub with_change : Kept → Kept → Kept
+with_change k a = record k {
+  enabled = a.enabled;
+  index = a.index;
+  generation = a.generation;
+  reports = a.reports;
+  spaces = a.spaces;
+  references = a.references;
+  going = a.going;
+  lost = a.lost;
+  worn = a.worn;
+  media = a.media;
+}
 
 -- a unit of the drive lies in one of its groups
 pub group_below : (groups units unit : ℕ) → 0 < units → unit < groups * units → unit / units < groups
@@ -86,3 +102,29 @@ places_there k (entries.Aside unit) h f spare = group_there k h unit f.data_unit
 places_there k (entries.Shut rg ruh) h f spare = tt
 places_there k (entries.Worn rg) h f spare = rw h.copies f
 places_there k entries.Reopened h f spare = tt
+
+-- the rows of sites and copies are those of before a change
+pub same_places : (k m : Kept) (e : Entry) → m ≡ with_change k m → HasPlaces k e → HasPlaces m e
+same_places k m (entries.Host queue number command reply moment) rest h = tt
+same_places k m (entries.Started queue number command rg ruh pid_valid) rest h = tt
+same_places k m (entries.Placed ticket index unit page) rest h = subst (λ (x : Kept). HasPage x ticket index) (sym rest) (record { ticket_is = h.ticket_is; index_is = h.index_is })
+same_places k m (entries.Copied old new) rest h = subst (λ (x : Kept). HasCopyRoom x old.unit) (sym rest) (record { group = record { units = h.group.units; group = h.group.group }; room = h.room })
+same_places k m (entries.Moved rg blocks) rest h = subst (λ (x : Kept). HasGroup x rg) (sym rest) h
+same_places k m (entries.Erased unit) rest h = subst (λ (x : Kept). HasGroupOf x unit) (sym rest) (record { units = h.units; group = h.group })
+same_places k m (entries.Retired unit) rest h = subst (λ (x : Kept). HasGroupOf x unit) (sym rest) (record { units = h.units; group = h.group })
+same_places k m (entries.Aside unit) rest h = subst (λ (x : Kept). HasGroupOf x unit) (sym rest) (record { units = h.units; group = h.group })
+same_places k m (entries.Shut rg ruh) rest h = tt
+same_places k m (entries.Worn rg) rest h = subst (λ (x : Kept). HasGroup x rg) (sym rest) h
+same_places k m entries.Reopened rest h = tt
+
+-- the sums of a history of fewer than 2 ^ 64 entries have room for an entry more
+pub counts_there : (k a b : Kept) → IsSound k → a ≡ with_change k a → b ≡ record a { sites = b.sites; copies = b.copies } → HasCountRoom b
+counts_there k a b h changed traced =
+    let few : length k.entries.items < 2 ^ 64 = omega (arith, k.entries.ok, k.entries.small) in
+    let first : HasCountRoom k = record {
+      host_blocks = omega (arith, h.host_blocks, few);
+      media_blocks = omega (arith, h.media_blocks, few);
+      erases = omega (arith, h.erases, few);
+    } in
+    let second : HasCountRoom a = subst HasCountRoom (sym changed) (record { host_blocks = first.host_blocks; media_blocks = first.media_blocks; erases = first.erases }) in
+    subst HasCountRoom (sym traced) (record { host_blocks = second.host_blocks; media_blocks = second.media_blocks; erases = second.erases })

@@ -1,6 +1,6 @@
 -- What the change of an entry stands on follows from that the entry may follow.
-use Rattle.std.proofs.Common.{◌≡◌, ℕ, ◌+◌, ◌*◌, ◌<◌, ◌≤◌, ◌^◌, Bool, true, false, List, ◌∷◌, length, Option, Some, None, refl, sym, ◌∙◌, ap, subst, arith}
-use Rattle.std.specs.Prelude.{◌==◌, ◌/◌, is_none, is_some, find, option_and_then, option_map, slice_get, slice_index}
+use Rattle.std.proofs.Common.{◌≡◌, ℕ, ◌+◌, ◌<◌, ◌≤◌, ◌^◌, Bool, true, false, List, length, Option, Some, None, refl, sym, ap, subst, arith}
+use Rattle.std.specs.Prelude.{◌==◌, is_none, is_some, find, option_and_then, option_map, slice_get}
 use Rattle.std.specs.List.{list_all}
 use Rattle.std.specs.Option.{IfSome, IsSomeAnd, option_flatten, option_map_or}
 use Rattle.std.proofs.lemmas.Bool.{leb-false, or_parts}
@@ -24,10 +24,10 @@ use Rattle.fdp_tables.specs.declared.state.Kept.{Kept}
 use Rattle.fdp_tables.specs.declared.state.KeptBlock.{KeptBlock}
 use Rattle.fdp_tables.specs.declared.state.KeptGoing.{KeptGoing}
 use Rattle.fdp_tables.specs.declared.state.Space.{Space}
-use Rattle.fdp_tables.specs.Going.{HasRoomFor, IsHandlePlace}
+use Rattle.fdp_tables.specs.Going.{IsHandlePlace}
 use Rattle.fdp_tables.specs.Making.{AreBlocksOf, IsCreated, IsSpaceOf}
 use Rattle.fdp_tables.specs.Ready.{HasSpace, IsAsAsked, IsChangeReady, IsHostReady, IsPlaceReady, IsReady}
-use Rattle.fdp_tables.specs.Sound.{IsSound, IsSoundGoing}
+use Rattle.fdp_tables.specs.Sound.{IsSound}
 use Rattle.fdp_tables.specs.State.{going_of, namespace_of, plain_of, point_kept, row}
 use Rattle.fdp_tables.proofs.Accepted.{none_holds}
 use Rattle.fdp_tables.proofs.Beginning.{few_handles}

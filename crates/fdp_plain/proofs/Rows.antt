@@ -1,12 +1,11 @@
 -- The rows of the tables after an entry.
-use Rattle.std.proofs.Common.{◌≡◌, ◌⊎◌, inl, inr, ℕ, ◌+◌, ◌<◌, Bool, true, false, cond, List, Option, None, Some, refl, sym, ◌∙◌, ap, arith, ⊎_elim}
-use Rattle.std.specs.Prelude.{◌==◌, if◌then◌else◌, option_map, slice_get, length}
-use Rattle.std.specs.Option.{option_map_or}
+use Rattle.std.proofs.Common.{◌≡◌, ◌⊎◌, inl, inr, ℕ, ◌+◌, ◌<◌, Bool, true, false, cond, List, Option, None, Some, refl, sym, ◌∙◌, ap, ⊎_elim}
+use Rattle.std.specs.Prelude.{if◌then◌else◌, option_map, slice_get, length}
 use Rattle.std.proofs.lemmas.Option.{slice_get_within}
 use Rattle.fdp_base.specs.declared.config.DriveConfig.{DriveConfig}
 use Rattle.fdp_base.specs.declared.entry.Entry.{Entry}
 use Rattle.fdp_base.specs.declared.entry.Entry.TheVariants as entries
-use Rattle.fdp_base.specs.Change.{changed_by, holds_ticket, one_more_placed, placed_going, started}
+use Rattle.fdp_base.specs.Change.{changed_by, holds_ticket, one_more_placed, started}
 use Rattle.fdp_base.specs.CommandKinds.{is_write}
 use Rattle.fdp_base.specs.Numbers.{with_at}
 use Rattle.fdp_base.specs.PlainState.{Going, PlainState}

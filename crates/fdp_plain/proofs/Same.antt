@@ -1,5 +1,5 @@
 -- Lists that have other spare room say the same.
-use Rattle.std.proofs.Common.{◌≡◌, ℕ, ◌+◌, true, false, not, Global, Vec, List, [], length, Option, None, Some, refl, sym, ◌∙◌, ap, subst, map, reverse}
+use Rattle.std.proofs.Common.{◌≡◌, ℕ, true, false, not, Global, Vec, List, [], length, Option, None, Some, refl, sym, ◌∙◌, ap, subst, map, reverse}
 use Rattle.std.specs.Prelude.{filter, option_and_then, option_map, slice_get}
 use Rattle.std.specs.Option.{option_map_or}
 use Rattle.std.specs.Vec.{vec_items}
@@ -8,17 +8,14 @@ use Rattle.std.proofs.lemmas.Option.{slice_get-map}
 use Rattle.fdp_base.specs.declared.config.DriveConfig.{DriveConfig}
 use Rattle.fdp_base.specs.declared.entry.Entry.{Entry}
 use Rattle.fdp_base.specs.declared.entry.Spot.{Spot}
-use Rattle.fdp_base.specs.Config.{IsValidConfig}
 use Rattle.fdp_base.specs.declared.event.Event.{Event}
 use Rattle.fdp_base.specs.Events.{is_host_event, latest}
 use Rattle.fdp_base.specs.History.{fresh, point_of}
-use Rattle.fdp_base.specs.Legal.{IsLegal}
 use Rattle.fdp_base.specs.PlainState.{PageName, PageName.found, PageName.written, PlainState}
-use Rattle.fdp_base.specs.Point.{Copy, Point}
+use Rattle.fdp_base.specs.Point.{Point}
 use Rattle.fdp_base.specs.Sites.{trail_of}
 use Rattle.fdp_base.specs.Step.{Follows}
 use Rattle.fdp_tables.specs.declared.state.Kept.{Kept}
-use Rattle.fdp_tables.specs.Rows.{places_of}
 use Rattle.fdp_tables.specs.State.{copies_at, copy_of, plain_of, point_kept, row, site_at}
 use Rattle.fdp_plain.specs.Reserved.{IsSame}
 use Rattle.fdp_plain.specs.Rows.{HasRows}

@@ -4,11 +4,10 @@ use Rattle.std.specs.Prelude.{option_map, slice_index}
 use Rattle.std.specs.Option.{IsSomeAnd, option_map_or}
 use Rattle.fdp_base.specs.declared.config.DriveConfig.{DriveConfig}
 use Rattle.fdp_base.specs.Config.{IsValidConfig}
-use Rattle.fdp_base.specs.History.{fresh, point_of}
-use Rattle.fdp_base.specs.PlainState.{Going, Namespace, PlainState}
+use Rattle.fdp_base.specs.PlainState.{Namespace, PlainState}
 use Rattle.fdp_base.specs.Room.{handles_in_force}
 use Rattle.fdp_tables.specs.declared.state.Kept.{Kept}
-use Rattle.fdp_tables.specs.Sound.{IsSound, IsSoundGoing}
+use Rattle.fdp_tables.specs.Sound.{IsSound}
 use Rattle.fdp_tables.specs.State.{plain_of, point_kept}
 use Rattle.fdp_tables.proofs.Beginning.{each_known, few_handles}
 use Rattle.fdp_history.specs.Orderly.{IsOrderly}

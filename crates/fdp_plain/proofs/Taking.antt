@@ -1,10 +1,9 @@
 -- What an entry leaves in the tables is what it makes of all that stands.
-use Rattle.std.proofs.Common.{◌≡◌, ℕ, ◌+◌, ◌*◌, ◌<◌, ◌++◌, ◌∷◌, [], true, false, Bool, not, List, length, Option, Some, refl, sym, ◌∙◌, ap, subst, arith, length-append}
+use Rattle.std.proofs.Common.{◌≡◌, ℕ, ◌+◌, ◌*◌, ◌<◌, ◌++◌, ◌∷◌, [], true, false, Bool, not, List, length, Some, sym, ◌∙◌, ap, subst, length-append}
 use Rattle.std.specs.Prelude.{filter}
 use Rattle.std.proofs.lemmas.List.Elements.{filter-append}
 use Rattle.fdp_base.specs.declared.config.DriveConfig.{DriveConfig}
 use Rattle.fdp_base.specs.declared.entry.Entry.{Entry}
-use Rattle.fdp_base.specs.declared.entry.Spot.{Spot}
 use Rattle.fdp_base.specs.declared.event.Event.{Event}
 use Rattle.fdp_base.specs.Change.{after, changed_by}
 use Rattle.fdp_base.specs.Config.{IsValidConfig}
@@ -13,7 +12,7 @@ use Rattle.fdp_base.specs.History.{fresh, point_of}
 use Rattle.fdp_base.specs.Legal.{IsLegal}
 use Rattle.fdp_base.specs.Next.{next}
 use Rattle.fdp_base.specs.PlainState.{Going, PageName, PageName.found, PageName.written, PlainState}
-use Rattle.fdp_base.specs.Point.{Copy, Point, Trail}
+use Rattle.fdp_base.specs.Point.{Point, Trail}
 use Rattle.fdp_base.specs.Sites.{traced_by, trail_of}
 use Rattle.fdp_base.specs.Step.{Follows, IsStep}
 use Rattle.fdp_base.specs.Totals.{blocks_written, erases_of, host_blocks_of, media_blocks_of}
@@ -25,23 +24,9 @@ use Rattle.fdp_plain.specs.Longer.{IsLonger, IsTraced}
 use Rattle.fdp_plain.specs.Prepared.{pages_of}
 use Rattle.fdp_plain.specs.Rows.{HasRows}
 use Rattle.fdp_plain.specs.Standing.{IsStanding}
+use Rattle.fdp_plain.proofs.Fitting.{with_change}
 use Rattle.fdp_plain.proofs.Rows.{places_from}
 use Rattle.fdp_plain.proofs.Same.{same_site}
-
--- the tables k with what a change left in a
-abbrev pub with_change : Kept → Kept → Kept
-with_change k a = record k {
-  enabled = a.enabled;
-  index = a.index;
-  generation = a.generation;
-  reports = a.reports;
-  spaces = a.spaces;
-  references = a.references;
-  going = a.going;
-  lost = a.lost;
-  worn = a.worn;
-  media = a.media;
-}
 
 -- the events of a class, with those of an entry more
 class_of-more : (p : Event → Bool) (old new : List Event) → latest (filter p (old ++ new)) ≡ latest (latest (filter p old) ++ filter p new)

@@ -1,6 +1,5 @@
 -- The spare room that an entry takes.
-use Rattle.std.specs.Prelude.{◌≡◌, ℕ, ◌+◌, ◌/◌, ◌<◌, ◌≤◌, map, slice_get}
-use Rattle.std.specs.Option.{IfSome}
+use Rattle.std.specs.Prelude.{◌≡◌, ℕ, ◌+◌, ◌<◌, ◌≤◌, map}
 use Rattle.std.specs.Vec.{vec_capacity, vec_items, vec_len}
 use Rattle.fdp_base.specs.declared.entry.Entry.{Entry}
 use Rattle.fdp_base.specs.declared.entry.Entry.TheVariants as entries
