@@ -1,5 +1,5 @@
 -- The namespaces of a drive, as a table.
-use Rattle.std.specs.Prelude.{ℕ, ◌-◌, ◌≡◌, ◌≤◌, List, [], Option, Some, None, length, nat_lt, if◌then◌else◌, slice_get}
+use Rattle.std.specs.Prelude.{ℕ, ◌-◌, ◌≡◌, List, [], Option, Some, None, length, nat_lt, if◌then◌else◌, slice_get}
 use Rattle.std.specs.Option.{option_flatten, option_map_or}
 use Rattle.fdp_base.specs.Geometry.{IsWithin}
 use Rattle.fdp_base.specs.PlainState.{Namespace}
