@@ -10,6 +10,7 @@ pub record SpaceTable : Type 0 where
   pub groups : ℕ
   pub namespaces : List (Option Namespace)
 
+-- a namespace in the words of a state
 abbrev pub namespace_of : Space → Namespace
 namespace_of x = record { size = x.size; handles = x.handles.items; given = x.given; birth = x.birth }
 
