@@ -1,144 +1,58 @@
-//! A whole history of a small drive, and an entry that is refused. The expected answers come from the rules of the drive.
-ghost use Rattle.std.specs.Prelude.{IfOk};
-ghost use Rattle.fdp_base.specs.Config.{IsValidConfig};
-
+//! Tables of whole histories and of refused entries, each played on a small drive. `tests/lines.rt` says how a line of them
+//! reads. The expected answers come from the rules of the drive.
 use super::*;
-use fdp_base::{
-    Bytes, Class, Classes, Command, DriveConfig, Entry, HandleList, NamespaceConfig, Payload,
-    Reply, Sequence, Status,
-};
-use std::alloc::{AllocError, Global};
 use std::test::Fail;
 
-/// One group, one handle, one namespace that is as large as the budget.
-fn drive_s(alloc: Global) -> Result<DriveConfig, AllocError>
-    ensures { IfOk result IsValidConfig }
-{
-    let classes = Classes::from_vec(vec![in alloc; Class::Initial]?);
-    let namespace = NamespaceConfig {
-        blocks: 52,
-        handles: Some(HandleList::from_vec(vec![in alloc; 0]?)),
-    };
-    Ok(DriveConfig {
-        block: 512,
-        unit_pages: 8,
-        groups: 1,
-        units: 12,
-        area_units: 4,
-        queues: 1,
-        blocks_per_command: 4,
-        fdp: Sequence::from_vec(vec![in alloc; classes]?),
-        enabled: true,
-        index: 0,
-        namespaces: Sequence::from_vec(vec![in alloc; namespace]?),
-        queue_depth: 64,
-        collectors: 0,
-        turns: 0,
-    })
-}
+mod commands;
+mod drives;
+mod going;
+mod lines;
+mod long;
+mod play;
+mod replies;
+mod rooms;
+mod small;
+mod words;
 
-/// One block of 7s at address 0.
-fn write() -> Command {
-    Command::Write {
-        nsid: 1,
-        slba: 0,
-        count: 1,
-        dtype: 0,
-        dspec: 0,
-        payload: Payload::Pattern(7),
+use drives::{drive_s, drive_t, empty_drive_s, small_drive_t};
+use play::play;
+
+#[test]
+fn histories_of_drive_s(rt: HostRuntime) -> Result<(), Fail> {
+    let alloc = rt.alloc();
+    for table in small::TABLES {
+        play(&rt, alloc, &mut Plain::new(alloc, &drive_s(alloc)?)?, table)?;
     }
-}
-
-/// The number 7 with its low byte first, over and over.
-fn sevens(alloc: Global) -> Result<Bytes, AllocError> {
-    let mut bytes = Vec::new(alloc);
-    for _ in 0..128_u32 {
-        bytes.extend_from_slice(&[7, 0, 0, 0])?;
-    }
-    Ok(Bytes::from_vec(bytes))
-}
-
-fn placed(unit: u32, page: u32) -> Entry {
-    Entry::Placed {
-        ticket: 1,
-        index: 0,
-        unit,
-        page,
-    }
-}
-
-fn completed(number: u16, command: Command, bytes: Bytes, applied: bool) -> Entry {
-    Entry::Host {
-        queue: 1,
-        number,
-        command,
-        reply: Reply {
-            status: Status::SUCCESS,
-            dw0: 0,
-            bytes,
-            applied,
-        },
-        moment: 0,
-    }
-}
-
-/// A write of a block, and a read of it.
-fn history(alloc: Global) -> Result<Vec<Entry>, AllocError> {
-    let read = Command::Read {
-        nsid: 1,
-        slba: 0,
-        count: 1,
-    };
-    Ok(vec![in alloc;
-        Entry::Started {
-            queue: 1,
-            number: 1,
-            command: write(),
-            rg: 0,
-            ruh: 0,
-            pid_valid: true,
-        },
-        placed(0, 0),
-        completed(1, write(), Bytes::new(alloc), true),
-        completed(2, read, sevens(alloc)?, false),
-    ]?)
+    let mut plain = Plain::new(alloc, &empty_drive_s(alloc)?)?;
+    play(&rt, alloc, &mut plain, small::CREATE)
 }
 
 #[test]
-fn takes_a_legal_history(rt: HostRuntime) -> Result<(), Fail> {
+fn histories_of_drive_t(rt: HostRuntime) -> Result<(), Fail> {
     let alloc = rt.alloc();
-    let mut plain = Plain::new(alloc, &drive_s(alloc)?)?;
-    for entry in history(alloc)?.iter() {
-        assert_eq!(rt; plain.take(alloc, entry), Ok(()));
-    }
-    assert_eq!(rt; plain.entries(), history(alloc)?.as_slice());
-    assert_eq!(rt; plain.config().groups, 1);
-    Ok(())
+    let mut plain = Plain::new(alloc, &drive_t(alloc)?)?;
+    play(&rt, alloc, &mut plain, rooms::FULL_GROUP)?;
+    let mut plain = Plain::new(alloc, &small_drive_t(alloc)?)?;
+    play(&rt, alloc, &mut plain, rooms::INVALID_IDENTIFIER)
 }
 
-/// A page that is not the first of a unit follows no start, nor does a read with other bytes.
+/// Of 33 events the latest 32 are kept: the oldest is the second, at position 9.
 #[test]
-fn refuses_what_is_no_step(rt: HostRuntime) -> Result<(), Fail> {
+fn keeps_32_events(rt: HostRuntime) -> Result<(), Fail> {
     let alloc = rt.alloc();
     let mut plain = Plain::new(alloc, &drive_s(alloc)?)?;
-    let entries = history(alloc)?;
-    assert_eq!(rt;
-        plain.take(alloc, &entries[1]),
-        Err(Refused::Illegal { at: 1, why: 5 })
-    );
-    assert_eq!(rt; plain.take(alloc, &entries[0]), Ok(()));
-    assert_eq!(rt;
-        plain.take(alloc, &placed(0, 1)),
-        Err(Refused::Illegal { at: 2, why: 5 })
-    );
-    assert_eq!(rt;
-        plain.take(alloc, &Entry::Reopened),
-        Err(Refused::Illegal { at: 2, why: 13 })
-    );
-    assert_eq!(rt;
-        plain.take(alloc, &entries[3]),
-        Err(Refused::Illegal { at: 2, why: 1 })
-    );
-    assert_eq!(rt; plain.entries().len(), 1);
-    Ok(())
+    play(&rt, alloc, &mut plain, "set-events 1 0 on 0x00 -> done")?;
+    long::close_units(&rt, alloc, &mut plain)?;
+    let log = "log 0x23 60 3 host -> ok bytes 0*4  0x00 7 0 0  9 0 0 0";
+    play(&rt, alloc, &mut plain, log)
+}
+
+/// 800 units of a drive are filled; 20,000 entries and more.
+#[test]
+fn long_history(rt: HostRuntime) -> Result<(), Fail> {
+    let alloc = rt.alloc();
+    let mut plain = Plain::new(alloc, &drive_s(alloc)?)?;
+    long::overwrite(&rt, alloc, &mut plain, 801)?;
+    assert_eq!(rt; plain.entries().len(), 20_024);
+    play(&rt, alloc, &mut plain, "read 1 4 4 -> ok blocks 800 800 800 800")
 }
