@@ -9,6 +9,13 @@ mod going;
 mod lines;
 mod long;
 mod play;
+mod refused_logs;
+mod refused_media;
+mod refused_moves;
+mod refused_pages;
+mod refused_replies;
+mod refused_starts;
+mod refused_writes;
 mod replies;
 mod rooms;
 mod small;
@@ -17,23 +24,70 @@ mod words;
 use drives::{drive_s, drive_t, empty_drive_s, small_drive_t};
 use play::play;
 
+/// Tables that are played on drive S, each from the beginning.
+const OF_DRIVE_S: [&[&str]; 7] = [
+    &small::TABLES,
+    &refused_replies::TABLES,
+    &refused_logs::TABLES,
+    &refused_writes::TABLES,
+    &refused_pages::TABLES,
+    &refused_moves::TABLES,
+    &refused_media::TABLES,
+];
+
 #[test]
-fn histories_of_drive_s(rt: HostRuntime) -> Result<(), Fail> {
+fn drive_s_plays_tables(rt: HostRuntime) -> Result<(), Fail> {
     let alloc = rt.alloc();
-    for table in small::TABLES {
-        play(&rt, alloc, &mut Plain::new(alloc, &drive_s(alloc)?)?, table)?;
+    for tables in OF_DRIVE_S {
+        for table in tables {
+            let mut plain = Plain::new(alloc, &drive_s(alloc)?)?;
+            play(&rt, alloc, &mut plain, table)?;
+        }
     }
-    let mut plain = Plain::new(alloc, &empty_drive_s(alloc)?)?;
-    play(&rt, alloc, &mut plain, small::CREATE)
+    let mut plain = Plain::new(alloc, &drive_s(alloc)?)?;
+    play(&rt, alloc, &mut plain, refused_starts::STARTS)
 }
 
 #[test]
-fn histories_of_drive_t(rt: HostRuntime) -> Result<(), Fail> {
+fn drive_s_without_a_namespace_plays_tables(rt: HostRuntime) -> Result<(), Fail> {
     let alloc = rt.alloc();
+    for table in [
+        small::CREATE,
+        refused_replies::CREATED,
+        refused_moves::SHARED_PAGE,
+    ] {
+        let mut plain = Plain::new(alloc, &empty_drive_s(alloc)?)?;
+        play(&rt, alloc, &mut plain, table)?;
+    }
+    Ok(())
+}
+
+#[test]
+fn drive_t_plays_tables(rt: HostRuntime) -> Result<(), Fail> {
+    let alloc = rt.alloc();
+    for table in [rooms::FULL_GROUP, refused_writes::LAST_BLOCK] {
+        let mut plain = Plain::new(alloc, &drive_t(alloc)?)?;
+        play(&rt, alloc, &mut plain, rooms::FILLED)?;
+        play(&rt, alloc, &mut plain, table)?;
+    }
     let mut plain = Plain::new(alloc, &drive_t(alloc)?)?;
-    play(&rt, alloc, &mut plain, rooms::FULL_GROUP)?;
-    let mut plain = Plain::new(alloc, &small_drive_t(alloc)?)?;
-    play(&rt, alloc, &mut plain, rooms::INVALID_IDENTIFIER)
+    play(&rt, alloc, &mut plain, refused_logs::CONFIGURATIONS)
+}
+
+#[test]
+fn small_drive_t_plays_tables(rt: HostRuntime) -> Result<(), Fail> {
+    let alloc = rt.alloc();
+    for table in [
+        rooms::INVALID_IDENTIFIER,
+        refused_writes::WRONG_PLACE,
+        refused_starts::PLACES,
+        refused_pages::PLACED,
+        refused_moves::COPIES,
+    ] {
+        let mut plain = Plain::new(alloc, &small_drive_t(alloc)?)?;
+        play(&rt, alloc, &mut plain, table)?;
+    }
+    Ok(())
 }
 
 /// Of 33 events the latest 32 are kept: the oldest is the second, at position 9.
@@ -47,12 +101,13 @@ fn keeps_32_events(rt: HostRuntime) -> Result<(), Fail> {
     play(&rt, alloc, &mut plain, log)
 }
 
-/// 800 units of a drive are filled; 20,000 entries and more.
+/// 801 units are filled: 20,024 entries.
 #[test]
-fn long_history(rt: HostRuntime) -> Result<(), Fail> {
+fn takes_a_long_history(rt: HostRuntime) -> Result<(), Fail> {
     let alloc = rt.alloc();
     let mut plain = Plain::new(alloc, &drive_s(alloc)?)?;
     long::overwrite(&rt, alloc, &mut plain, 801)?;
     assert_eq!(rt; plain.entries().len(), 20_024);
-    play(&rt, alloc, &mut plain, "read 1 4 4 -> ok blocks 800 800 800 800")
+    let read = "read 1 4 4 -> ok blocks 800 800 800 800";
+    play(&rt, alloc, &mut plain, read)
 }

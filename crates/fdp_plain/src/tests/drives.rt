@@ -60,9 +60,11 @@ pub fn empty_drive_s(alloc: Global) -> Result<DriveConfig, AllocError>
 pub fn drive_t(alloc: Global) -> Result<DriveConfig, AllocError>
     ensures { IfOk result IsValidConfig }
 {
-    let classes = Classes::from_vec(
-        vec![in alloc; Class::Initial, Class::Initial, Class::Persistent]?,
-    );
+    let classes = Classes::from_vec(vec![in alloc;
+        Class::Initial,
+        Class::Initial,
+        Class::Persistent,
+    ]?);
     let namespace = NamespaceConfig {
         blocks: 160,
         handles: Some(HandleList::from_vec(vec![in alloc; 0, 1, 2]?)),
@@ -89,9 +91,11 @@ pub fn drive_t(alloc: Global) -> Result<DriveConfig, AllocError>
 pub fn small_drive_t(alloc: Global) -> Result<DriveConfig, AllocError>
     ensures { IfOk result IsValidConfig }
 {
-    let classes = Classes::from_vec(
-        vec![in alloc; Class::Initial, Class::Initial, Class::Persistent]?,
-    );
+    let classes = Classes::from_vec(vec![in alloc;
+        Class::Initial,
+        Class::Initial,
+        Class::Persistent,
+    ]?);
     let namespace = NamespaceConfig {
         blocks: 8,
         handles: Some(HandleList::from_vec(vec![in alloc; 2, 0]?)),

@@ -9,12 +9,7 @@ use std::test::Fail;
 
 /// Plays a table. Each of its lines is taken; or all entries of the line but the last, which is refused under the rule that
 /// stands behind a `!`. Blank lines and those that begin with `#` are left out.
-pub fn play(
-    rt: &impl Abort,
-    alloc: Global,
-    plain: &mut Plain,
-    table: &str,
-) -> Result<(), Fail> {
+pub fn play(rt: &impl Abort, alloc: Global, plain: &mut Plain, table: &str) -> Result<(), Fail> {
     for line in table.lines() {
         let line = line.trim();
         if !line.is_empty() && !line.starts_with('#') {
@@ -62,7 +57,11 @@ fn take_all(
 /// The entry is refused under this rule, and the drive has the entries that it had.
 fn refuse(rt: &impl Abort, alloc: Global, plain: &mut Plain, entry: &Entry, why: u8, line: &str) {
     let at = next_position(plain);
-    assert_eq!(rt; plain.take(alloc, entry), Err(Refused::Illegal { at, why }), "{line}");
+    assert_eq!(rt;
+        plain.take(alloc, entry),
+        Err(Refused::Illegal { at, why }),
+        "{line}"
+    );
     assert_eq!(rt; next_position(plain), at, "{line}");
 }
 

@@ -1,7 +1,7 @@
 //! Whole histories of drive T.
 
-/// A group is filled to its budget, then takes a block only in place of another.
-pub const FULL_GROUP: &str = "
+/// 76 of the 80 blocks that a group may store.
+pub const FILLED: &str = "
     write 1 0 4 0 pid 0x8000 to 1 0 at 20.0-3 -> done
     write 1 4 4 0 pid 0x8000 to 1 0 at 20.4-7 -> done
     write 1 8 4 0 pid 0x8000 to 1 0 at 21.0-3 -> done
@@ -21,6 +21,10 @@ pub const FULL_GROUP: &str = "
     write 1 64 4 0 pid 0x8000 to 1 0 at 28.0-3 -> done
     write 1 68 4 0 pid 0x8000 to 1 0 at 28.4-7 -> done
     write 1 72 4 0 pid 0x8000 to 1 0 at 29.0-3 -> done
+";
+
+/// Behind them: the group is filled to its budget, then takes a block only in place of another.
+pub const FULL_GROUP: &str = "
     write 1 76 4 0 pid 0x8000 to 1 0 at 29.4-7 -> done
     write 1 80 1 5 pid 0x8000 -> 0/81
     write 1 0 1 6 pid 0x8000 to 1 0 at 30.0 -> done
