@@ -101,13 +101,16 @@ fn keeps_32_events(rt: HostRuntime) -> Result<(), Fail> {
     play(&rt, alloc, &mut plain, log)
 }
 
-/// 801 units are filled: 20,024 entries.
+/// 572 turns of writes and moves: 20,031 entries.
 #[test]
 fn takes_a_long_history(rt: HostRuntime) -> Result<(), Fail> {
     let alloc = rt.alloc();
     let mut plain = Plain::new(alloc, &drive_s(alloc)?)?;
-    long::overwrite(&rt, alloc, &mut plain, 801)?;
-    assert_eq!(rt; plain.entries().len(), 20_024);
-    let read = "read 1 4 4 -> ok blocks 800 800 800 800";
-    play(&rt, alloc, &mut plain, read)
+    long::relocate(&rt, alloc, &mut plain, 572)?;
+    assert_eq!(rt; plain.entries().len(), 20_031);
+    let reads = "
+        read 1 4 4 -> ok blocks 571 571 571 571
+        read 1 44 4 -> ok blocks 44 45 46 47
+    ";
+    play(&rt, alloc, &mut plain, reads)
 }

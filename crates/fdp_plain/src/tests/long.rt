@@ -1,5 +1,5 @@
-//! Long histories.
-use super::play::play_line;
+//! Long histories of drive S.
+use super::play::{play, play_line};
 use super::*;
 use std::alloc::Global;
 use std::process::Abort;
@@ -20,23 +20,50 @@ pub fn close_units(rt: &impl Abort, alloc: Global, plain: &mut Plain) -> Result<
     Ok(())
 }
 
-/// Writes 8 blocks over and over, so often: each time they fill a unit, and the unit before it is erased.
-pub fn overwrite(
+/// Eight blocks are written once and moved from unit to unit, so often; eight others are written anew at each turn. Each turn
+/// takes 35 entries, the first 34, behind the 12 of the blocks that are moved.
+pub fn relocate(rt: &impl Abort, alloc: Global, plain: &mut Plain, turns: u32) -> Result<(), Fail> {
+    play(rt, alloc, plain, COLD)?;
+    for turn in 0..turns {
+        overwrite(rt, alloc, plain, turn)?;
+        move_unit(rt, alloc, plain, 6 + turn % 6, 6 + (turn + 1) % 6)?;
+    }
+    Ok(())
+}
+
+const COLD: &str = "
+    write 1 40 4 40 at 6.0-3 -> done
+    write 1 44 4 44 at 6.4-7 -> done
+";
+
+/// A unit is filled, and the one that the turn before filled is erased.
+fn overwrite(rt: &impl Abort, alloc: Global, plain: &mut Plain, turn: u32) -> Result<(), Fail> {
+    let unit = turn % 6;
+    for page in 0..8_u32 {
+        let line = format!(in alloc; "write 1 {page} 1 {turn} at {unit}.{page} -> done")?;
+        play_line(rt, alloc, plain, line.as_str())?;
+    }
+    if turn > 0 {
+        let line = format!(in alloc; "erased {}", (turn - 1) % 6)?;
+        play_line(rt, alloc, plain, line.as_str())?;
+    }
+    Ok(())
+}
+
+/// All pages of a unit are copied to another, and the unit is erased.
+fn move_unit(
     rt: &impl Abort,
     alloc: Global,
     plain: &mut Plain,
-    turns: u32,
+    from: u32,
+    to: u32,
 ) -> Result<(), Fail> {
-    for turn in 0..turns {
-        let unit = turn % 12;
-        for page in 0..8_u32 {
-            let line = format!(in alloc; "write 1 {page} 1 {turn} at {unit}.{page} -> done")?;
-            play_line(rt, alloc, plain, line.as_str())?;
-        }
-        if turn > 0 {
-            let line = format!(in alloc; "erased {}", (turn - 1) % 12)?;
-            play_line(rt, alloc, plain, line.as_str())?;
-        }
+    for page in 0..8_u32 {
+        let line = format!(in alloc; "copied {from}.{page} {to}.{page}")?;
+        play_line(rt, alloc, plain, line.as_str())?;
     }
-    Ok(())
+    let moved = "moved 0 1.40 1.41 1.42 1.43 1.44 1.45 1.46 1.47";
+    play_line(rt, alloc, plain, moved)?;
+    let line = format!(in alloc; "erased {from}")?;
+    play_line(rt, alloc, plain, line.as_str())
 }
