@@ -75,8 +75,7 @@ space_ready : (k : Kept) (size : ℕ) (given : Bool) (list : List ℕ) (space : 
 unfolding namespace_ids
 space_ready k size given list space h some made =
     let free = find-absent (plain_of k).namespaces 1 16 some in
-    let x = made_space k size given list space made in
-    (
+    let x = made_space k size given list space made in (
       record {
         nsid = free.0;
         nsid_is = free.1;

@@ -38,14 +38,14 @@ point-trail k h = ap (λ (p : Point). p.trail) h.point
 
 -- an entry whose change was made in a, whose trace in b, and which was counted and kept in m
 module _ (k a b m : Kept) (e : Entry) (events : List Event)
-  (standing : IsStanding k)
-  (follows : Follows true k.config (point_kept k) e)
-  (changed : plain_of a ≡ changed_by k.config (plain_of k) e)
-  (rest : a ≡ with_change k a)
-  (rows : KeepsRows k a)
-  (traced : IsTraced a b e (pages_of e))
-  (longer : IsLonger b m e events)
-  (kept : events ≡ kept_of_entry k.config (plain_of k) e) where
+    (standing : IsStanding k)
+    (follows : Follows true k.config (point_kept k) e)
+    (changed : plain_of a ≡ changed_by k.config (plain_of k) e)
+    (rest : a ≡ with_change k a)
+    (rows : KeepsRows k a)
+    (traced : IsTraced a b e (pages_of e))
+    (longer : IsLonger b m e events)
+    (kept : events ≡ kept_of_entry k.config (plain_of k) e) where
   config_is : m.config ≡ k.config
   config_is = ap (λ (x : Kept). x.config) longer.rest ∙ ap (λ (x : Kept). x.config) traced.rest ∙ ap (λ (x : Kept). x.config) rest
 

@@ -20,6 +20,7 @@ mod replies;
 mod rooms;
 mod small;
 mod words;
+mod written_out;
 
 use drives::{drive_s, drive_t, empty_drive_s, small_drive_t};
 use play::play;

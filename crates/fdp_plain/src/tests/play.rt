@@ -47,7 +47,8 @@ fn take_all(
     line: &str,
 ) -> Result<(), Fail> {
     for entry in entries {
-        assert_eq!(rt; plain.take(alloc, entry), Ok(()), "{line}");
+        let answer = take(rt, alloc, plain, entry);
+        assert_eq!(rt; answer, Ok(()), "{line}");
         let last = plain.entries().last().ok_or("no entry")?;
         assert_eq!(rt; last, entry, "{line}");
     }
@@ -57,12 +58,20 @@ fn take_all(
 /// The entry is refused under this rule, and the drive has the entries that it had.
 fn refuse(rt: &impl Abort, alloc: Global, plain: &mut Plain, entry: &Entry, why: u8, line: &str) {
     let at = next_position(plain);
-    assert_eq!(rt;
-        plain.take(alloc, entry),
-        Err(Refused::Illegal { at, why }),
-        "{line}"
-    );
+    let answer = take(rt, alloc, plain, entry);
+    assert_eq!(rt; answer, Err(Refused::Illegal { at, why }), "{line}");
     assert_eq!(rt; next_position(plain), at, "{line}");
+}
+
+/// Where memory ran out, the drive has the entries that it had, and the entry comes again.
+fn take(rt: &impl Abort, alloc: Global, plain: &mut Plain, entry: &Entry) -> Result<(), Refused> {
+    let at = next_position(plain);
+    let answer = plain.take(alloc, entry);
+    if answer != Err(Refused::NoMemory) {
+        return answer;
+    }
+    assert_eq!(rt; next_position(plain), at);
+    plain.take(alloc, entry)
 }
 
 fn next_position(plain: &Plain) -> u64 {
