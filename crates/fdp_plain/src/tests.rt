@@ -14,6 +14,7 @@ mod refused_media;
 mod refused_moves;
 mod refused_pages;
 mod refused_replies;
+mod refused_settings;
 mod refused_starts;
 mod refused_writes;
 mod replies;
@@ -45,8 +46,11 @@ fn drive_s_plays_tables(rt: HostRuntime) -> Result<(), Fail> {
             play(&rt, alloc, &mut plain, table)?;
         }
     }
-    let mut plain = Plain::new(alloc, &drive_s(alloc)?)?;
-    play(&rt, alloc, &mut plain, refused_starts::STARTS)
+    for table in [refused_settings::SETTINGS, refused_starts::STARTS] {
+        let mut plain = Plain::new(alloc, &drive_s(alloc)?)?;
+        play(&rt, alloc, &mut plain, table)?;
+    }
+    Ok(())
 }
 
 #[test]
@@ -54,7 +58,7 @@ fn drive_s_without_a_namespace_plays_tables(rt: HostRuntime) -> Result<(), Fail>
     let alloc = rt.alloc();
     for table in [
         small::CREATE,
-        refused_replies::CREATED,
+        refused_settings::CREATED,
         refused_moves::SHARED_PAGE,
     ] {
         let mut plain = Plain::new(alloc, &empty_drive_s(alloc)?)?;
@@ -80,6 +84,8 @@ fn small_drive_t_plays_tables(rt: HostRuntime) -> Result<(), Fail> {
     let alloc = rt.alloc();
     for table in [
         rooms::INVALID_IDENTIFIER,
+        rooms::MOVES_OF_TWO_HANDLES,
+        refused_settings::DISABLED,
         refused_writes::WRONG_PLACE,
         refused_starts::PLACES,
         refused_pages::PLACED,

@@ -1,6 +1,6 @@
 //! Completions of commands that are refused under rule 1, on drive S.
 
-pub const TABLES: [&str; 4] = [READS, BLOCKS, SETTINGS, UPDATES];
+pub const TABLES: [&str; 3] = [READS, BLOCKS, UPDATES];
 
 /// Other bytes than the last write left, and other statuses than the first check gives.
 const READS: &str = "
@@ -75,42 +75,6 @@ const BLOCKS: &str = "
     admin 0x09 -> 0/02
 ";
 
-/// Features and namespaces.
-const SETTINGS: &str = "
-    set-fdp on 0 -> done ! 1
-    set-fdp on 0 -> 0/0c
-    set-fdp on 1 -> 0/0c ! 1
-    set-fdp on 1 -> 0/02
-    get-fdp -> ok ! 1
-    get-fdp -> ok dw0 257 ! 1
-    get-fdp -> ok dw0 1
-    set-events 1 1 on 0x00 -> done ! 1
-    set-events 1 0 on 0x00 0x04 -> done ! 1
-    set-events 1 0 on 0x00 -> ok ! 1
-    # the events that are kept are forgotten when placement is set
-    set-events 1 0 on 0x00 -> done
-    write 1 0 1 1 at 0.0 -> done
-    update 1 0 -> done
-    log 0x23 0 2 host -> ok bytes 0*8 ! 1
-    log 0x23 0 2 host -> ok bytes 1 0*7
-    delete 1 -> done
-    set-fdp on 0 -> ok ! 1
-    set-fdp on 0 -> done
-    create 52 0 -> done dw0 1
-    write 1 0 1 1 at 1.0 -> done
-    update 1 0 -> done
-    log 0x23 0 2 host -> ok bytes 2 0*7 ! 1
-    log 0x23 0 2 host -> ok bytes 1 0*7
-    # no room for one block more; no size; no such handle; a handle twice
-    create 1 -> done dw0 2 ! 1
-    create 1 -> 1/15
-    create 0 -> 1/15 ! 1
-    create 0 -> 0/02
-    create 1 1 -> 1/15 ! 1
-    create 1 1 -> 0/2a
-    create 1 0 0 -> 0/2a
-";
-
 /// An update that is refused closes nothing; what may still be written is told to the block.
 const UPDATES: &str = "
     write 1 0 3 0 at 0.0-2 -> done
@@ -136,23 +100,4 @@ const UPDATES: &str = "
     update 1 0 0 -> done
     status 1 12 -> ok bytes 0*14 1 0  0 0  0 0  0*4  4 0*7  0*16 ! 1
     status 1 12 -> ok bytes 0*14 1 0  0 0  0 0  0*4  8 0*7  0*16
-";
-
-/// On a drive without a namespace: one that is created has the lowest identifier that is free.
-pub const CREATED: &str = "
-    create 10 -> done dw0 2 ! 1
-    create 10 -> done dw0 1
-    create 10 -> done dw0 1 ! 1
-    create 10 -> done dw0 3 ! 1
-    create 10 -> done dw0 2
-    create 10 0 -> done dw0 3
-    delete 1 -> done
-    delete 2 -> done
-    create 10 -> done dw0 2 ! 1
-    create 10 -> done dw0 4 ! 1
-    create 10 -> done dw0 1
-    create 32 -> 1/15 ! 1
-    create 33 -> done dw0 2 ! 1
-    create 33 -> 1/15
-    create 32 -> done dw0 2
 ";

@@ -43,4 +43,8 @@ pub const PLACES: &str = "
     start write 1 2 1 9 pid 0x8005 to 1 2 invalid ! 4
     write 1 2 1 9 pid 0x8005 to 0 2 invalid at 0.1 -> done
     read 1 0 3 -> ok blocks 7 8 9
+    # group 1 would have more room, but for a unit that is lost
+    aside 25
+    start write 1 3 1 4 pid 0x8005 to 1 2 invalid ! 4
+    write 1 3 1 4 to 0 2 at 0.2 -> done
 ";

@@ -36,3 +36,27 @@ pub const INVALID_IDENTIFIER: &str = "
     write 1 0 1 1 pid 0x8002 to 0 2 invalid at 0.0 -> done
     log 0x23 0 32 host -> ok bytes 1 0*63  0x03 7 0x02 0x80  4 0*7  1 0 0 0  0*16  0 0  2 0*29
 ";
+
+/// Blocks of two handles are moved into one unit, and on from there in one pass: an event for each handle.
+pub const MOVES_OF_TWO_HANDLES: &str = "
+    set-events 1 0 on 0x80 -> done
+    set-events 1 1 on 0x80 -> done
+    write 1 0 2 10 pid 0 to 0 2 at 0.0-1 -> done
+    write 1 2 2 12 pid 1 to 0 0 at 1.0-1 -> done
+    update 1 0 1 -> done
+    copied 0.0 2.0
+    moved 0 1.0
+    copied 1.0 2.1
+    copied 1.1 2.2
+    moved 0 1.2 1.3
+    copied 2.0 3.0
+    copied 2.1 3.1
+    copied 2.2 3.2
+    moved 0 1.0 1.2 1.3
+    log 0x23 0 1 -> ok bytes 4 0*3
+    log 0x23 64 16 -> ok bytes 0x80 6 0 0  13 0*7  1 0*3  1 0  1 0  0*8  0*4  0 0  2 0*29
+    log 0x23 128 16 -> ok bytes 0x80 6 0 0  16 0*7  1 0*3  1 0  2 0  2 0*7  0*4  0 0  0 0*29
+    log 0x23 192 16 -> ok bytes 0x80 6 0 0  20 0*7  1 0*3  1 0  2 0  2 0*7  0*4  0 0  0 0*29
+    log 0x23 256 16 -> ok bytes 0x80 6 0 0  20 0*7  1 0*3  1 0  1 0  0*8  0*4  0 0  2 0*29
+    read 1 0 4 -> ok blocks 10 11 12 13
+";
