@@ -5,6 +5,7 @@ use std::test::Fail;
 
 mod commands;
 mod drives;
+mod features;
 mod going;
 mod lines;
 mod long;
