@@ -72,13 +72,14 @@ fn dataset(alloc: Global, deallocate: bool, words: &[&str]) -> Result<Command, F
         return Err(no("namespace", words));
     };
     let mut ranges = Vec::new(alloc);
-    let mut rest = bounds;
-    while let [slba, length, after @ ..] = rest {
+    for bound in bounds.chunks(2) {
+        let [slba, length] = bound else {
+            return Err(no("range", bound));
+        };
         ranges.push(Range {
             slba: number(slba)?,
             length: number32(length)?,
         })?;
-        rest = after;
     }
     Ok(Command::Dealloc {
         nsid: number32(nsid)?,
