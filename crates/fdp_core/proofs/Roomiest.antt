@@ -48,7 +48,7 @@ any-none test first (suc count) none =
 -- a number in a row passes
 any-some : (test : ℕ → Bool) (first count i : ℕ) → first ≤ i → i < first + count → test i ≡ true → list_any test (numbers_from first count) ≡ true
 unfolding numbers_from
-any-some test first zero i low high yes_ = absurd (omega (arith, low, high))
+any-some test first zero i low high passes = absurd (omega (arith, low, high))
 any-some test first (suc count) i low high passes =
     ⊎_elim
     (λ (past : first < i). later (test first) (list_any test (numbers_from (first + 1) count)) (any-some test (first + 1) count i (omega (arith, past)) (omega (arith, high)) passes))
