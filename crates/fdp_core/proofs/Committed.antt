@@ -1,12 +1,10 @@
 -- What the end of a write that succeeds makes of what stands.
-use Rattle.std.proofs.Common.{◌≡◌, ◌≢◌, ◌⊎◌, inl, inr, ℕ, ◌+◌, ◌-◌, ◌<◌, ◌≤◌, Bool, true, false, List, [], ◌∷◌, length, Option, Some, None, refl, sym, ◌∙◌, ap, subst, arith, cond}
-use Rattle.std.specs.Prelude.{◌==◌, ◌&&◌, option_map, if◌then◌else◌, IsTrue}
+use Rattle.std.proofs.Common.{◌≡◌, ℕ, ◌+◌, true, List, Option, Some, None, refl, ap}
+use Rattle.std.specs.Prelude.{◌==◌, ◌&&◌, option_map, if◌then◌else◌}
 use Rattle.fdp_base.specs.declared.command.Command.{Command}
 use Rattle.fdp_base.specs.declared.command.Command.TheVariants as commands
 use Rattle.fdp_base.specs.declared.config.DriveConfig.{DriveConfig}
-use Rattle.fdp_base.specs.declared.entry.Entry.{Entry}
 use Rattle.fdp_base.specs.declared.entry.Entry.TheVariants as entries
-use Rattle.fdp_base.specs.declared.entry.Reply.{Reply}
 use Rattle.fdp_base.specs.declared.status.TheConstants.Status as statuses
 use Rattle.fdp_base.specs.Answer.{bare}
 use Rattle.fdp_base.specs.Change.{after, changed_by}
@@ -14,7 +12,7 @@ use Rattle.fdp_base.specs.CommandKinds.{Write, write_of}
 use Rattle.fdp_base.specs.Effect.{block_of_write, effect_of}
 use Rattle.fdp_base.specs.Next.{next}
 use Rattle.fdp_base.specs.Numbers.{is_among, with_at}
-use Rattle.fdp_base.specs.PlainState.{Block, Going, PlainState}
+use Rattle.fdp_base.specs.PlainState.{Block, PlainState}
 use Rattle.fdp_base.specs.Point.{Point}
 use Rattle.fdp_base.specs.Sites.{traced_by}
 use Rattle.fdp_base.specs.Totals.{blocks_written}

@@ -1,5 +1,5 @@
 -- What is known where a write succeeds.
-use Rattle.std.proofs.Common.{◌≡◌, ℕ, ◌+◌, ◌<◌, ◌≤◌, List, [], ◌∷◌, ◌++◌, length, Option, Some, None, refl, sym, ◌∙◌, ap, subst, arith}
+use Rattle.std.proofs.Common.{◌≡◌, ℕ, ◌+◌, ◌≤◌, List, [], ◌∷◌, ◌++◌, length, Option, Some, None, sym, ◌∙◌, ap, subst, arith}
 use Rattle.std.specs.Prelude.{IfSome, option_map}
 use Rattle.fdp_base.specs.declared.command.Command.{Command}
 use Rattle.fdp_base.specs.declared.entry.Entry.{Entry}
@@ -19,14 +19,14 @@ use Rattle.fdp_core.specs.declared.extent.Extent.{Extent}
 use Rattle.fdp_core.specs.declared.flight.Flight.{Flight}
 use Rattle.fdp_core.specs.declared.ticket.Done.{Done}
 use Rattle.fdp_core.specs.declared.ticket.Ticket.{Ticket}
-use Rattle.fdp_core.specs.Book.{BookSeen, IsLonger, point_in, state_in}
+use Rattle.fdp_core.specs.Book.{BookSeen, point_in, state_in}
 use Rattle.fdp_core.specs.BookSteps.{Completes, IsReady}
 use Rattle.fdp_core.specs.Extent.{extent}
 use Rattle.fdp_core.specs.Held.{IsHeld, flight_in, going_of}
 use Rattle.fdp_core.specs.Logged.{IsLogged, Logged}
 use Rattle.fdp_core.specs.Tickets.{IsTicketOf}
 use Rattle.fdp_core.proofs.Committed.{blocks-count}
-use Rattle.fdp_core.proofs.HeldPlaced.{write-is}
+use Rattle.fdp_core.proofs.PlacedFor.{write-is}
 use Rattle.fdp_core.proofs.Nexts.{one-going}
 
 -- a flight that succeeds, and its blocks

@@ -1,5 +1,5 @@
 -- What a write that succeeds leaves of the tables.
-use Rattle.std.proofs.Common.{◌≡◌, ◌≢◌, inl, inr, ℕ, ◌+◌, ◌-◌, ◌<◌, ◌≤◌, Bool, true, false, IsTrue, List, [], ◌∷◌, ◌++◌, length, slice_get, slice_set, Option, Some, None, refl, sym, ◌∙◌, ap, subst, arith, cond, eqb-true, leb-true, ltb-true}
+use Rattle.std.proofs.Common.{◌≡◌, inl, inr, ℕ, ◌+◌, ◌-◌, ◌<◌, ◌≤◌, Bool, true, false, IsTrue, List, [], ◌∷◌, ◌++◌, length, slice_get, slice_set, Option, Some, None, refl, sym, ◌∙◌, ap, subst, arith, cond, eqb-true, leb-true, ltb-true}
 use Rattle.std.specs.Prelude.{◌==◌, ◌&&◌, nat_le, nat_lt, option_map}
 use Rattle.fdp_base.proofs.Pushes.{point_of-push}
 use Rattle.fdp_base.specs.declared.config.DriveConfig.{DriveConfig}
@@ -15,7 +15,7 @@ use Rattle.fdp_base.specs.Next.{next}
 use Rattle.fdp_base.specs.Numbers.{is_among}
 use Rattle.fdp_base.specs.Pattern.{payload_block}
 use Rattle.fdp_base.specs.Placement.{geometry_of}
-use Rattle.fdp_base.specs.PlainState.{Block, Going, Namespace, PageName.written, PlainState, Reference}
+use Rattle.fdp_base.specs.PlainState.{Block, Going, Namespace, PageName.written, Reference}
 use Rattle.fdp_base.specs.Point.{Point, Trail}
 use Rattle.fdp_base.specs.Sites.{is_there}
 use Rattle.fdp_base.specs.Spare.{data_spare}
@@ -37,14 +37,13 @@ use Rattle.fdp_core.specs.declared.book.Setting.{Setting}
 use Rattle.fdp_core.specs.declared.book.Sums.{Sums}
 use Rattle.fdp_core.specs.declared.flight.Flight.{Flight}
 use Rattle.fdp_core.specs.Flown.{place_in, with_pages}
-use Rattle.fdp_core.specs.Held.{AreHandlesOf, AreSumsOf, IsFlightOf, IsHeld, IsMapOf, IsMappedAs, IsPlaceOf, flight_in, going_of}
+use Rattle.fdp_core.specs.Held.{AreHandlesOf, IsFlightOf, IsHeld, IsMapOf, IsMappedAs, IsPlaceOf, flight_in, going_of}
 use Rattle.fdp_core.specs.Pages.{cells_of}
 use Rattle.fdp_core.proofs.Alike.{used-push}
 use Rattle.fdp_core.proofs.Committed.{IsCommitted, blocks-count, blocks_with, committed}
 use Rattle.fdp_core.proofs.GroupHost.{end-follows, write-succeeds}
-use Rattle.fdp_core.proofs.Grown.{IsGrown, all_units-grown, mapped-grown, setting-grown, spaces-grown}
-use Rattle.fdp_core.proofs.HeldAt.{IsHeldAt, held-at}
-use Rattle.fdp_core.proofs.HeldPlaced.{write-is}
+use Rattle.fdp_core.proofs.Grown.{all_units-grown, mapped-grown, setting-grown, spaces-grown}
+use Rattle.fdp_core.proofs.HeldAt.{held-at}
 use Rattle.fdp_core.proofs.HeldSums.{are_sums-push}
 use Rattle.fdp_core.proofs.Lasting.{blocks-written, flights-without, units-lasting, unwritten}
 use Rattle.fdp_core.proofs.Longer.{cells_of-push}

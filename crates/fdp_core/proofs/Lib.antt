@@ -28,8 +28,10 @@ pub mod GroupPlacing
 pub mod GroupPlaced
 pub mod GroupFresh
 pub mod Grown
+pub mod UsedMore
 pub mod UnitsMore
 pub mod PlacedPages
+pub mod PlacedFor
 pub mod HeldPlaced
 pub mod PlaceSteps
 pub mod Verdicts

@@ -1,6 +1,6 @@
 -- The places of the blocks of a write, put into the map one by one.
-use Rattle.std.proofs.Common.{◌≡◌, ◌≢◌, ⊎_elim, ℕ, ◌+◌, ◌-◌, ◌<◌, ◌≤◌, Bool, true, false, List, length, slice_get, Option, Some, None, refl, sym, ◌∙◌, ap, subst, arith, cond, eq-eqb, ne_eqb}
-use Rattle.std.specs.Prelude.{◌==◌, ◌&&◌, nat_le, nat_lt, option_map}
+use Rattle.std.proofs.Common.{◌≡◌, ◌≢◌, ⊎_elim, ℕ, ◌+◌, ◌-◌, Bool, true, false, List, slice_get, Option, Some, refl, sym, ◌∙◌, ap, arith, cond, eq-eqb, ne_eqb}
+use Rattle.std.specs.Prelude.{◌==◌, ◌&&◌, option_map}
 use Rattle.std.proofs.lemmas.Bool.{cases_eq}
 use Rattle.std.proofs.lemmas.Bool.Decides.{nat_tests}
 use Rattle.std.proofs.lemmas.Grind.{common_steps}

@@ -1,5 +1,5 @@
 -- What is known of the flight of a ticket, and of the next page of its handle.
-use Rattle.std.specs.Prelude.{◌≡◌, ◌≢◌, ℕ, ◌+◌, ◌-◌, ◌<◌, ◌≤◌, ◌&&◌, ◌==◌, IsTrue, IsFalse, List, [], ◌∷◌, ◌++◌, Option, Some, None, IfSome, length, slice_get, slice_index, slice_set, option_map, if◌then◌else◌}
+use Rattle.std.specs.Prelude.{◌≡◌, ℕ, ◌+◌, ◌-◌, ◌<◌, ◌≤◌, ◌&&◌, ◌==◌, IsTrue, IsFalse, List, [], ◌∷◌, ◌++◌, Option, Some, None, IfSome, length, slice_get, slice_index, slice_set, option_map, if◌then◌else◌}
 use Rattle.fdp_base.specs.declared.entry.Spot.{Spot}
 use Rattle.fdp_base.specs.Change.{one_more_placed}
 use Rattle.fdp_base.specs.CommandKinds.{Write, is_write, write_of}

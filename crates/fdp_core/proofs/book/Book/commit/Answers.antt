@@ -1,4 +1,4 @@
-use Rattle.std.proofs.Common.{◌≡◌, ◌∙◌, ◌+◌, ◌<◌, ◌≤◌, ℕ, List, Option, Some, [], ◌∷◌, ◌++◌, ap, arith, length, refl, slice_set, subst, sym, true}
+use Rattle.std.proofs.Common.{◌≡◌, ◌∙◌, ◌+◌, ◌≤◌, ℕ, List, Option, [], ◌∷◌, ◌++◌, ap, arith, length, refl, subst, sym, true}
 use Rattle.fdp_base.specs.declared.command.Command.{Command}
 use Rattle.fdp_base.specs.declared.entry.Entry.{Entry}
 use Rattle.fdp_base.specs.declared.entry.Entry.TheVariants as entries
@@ -14,7 +14,7 @@ use Rattle.fdp_core.specs.BookSteps.{Completes}
 use Rattle.fdp_core.specs.Flown.{with_pages}
 use Rattle.fdp_core.specs.Held.{IsHeld}
 use Rattle.fdp_core.specs.Tickets.{IsTicketOf}
-use Rattle.fdp_core.proofs.Committing.{IsCommitting, committing, completes-by}
+use Rattle.fdp_core.proofs.Committing.{committing, completes-by}
 use Rattle.fdp_core.proofs.HeldCommitted.{first_of, held-committed}
 use Rattle.fdp_core.proofs.book.Book.commit.Goals as goal
 

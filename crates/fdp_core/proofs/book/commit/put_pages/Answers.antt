@@ -1,4 +1,4 @@
-use Rattle.std.proofs.Common.{◌≡◌, ◌∙◌, ◌<◌, ◌≤◌, ℕ, ap, arith, length}
+use Rattle.std.proofs.Common.{◌≡◌, ℕ, ap, arith}
 use Rattle.std.proofs.lemmas.Option.{slice_get-get_or}
 use Rattle.fdp_map.specs.MapTable.{size_in}
 use Rattle.fdp_core.proofs.PutPages.{put-first, put-next}
