@@ -1,4 +1,3 @@
-pub mod Lacking
+pub mod Configuring
+pub mod Formed
 pub mod Printed
-pub mod Served
-pub mod Shown

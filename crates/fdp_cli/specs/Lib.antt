@@ -1,7 +1,6 @@
 pub mod Asked
+pub mod Configured
 pub mod Faults
 pub mod Found
-pub mod Serving
-pub mod Session
+pub mod OutputText
 pub mod Printing
-pub mod Top

@@ -2,17 +2,8 @@
 #![tactic(auto)]
 
 mod asked;
-mod fault;
-mod find;
+pub mod fault;
+pub mod find;
 mod print;
-mod serving;
-mod sums;
-mod top;
 
-pub use fault::Fault;
 pub use print::{Cut, print_output};
-pub use serving::{ServeEnd, serve};
-pub use top::drive_top;
-
-#[cfg(test)]
-mod tests;
