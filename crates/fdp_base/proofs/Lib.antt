@@ -1,4 +1,3 @@
-pub mod FixedHistory
 pub mod Pushes
 pub mod LastWrites
 pub mod Records

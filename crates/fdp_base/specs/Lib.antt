@@ -9,7 +9,6 @@ pub mod Spare
 pub mod Output
 pub mod Queue
 pub mod Totals
-pub mod FixedDrive
 pub mod Numbers
 pub mod PlainState
 pub mod Room

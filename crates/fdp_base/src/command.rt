@@ -1,4 +1,5 @@
 ghost use Rattle.std.specs.Prelude.{◌≡◌, IfOk};
+ghost use Rattle.fdp_base.specs.CommandKinds.{directed_by};
 
 use crate::payload::Payload;
 use crate::sequence::{EventTypes, HandleList, Pids, Ranges};
@@ -130,4 +131,12 @@ impl Command {
     {
         self.clone()
     }
+}
+
+/// The placement identifier of a write with these directive fields: directive type 2 is Data Placement (Base Specification
+/// 2.1, "Directives").
+pub fn directed_by(dtype: u8, dspec: u16) -> Option<u16>
+    ensures { result ≡ directed_by dtype dspec }
+{
+    if dtype == 2 { Some(dspec) } else { None }
 }

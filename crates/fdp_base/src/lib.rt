@@ -5,7 +5,6 @@ mod command;
 mod config;
 mod entry;
 mod event;
-mod fixed;
 mod laws;
 mod payload;
 mod recorded;
@@ -14,11 +13,10 @@ mod spare;
 mod status;
 mod text;
 
-pub use command::{Command, Range};
+pub use command::{Command, Range, directed_by};
 pub use config::{Class, DriveConfig, Geometry, NamespaceConfig};
 pub use entry::{BlockName, Entry, Reply, Spot, Totals};
 pub use event::{Event, EventKind};
-pub use fixed::{FIXED_BLOCKS, FIXED_PAGES};
 pub use laws::{
     history_grows_by_steps, history_is_summed_up, only_commands_change_data,
     reads_give_the_last_write,

@@ -39,11 +39,13 @@ pub record IsSettingOf (s : PlainState) (x : Setting) : Type 0 where
   pub index : s.index ≡ x.index
   pub generation : s.generation ≡ x.generation
 
--- the sums; nothing was erased yet
+-- the sums, and their bounds; nothing was erased yet
 pub record AreSumsOf (es : List Entry) (x : Sums) : Type 0 where
   pub host_blocks_are : host_blocks es ≡ x.host_blocks
   pub media_blocks_are : media_blocks es ≡ x.media_blocks
   pub no_erases : erases es ≡ 0
+  pub few_host_blocks : host_blocks es ≤ 64 * length es
+  pub few_media_blocks : media_blocks es ≤ length es
 
 -- no unit is out of use, and no group is worn
 pub record HasAllUnits (s : PlainState) : Type 0 where
@@ -80,9 +82,10 @@ IsMappedAs c p cells nsid lba (Some b) (Some m) = IsPlaceOf c p cells nsid lba b
 IsMappedAs c p cells nsid lba None (Some m) = ⊥
 IsMappedAs c p cells nsid lba (Some b) None = ⊥
 
--- where blocks stand
+-- where blocks stand; namespaces have at most 262,144 blocks
 pub record IsMapOf (c : DriveConfig) (p : Point) (cells : List Cell) (x : MapTable) : Type 0 where
   pub sizes : (nsid : ℕ) → size_of p.state nsid ≡ size_in x nsid
+  pub most : (nsid : ℕ) → size_in x nsid ≤ 262144
   pub blocks : (nsid lba : ℕ) → IsMappedAs c p cells nsid lba (p.state.blocks nsid lba) (mapped_at x nsid lba)
 
 -- the flight in a queue

@@ -1,8 +1,7 @@
 ghost use Rattle.std.specs.Prelude.{◌≡◌};
-ghost use Rattle.fdp_base.specs.CommandKinds.{directed_by};
 ghost use Rattle.fdp_core.specs.Extent.{IsExtentOf, IsReadOf};
 
-use fdp_base::Command;
+use fdp_base::{Command, directed_by};
 
 /// The blocks that a write puts or a read asks for, and the placement identifier that it names, if any.
 #[derive(Clone, Copy, Debug, PartialEq, Eq)]
@@ -72,11 +71,4 @@ pub fn extent_read(command: &Command) -> Option<Extent>
         Command::Create { .. } => None,
         Command::Other { .. } => None,
     }
-}
-
-/// The placement identifier of a write: directive type 2 is Data Placement.
-pub fn directed_by(dtype: u8, dspec: u16) -> Option<u16>
-    ensures { result ≡ directed_by dtype dspec }
-{
-    if dtype == 2 { Some(dspec) } else { None }
 }

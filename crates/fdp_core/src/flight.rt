@@ -1,3 +1,7 @@
+ghost use Rattle.std.specs.Prelude.{◌≡◌, IsTrue, Some, option_map};
+ghost use Rattle.fdp_base.specs.CommandKinds.{Write, is_write, write_of};
+ghost use Rattle.fdp_core.specs.Extent.{extent};
+
 use crate::extent::{Extent, extent_of};
 use crate::room::Room;
 use arrayvec::ArrayVec;
@@ -23,12 +27,18 @@ pub struct Flight {
 
 impl Flight {
     /// The blocks of the write.
-    pub fn extent(&self) -> Extent {
+    pub fn extent(&self) -> Extent
+        requires { IsTrue (is_write self.now.room.command) }
+        ensures { option_map extent (write_of self.now.room.command) ≡ Some result }
+    {
         extent_of(self.room.command()).unwrap()
     }
 
     /// What the write carries.
-    pub fn payload(&self) -> &Payload {
+    pub fn payload(&self) -> &Payload
+        requires { IsTrue (is_write self.now.room.command) }
+        ensures { (w : Write) → write_of self.now.room.command ≡ Some w → result.now ≡ w.payload }
+    {
         match self.room.command() {
             Command::Write { payload, .. } => payload,
             Command::Read { .. }

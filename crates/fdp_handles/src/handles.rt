@@ -1,4 +1,4 @@
-ghost use Rattle.std.specs.Prelude.{◌≡◌, ◌+◌, ◌*◌, ◌-◌, ◌<◌, ◌≤◌, ℕ, Some, IfOk, IfSome, length, replicate, slice_get};
+ghost use Rattle.std.specs.Prelude.{◌≡◌, ◌+◌, ◌*◌, ◌-◌, ◌<◌, ◌≤◌, ℕ, Some, None, IfOk, IfSome, length, replicate, slice_get};
 ghost use Rattle.fdp_base.specs.declared.config.DriveConfig.{DriveConfig};
 ghost use Rattle.fdp_base.specs.Change.{one_less};
 ghost use Rattle.fdp_base.specs.Effect.{no_reference, with_reference};
@@ -97,8 +97,8 @@ impl Handles {
         ensures references { (c : DriveConfig) → c.unit_pages ≡ self.old.unit_pages → reference_at self.new ≡ with_reference (reference_at self.old) rg ruh (one_less c unit (reference_at self.old rg ruh)) }
         ensures rest { self.new ≡ record self.old { rows = self.new.rows } }
     {
-        let place = place_of(rg, ruh);
-        self.rows[place] = self.rows[place].after_page(self.unit_pages, unit);
+        let before = self.reference(rg, ruh);
+        self.rows[place_of(rg, ruh)] = before.after_page(self.unit_pages, unit);
     }
 
     /// A handle has no unit any more.
@@ -136,6 +136,7 @@ fn copied(alloc: Global, classes: &[Class]) -> Result<Vec<Class>, AllocError>
 }
 
 /// Sixteen rows without a unit for each group.
+#[tactic(auto, using(std::proofs::lemmas::List::replicate_more))]
 fn blank_rows(alloc: Global, geometry: Geometry) -> Result<Vec<HandleReference>, AllocError>
     ensures { IfOk result (λ rows. rows.items ≡ replicate (16 * geometry.groups) (record { unit = None; left = geometry.unit_pages })) }
 {

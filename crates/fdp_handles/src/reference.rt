@@ -4,10 +4,10 @@
 //! |---|---|---|---|---|
 //! | without a unit | none | `unit_pages` | with a unit (without, where a unit has one page) | without a unit |
 //! | with a unit | some | 1 to `unit_pages - 1` | with this unit, `left` one less; without a unit after the last page | without a unit |
-ghost use Rattle.std.specs.Prelude.{◌≡◌, ◌-◌, ◌≤◌, ◌<◌, IfSome};
+ghost use Rattle.std.specs.Prelude.{◌≡◌, ◌-◌, ◌≤◌, ◌<◌, None, IfSome};
 ghost use Rattle.fdp_base.specs.declared.config.DriveConfig.{DriveConfig};
 ghost use Rattle.fdp_base.specs.Change.{one_less};
-ghost use Rattle.fdp_handles.specs.HandleTable.{MayTake, HasRightLeft, blank, next_spot, reference_of};
+ghost use Rattle.fdp_handles.specs.HandleTable.{MayTake, HasRightLeft, next_spot, reference_of};
 
 use fdp_base::Spot;
 
@@ -21,7 +21,7 @@ pub struct HandleReference {
 impl HandleReference {
     /// A handle without a unit.
     pub fn blank(unit_pages: u32) -> HandleReference
-        ensures { reference_of result ≡ blank unit_pages }
+        ensures { result ≡ record { unit = None; left = unit_pages } }
     {
         HandleReference {
             unit: None,

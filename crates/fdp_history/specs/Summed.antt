@@ -1,5 +1,5 @@
 -- Bounds on the sums of a history that began fresh.
-use Rattle.std.specs.Prelude.{ℕ, ◌*◌, ◌≤◌}
+use Rattle.std.specs.Prelude.{◌*◌, ◌≤◌}
 use Rattle.fdp_base.specs.Point.{Point}
 
 -- an entry writes at most 64 blocks, programs at most one page and erases at most one unit

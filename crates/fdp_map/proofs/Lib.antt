@@ -1,0 +1,6 @@
+pub mod Sums
+pub mod Tables
+pub mod Stored
+pub mod Counted
+pub mod Emptied
+pub mod Vacant

@@ -18,9 +18,13 @@ row m nsid = slice_index_or m.rows nsid []
 abbrev pub size_in : MapTable → ℕ → ℕ
 size_in m nsid = length (row m nsid)
 
+-- the block at an address of a row
+abbrev pub block_in : List (Option Mapped) → ℕ → Option Mapped
+block_in places lba = option_flatten (slice_get places lba)
+
 -- the block at an address
 abbrev pub mapped_at : MapTable → ℕ → ℕ → Option Mapped
-mapped_at m nsid lba = option_flatten (slice_get (row m nsid) lba)
+mapped_at m nsid lba = block_in (row m nsid) lba
 
 -- the blocks by identifier and address, with another value at one place
 abbrev pub with_mapped : (ℕ → ℕ → Option Mapped) → ℕ → ℕ → Option Mapped → ℕ → ℕ → Option Mapped
@@ -30,9 +34,13 @@ with_mapped table nsid lba value = with_at table nsid (with_at (table nsid) lba 
 abbrev pub is_mapped_in : ℕ → Option Mapped → Bool
 is_mapped_in rg mapped = option_map_or (λ x. x.rg == rg) mapped false
 
+-- how many of so many addresses of a row hold a block of a group
+abbrev pub stored_in_row : List (Option Mapped) → ℕ → ℕ → ℕ → ℕ
+stored_in_row places rg slba count = count_by (λ lba. is_mapped_in rg (block_in places lba)) (numbers_from slba count)
+
 -- how many of so many addresses of a namespace hold a block of a group
 abbrev pub stored_from : MapTable → ℕ → ℕ → ℕ → ℕ → ℕ
-stored_from m rg nsid slba count = count_by (λ lba. is_mapped_in rg (mapped_at m nsid lba)) (numbers_from slba count)
+stored_from m rg nsid slba count = stored_in_row (row m nsid) rg slba count
 
 -- how many blocks a group stores
 abbrev pub stored_in : MapTable → ℕ → ℕ

@@ -4,7 +4,7 @@ ghost use Rattle.fdp_base.specs.Numbers.{is_among, with_at};
 ghost use Rattle.fdp_base.specs.PlainState.{PlainState};
 ghost use Rattle.fdp_base.specs.Room.{stored, stored_where};
 ghost use Rattle.fdp_map.specs.declared.mapped.Mapped.{Mapped as Place};
-ghost use Rattle.fdp_map.specs.MapTable.{Agrees, is_mapped_in, mapped_at, size_in, stored_from, stored_in, with_mapped};
+ghost use Rattle.fdp_map.specs.MapTable.{Agrees, mapped_at, size_in, stored_from, stored_in, with_mapped};
 
 use crate::counts::{lower, raise};
 use crate::mapped::Mapped;
@@ -149,29 +149,22 @@ impl Map {
         ensures value { result ≡ stored_from self.now rg nsid slba count }
         ensures rest { (s : PlainState) → Agrees self.now rg s → stored_where s rg (λ n lba. not (n == nsid && is_among slba count lba)) + result ≡ stored s rg }
     {
-        let mut stored = 0;
-        for i in 0..u64::from(count) {
-            stored += u64::from(self.is_in(rg, nsid, slba + i));
-        }
-        stored
-    }
-
-    fn is_in(&self, rg: u16, nsid: u32, lba: u64) -> bool
-        ensures { result ≡ is_mapped_in rg (mapped_at self.now nsid lba) }
-    {
-        match self.get(nsid, lba) {
-            Some(mapped) => mapped.rg == rg,
-            None => false,
+        if count == 0 {
+            0
+        } else {
+            let places = &self.rows[nsid as usize];
+            places.stored_among(rg, slba, count)
         }
     }
 }
 
 /// A row without places for each identifier, and row 0.
+#[tactic(auto, using(std::proofs::lemmas::List::replicate_more))]
 fn empty_rows(alloc: Global) -> Result<Vec<Places>, AllocError>
     ensures { IfOk result (λ rows. rows.items ≡ replicate 17 []) }
 {
     let mut rows = Vec::new(alloc);
-    for _ in 0..17 {
+    for _ in 0..17u32 {
         rows.push(Places::new(alloc))?;
     }
     Ok(rows)

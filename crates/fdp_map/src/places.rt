@@ -1,5 +1,5 @@
-ghost use Rattle.std.specs.Prelude.{◌≡◌, ◌<◌, [], None, length, replicate, IfOk, slice_get, slice_set};
-ghost use Rattle.std.specs.Option.{option_flatten};
+ghost use Rattle.std.specs.Prelude.{◌≡◌, ◌+◌, ◌<◌, ◌≤◌, [], None, length, replicate, IfOk, slice_set};
+ghost use Rattle.fdp_map.specs.MapTable.{block_in, is_mapped_in, stored_in_row};
 
 use crate::mapped::Mapped;
 use std::alloc::{AllocError, Global};
@@ -31,6 +31,7 @@ impl Places {
     }
 
     /// So many places without a block.
+    #[tactic(auto, using(std::proofs::lemmas::List::replicate_more))]
     pub fn vacant(alloc: Global, size: u64) -> Result<Places, AllocError>
         ensures { IfOk result (λ places. places ≡ replicate size None) }
     {
@@ -49,7 +50,7 @@ impl Places {
 
     /// The block at an address, if there is one.
     pub fn get(&self, lba: u64) -> Option<Mapped>
-        ensures { result ≡ option_flatten (slice_get self.now lba) }
+        ensures { result ≡ block_in self.now lba }
     {
         match self.items.get(lba as usize) {
             Some(Some(mapped)) => Some(*mapped),
@@ -71,5 +72,28 @@ impl Places {
         ensures { self.new ≡ [] }
     {
         self.items.clear();
+    }
+
+    /// How many of `count` addresses from `slba` on hold a block of a group.
+    pub fn stored_among(&self, rg: u16, slba: u64, count: u32) -> u64
+        requires range { slba + count ≤ length self.now }
+        requires size { length self.now ≤ 262144 }
+        ensures { result ≡ stored_in_row self.now rg slba count }
+    {
+        let mut stored = 0;
+        for i in 0..u64::from(count) {
+            stored += u64::from(self.is_in(rg, slba + i));
+        }
+        stored
+    }
+
+    /// Whether a block of a group is at an address.
+    fn is_in(&self, rg: u16, lba: u64) -> bool
+        ensures { result ≡ is_mapped_in rg (block_in self.now lba) }
+    {
+        match self.get(lba) {
+            Some(mapped) => mapped.rg == rg,
+            None => false,
+        }
     }
 }

@@ -29,3 +29,8 @@ namespace_at t nsid = if nat_lt 0 nsid then row t.namespaces (nsid - 1) else Non
 -- the reclaim unit handles of a namespace, by placement handle; none where it is not there
 abbrev pub handles_at : SpaceTable → ℕ → List ℕ
 handles_at t nsid = option_map_or (λ x. x.handles) (namespace_at t nsid) []
+
+-- a namespace that is there has one of the sixteen identifiers, and one to sixteen handles
+pub record IsProper (nsid : ℕ) (x : Namespace) : Type 0 where
+  pub identifier : IsWithin 1 16 nsid
+  pub handles : IsWithin 1 16 (length x.handles)

@@ -1,4 +1,4 @@
-ghost use Rattle.std.specs.Prelude.{◌≡◌, ℕ, ◌-◌, ◌^◌, ◌≤◌, Some, None, [], length, replicate, IfOk, IsSome, option_map, option_and_then, is_none, slice_index, Contains};
+ghost use Rattle.std.specs.Prelude.{◌≡◌, ℕ, ◌-◌, ◌^◌, ◌≤◌, Some, None, [], length, replicate, IfOk, IfSome, IsSome, option_map, option_and_then, is_none, slice_index, Contains};
 ghost use Rattle.std.specs.Option.{option_copied};
 ghost use Rattle.fdp_base.specs.declared.config.DriveConfig.{DriveConfig};
 ghost use Rattle.fdp_base.specs.Geometry.{IsWithin};
@@ -7,7 +7,7 @@ ghost use Rattle.fdp_base.specs.Placement.{group_bits};
 ghost use Rattle.fdp_base.specs.PlainState.{PlainState};
 ghost use Rattle.fdp_base.specs.Target.{named_by, target_of};
 ghost use Rattle.fdp_spaces.specs.Resolving.{Agrees, IsNamed, LeadsWithin, is_default, named_in, target_by};
-ghost use Rattle.fdp_spaces.specs.SpaceTable.{handles_at, namespace_at, namespace_of};
+ghost use Rattle.fdp_spaces.specs.SpaceTable.{IsProper, handles_at, namespace_at, namespace_of};
 
 use crate::resolved::Resolved;
 use crate::space::Space;
@@ -47,7 +47,7 @@ impl Spaces {
     /// Puts a namespace under an identifier, in place of the one that was there.
     pub fn insert(&mut self, nsid: u32, space: Space)
         requires nsid { IsWithin 1 16 nsid }
-        requires handles { 1 ≤ length space.handles.items }
+        requires handles { IsWithin 1 16 (length space.handles.items) }
         ensures namespaces { namespace_at self.new ≡ with_at (namespace_at self.old) nsid (Some (namespace_of space)) }
         ensures groups { self.new.groups ≡ self.old.groups }
     {
@@ -56,16 +56,16 @@ impl Spaces {
 
     /// Removes the namespace with an identifier, if there is one.
     pub fn remove(&mut self, nsid: u32)
+        requires nsid { IsWithin 1 16 nsid }
         ensures namespaces { namespace_at self.new ≡ with_at (namespace_at self.old) nsid None }
         ensures groups { self.new.groups ≡ self.old.groups }
     {
-        if 1 <= nsid && nsid <= 16 {
-            self.rows[nsid as usize - 1] = None;
-        }
+        self.rows[nsid as usize - 1] = None;
     }
 
     fn space(&self, nsid: u32) -> Option<&Space>
-        ensures { option_map namespace_of (option_copied result) ≡ namespace_at self.now nsid }
+        ensures value { option_map namespace_of (option_copied result) ≡ namespace_at self.now nsid }
+        ensures proper { IfSome (namespace_at self.now nsid) (IsProper nsid) }
     {
         if nsid == 0 {
             None
@@ -80,7 +80,8 @@ impl Spaces {
 
     /// The size of a namespace in blocks, if it is there.
     pub fn size(&self, nsid: u32) -> Option<u64>
-        ensures { result ≡ option_map (λ x. x.size) (namespace_at self.now nsid) }
+        ensures value { result ≡ option_map (λ x. x.size) (namespace_at self.now nsid) }
+        ensures proper { IfSome (namespace_at self.now nsid) (IsProper nsid) }
     {
         match self.space(nsid) {
             Some(space) => Some(space.size),
@@ -101,7 +102,7 @@ impl Spaces {
     /// The reclaim unit handles of a namespace, by placement handle; none where it is not there.
     pub fn handles(&self, nsid: u32) -> &[u8]
         ensures value { result.now ≡ handles_at self.now nsid }
-        ensures bound { IsSome (namespace_at self.now nsid) → IsWithin 1 16 (length result.now) }
+        ensures proper { IfSome (namespace_at self.now nsid) (IsProper nsid) }
     {
         match self.space(nsid) {
             Some(space) => space.handles.as_slice(),
@@ -173,11 +174,12 @@ impl Spaces {
 }
 
 /// Sixteen rows without a namespace.
+#[tactic(auto, using(std::proofs::lemmas::List::replicate_more))]
 fn empty_rows(alloc: Global) -> Result<Vec<Option<Space>>, AllocError>
     ensures { IfOk result (λ rows. rows.items ≡ replicate 16 None) }
 {
     let mut rows = Vec::new(alloc);
-    for _ in 0..16 {
+    for _ in 0..16u32 {
         rows.push(None)?;
     }
     Ok(rows)

@@ -9,10 +9,9 @@ ghost use Rattle.fdp_tables.specs.Sound.{IsSound};
 ghost use Rattle.fdp_tables.specs.State.{going_of, plain_of, point_kept, target_at};
 
 use crate::kinds::blocks_written;
-use crate::refusal::directed_by;
 use crate::replies::{is_bare, is_write_fault};
 use crate::state::{Destination, Kept, KeptGoing};
-use fdp_base::{Command, Reply, Status};
+use fdp_base::{Command, Reply, Status, directed_by};
 
 impl Kept {
     /// Whether a going write exceeds the budget of its group.

@@ -11,7 +11,7 @@ ghost use Rattle.fdp_tables.specs.State.{plain_of, point_kept};
 
 use crate::room::NAMESPACE_IDS;
 use crate::state::Kept;
-use fdp_base::{Command, Range, Status};
+use fdp_base::{Command, Range, Status, directed_by};
 use std::alloc::{AllocError, Global};
 
 /// The types of FDP event.
@@ -404,13 +404,6 @@ fn has_bad_range(group: u16, offset: u64, dwords: u32) -> bool
     ensures { result ≡ (not (group == 1) || nat_lt 1024 dwords || not (offset % 4 == 0)) }
 {
     group != 1 || 1024 < dwords || offset % 4 != 0
-}
-
-/// The placement identifier of a write.
-pub fn directed_by(dtype: u8, dspec: u16) -> Option<u16>
-    ensures { result ≡ directed_by dtype dspec }
-{
-    if dtype == 2 { Some(dspec) } else { None }
 }
 
 fn is_event_type(code: u8) -> bool

@@ -6,8 +6,8 @@ ghost use Rattle.fdp_core.specs.Book.{point_in, state_in};
 ghost use Rattle.fdp_core.specs.BookSteps.{IsServed};
 
 use super::Book;
-use crate::extent::{Extent, directed_by};
-use fdp_base::{Command, Status};
+use crate::extent::Extent;
+use fdp_base::{Command, Status, directed_by};
 
 impl Book {
     /// The status with which a write or a read is refused, if it is. It looks at each group, and at each block of a write.

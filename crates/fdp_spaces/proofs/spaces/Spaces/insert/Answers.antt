@@ -1,0 +1,25 @@
+use Rattle.std.proofs.Common.{◌≡◌, ◌∙◌, ◌-◌, ◌<◌, List, Option, Some, ap, arith, length, map, set, subst, sym}
+use Rattle.std.specs.Prelude.{option_map}
+use Rattle.std.proofs.lemmas.List.{map-set}
+use Rattle.fdp_base.specs.Numbers.{with_at}
+use Rattle.fdp_base.specs.PlainState.{Namespace}
+use Rattle.fdp_spaces.specs.declared.space.Space.{Space}
+use Rattle.fdp_spaces.specs.SpaceTable.{AreRows, SpaceTable, namespace_at, namespace_of}
+use Rattle.fdp_spaces.proofs.Rows.{namespace_put, rows_put, with_row}
+use Rattle.fdp_spaces.proofs.spaces.Spaces.insert.Goals as goal
+
+pub invariant_of-self : goal.invariant_of-self
+invariant_of-self c =
+    let rows : List (Option Namespace) = map (option_map namespace_of) c.self.inside.rows.items in
+    let there : c.args.nsid - 1 < length rows = omega (arith, c.self.invariant.count, c.requires.nsid.0, c.requires.nsid.1) in
+    subst AreRows (sym (map-set (option_map namespace_of) c.self.inside.rows.items (c.args.nsid - 1) (Some c.args.space)))
+    (rows_put rows (c.args.nsid - 1) (Some (namespace_of c.args.space)) there c.requires.handles c.self.invariant)
+
+pub returns-clause-namespaces : goal.returns-clause-namespaces
+returns-clause-namespaces c =
+    let t : SpaceTable = record { groups = c.self.inside.groups; namespaces = map (option_map namespace_of) c.self.inside.rows.items } in
+    let there : c.args.nsid - 1 < length t.namespaces = omega (arith, c.self.invariant.count, c.requires.nsid.0, c.requires.nsid.1) in
+    let put : Option Namespace = Some (namespace_of c.args.space) in
+    ap (λ (rows : List (Option Namespace)). namespace_at (record { groups = c.self.inside.groups; namespaces = rows })) (map-set (option_map namespace_of) c.self.inside.rows.items (c.args.nsid - 1) (Some c.args.space))
+    ∙ namespace_put t c.args.nsid put c.requires.nsid.0 there
+    ∙ ap (λ (x : SpaceTable). with_at (namespace_at x) c.args.nsid put) c.self.view_is
