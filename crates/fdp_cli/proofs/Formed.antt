@@ -12,7 +12,7 @@ use Rattle.fdp_trace.specs.Grammar.{IsTraceOf, Says, is_skipped}
 use Rattle.fdp_trace.specs.Lines.{Fixed, IsLine, Part, amount, bits, write, write_placed, read, zeroes, dealloc, flush, status, update, log, log_ctrl, log_host, set_fdp, get_fdp, set_events, create, delete}
 use Rattle.std.proofs.lemmas.Bool.Decides.{nat_tests}
 use Rattle.std.specs.Str.Lines.{lines}
-use Rattle.fdp_cli.specs.Found.{IsServable, is_served}
+use Rattle.fdp_cli.specs.Servable.{IsServable, is_served}
 
 -- the amount in the third place of a line is in its range
 third : (a b : Part) (n : ℕ) (more : List Part) (words : List (List ℕ)) → AllZip IsInRange (a ∷ b ∷ amount n ∷ more) words → IsWithin 1 65536 n

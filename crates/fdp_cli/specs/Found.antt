@@ -1,10 +1,9 @@
 -- What a run finds to serve: a configuration and the commands of a trace.
-use Rattle.std.specs.Prelude.{String, ◌≡◌, ◌⊎◌, ℕ, nat_lt, Bool, ◌||◌, IsTrue, if◌then◌else◌, List, length, Option, Some, None, Result, Ok, Err}
+use Rattle.std.specs.Prelude.{String, ◌≡◌, ◌⊎◌, ℕ, nat_lt, IsTrue, if◌then◌else◌, List, length, Option, Some, None, Result, Ok, Err}
 use Rattle.std.specs.declared.alloc.Global.{Global}
 use Rattle.std.specs.List.{list_all}
 use Rattle.fdp_base.specs.declared.command.Command.{Command}
 use Rattle.fdp_base.specs.declared.config.DriveConfig.{DriveConfig}
-use Rattle.fdp_base.specs.CommandKinds.{IsWellFormed, is_read, is_write}
 use Rattle.fdp_base.specs.Config.{IsValidConfig}
 use Rattle.fdp_base.specs.Counts.{Rose}
 use Rattle.fdp_config.specs.declared.fault.NoConfig.{NoConfig}
@@ -14,16 +13,8 @@ use Rattle.fdp_trace.specs.Trace.{trace_of}
 use Rattle.fdp_cli.specs.declared.fault.Fault.{Fault}
 use Rattle.fdp_cli.specs.declared.fault.Fault.TheVariants as faults
 use Rattle.fdp_cli.specs.Asked.{Texts, asked_of}
+use Rattle.fdp_cli.specs.Servable.{is_served}
 use Rattle.fdp_cli.specs.Configured.{ReadsConfig, ReadsNoConfig}
-
--- whether a command is served: a write or a read, of any count, with a placement identifier or without
-abbrev pub is_served : Command → Bool
-is_served command = is_write command || is_read command
-
--- a command that the drive can begin: it is served, and well formed
-pub record IsServable (c : DriveConfig) (command : Command) : Type 0 where
-  pub served : IsTrue (is_served command)
-  pub formed : IsWellFormed c command
 
 -- the commands of a trace, or its fault
 abbrev pub served_of : Result (List Command) (ℕ × FaultKind) → Result (List Command) Fault

@@ -5,7 +5,8 @@ ghost use Rattle.fdp_base.specs.Config.{IsValidConfig};
 ghost use Rattle.fdp_io.specs.Bench.{SameTexts};
 ghost use Rattle.fdp_cli.specs.Asked.{asked_of};
 ghost use Rattle.fdp_cli.specs.Configured.{ReadsConfig};
-ghost use Rattle.fdp_cli.specs.Found.{ConfigLacks, Finds, IsFaultOf, IsServable, Lacks, Reads, TraceLacks, commands_of, is_served};
+ghost use Rattle.fdp_cli.specs.Found.{ConfigLacks, Finds, IsFaultOf, Lacks, Reads, TraceLacks, commands_of};
+ghost use Rattle.fdp_cli.specs.Servable.{IsServable, is_served};
 
 use crate::asked::asked;
 use crate::fault::Fault;

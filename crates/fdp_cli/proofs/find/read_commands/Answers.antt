@@ -1,6 +1,6 @@
 use Rattle.std.proofs.Common.{ap, sym, ◌∙◌}
 use Rattle.std.specs.List.{list_all}
-use Rattle.fdp_cli.specs.Found.{is_served}
+use Rattle.fdp_cli.specs.Servable.{is_served}
 use Rattle.fdp_cli.proofs.Formed.{servable_trace}
 use Rattle.fdp_cli.proofs.find.read_commands.Goals as goal
 

@@ -1,0 +1,195 @@
+-- The steps of one command, joined.
+use Rattle.std.proofs.Common.{◌≡◌, ℕ, suc, ◌+◌, ◌*◌, ◌≤◌, ◌<◌, Bool, true, false, get_or, take, length-take, List, [], ◌∷◌, ◌++◌, length, refl, ap, sym, ◌∙◌, subst, arith, Some, None, inl, inr}
+use Rattle.std.specs.Prelude.{Option}
+use Rattle.std.specs.List.{enumerate_from}
+use Rattle.std.proofs.lemmas.List.{take_more}
+use Rattle.std.proofs.lemmas.List.Elements.{filter_map-append}
+use Rattle.fdp_base.specs.declared.command.Command.{Command}
+use Rattle.fdp_base.specs.declared.entry.Entry.{Entry}
+use Rattle.fdp_base.specs.declared.entry.Entry.TheVariants as entries
+use Rattle.fdp_base.specs.declared.entry.Reply.{Reply}
+use Rattle.fdp_base.specs.PlainState.{Going}
+use Rattle.fdp_base.specs.Queue.{completed, completed_by, numbered}
+use Rattle.fdp_base.specs.Totals.{blocks_written}
+use Rattle.fdp_flash.specs.FlashState.{FlashState}
+use Rattle.fdp_core.specs.declared.ticket.Done.{Done}
+use Rattle.fdp_core.specs.declared.ticket.Ticket.{Ticket}
+use Rattle.fdp_core.specs.Book.{state_in}
+use Rattle.fdp_core.specs.Answers.{EndsAlone, EndsInPlacing, FailsToPlace, PlacesPage, Starts, Commits}
+use Rattle.fdp_core.specs.BookSteps.{IsReady, IsWaiting}
+use Rattle.fdp_core.specs.Seen.{Seen}
+use Rattle.fdp_core.specs.Steps.{Completes, Grows}
+use Rattle.fdp_core.specs.Tickets.{IsTicketOf}
+use Rattle.fdp_cli.specs.Serving.{EndsWrite, IsIdle, IsPlacing, PlacesSome, ServesFirst, ServesOne}
+use Rattle.fdp_cli.proofs.Growing.{grows-joined, grows-none, grows-reserved, grows-reserving, grows-step, with_spare}
+use Rattle.fdp_cli.proofs.Idling.{idle_ended, idle_ended_behind, idle_still}
+
+-- ---- the pages of a write
+
+-- no page is placed yet
+pub places-none : {F : Type 0} (state : F → FlashState) (old : Seen F) (ticket : Ticket) (pages : ℕ) → old.failed ≡ false → IsPlacing old.book ticket pages 0 → PlacesSome state old old ticket ticket pages 0
+places-none state old ticket pages well from = record {
+  from = from;
+  to = subst (λ k. IsTicketOf (state_in old.book) ticket (record from.going { placed = k })) from.placed_are from.ticket_is;
+  same = refl;
+  es = [];
+  grown = grows-none state old well;
+  silent = refl;
+  spent = omega arith;
+  spare = omega arith;
+  well = well;
+}
+
+-- a page more is placed
+pub places-more : {F : Type 0} (state : F → FlashState) (old mid new : Seen F) (ticket next last : Ticket) (pages k : ℕ) (p : PlacesSome state old mid ticket next pages k) → PlacesPage state mid new next (record p.from.going { placed = k }) last → PlacesSome state old new ticket last pages (k + 1)
+places-more state old mid new ticket next last pages k p q = record {
+  from = p.from;
+  to = q.going;
+  same = q.next_is ∙ p.same;
+  es = p.es ++ entries.Placed next.position k q.unit q.page ∷ [];
+  grown = grows-joined state old mid new p.es (entries.Placed next.position k q.unit q.page ∷ []) p.grown p.well (grows-step state mid new _ q.step);
+  silent = filter_map-append (completed_by 1) p.es (entries.Placed next.position k q.unit q.page ∷ []) ∙ ap (λ xs. xs ++ []) p.silent;
+  spent = omega (arith, p.spent, q.step.book.spent_is);
+  spare = omega (arith, p.spare, q.step.book.spare_is);
+  well = q.well;
+}
+
+-- a page is still to be placed
+pub placing_waits : {F : Type 0} (state : F → FlashState) (old mid : Seen F) (ticket next : Ticket) (pages k : ℕ) → PlacesSome state old mid ticket next pages k → k < pages → IsWaiting mid.book next
+placing_waits state old mid ticket next pages k p low = record { going = _; ticket_is = p.to; asked = omega (arith, low, p.from.pages_are) }
+
+-- all pages are placed
+pub placing_ready : {F : Type 0} (state : F → FlashState) (old mid : Seen F) (ticket next : Ticket) (pages : ℕ) → PlacesSome state old mid ticket next pages pages → IsReady mid.book next
+placing_ready state old mid ticket next pages p = record { going = _; ticket_is = p.to; placed = sym p.from.pages_are }
+
+-- the page that was placed is not the last
+pub placed_more : {F : Type 0} (state : F → FlashState) (old mid new : Seen F) (ticket next last : Ticket) (pages k : ℕ) (p : PlacesSome state old mid ticket next pages k) →
+    PlacesPage state mid new next (record p.from.going { placed = k }) last × (k + 1 < blocks_written p.from.going.command) → PlacesSome state old new ticket last pages (k + 1) × (k + 1 < pages)
+placed_more state old mid new ticket next last pages k p h = (places-more state old mid new ticket next last pages k p h.0, omega (arith, h.1, p.from.pages_are))
+
+-- it is the last
+pub placed_all : {F : Type 0} (state : F → FlashState) (old mid new : Seen F) (ticket next last : Ticket) (pages k : ℕ) (p : PlacesSome state old mid ticket next pages k) →
+    PlacesPage state mid new next (record p.from.going { placed = k }) last × (k + 1 ≡ blocks_written p.from.going.command) → PlacesSome state old new ticket last pages pages
+placed_all state old mid new ticket next last pages k p h =
+    subst (λ n. PlacesSome state old new ticket last pages n) (h.1 ∙ p.from.pages_are) (places-more state old mid new ticket next last pages k p h.0)
+
+-- ---- the end of a write
+
+ends_behind : {F : Type 0} (state : F → FlashState) (old mid new : Seen F) (ticket next : Ticket) (pages k : ℕ) (p : PlacesSome state old mid ticket next pages k) (before : List Entry) (done : Done) →
+    k ≤ pages → completed 1 before ≡ [] → IsIdle new.book → Completes state mid new before 1 p.from.going.number p.from.going.command done → EndsWrite state old new ticket pages
+ends_behind state old mid new ticket next pages k p before done few silent idle h =
+    let host : Entry = entries.Host 1 p.from.going.number p.from.going.command done.reply done.moment in
+    record {
+      from = p.from;
+      es = p.es ++ (before ++ host ∷ []);
+      grown = grows-joined state old mid new p.es (before ++ host ∷ []) p.grown p.well (grows-step state mid new _ h.step);
+      completes = filter_map-append (completed_by 1) p.es (before ++ host ∷ [])
+          ∙ ap (λ xs. xs ++ completed 1 (before ++ host ∷ [])) p.silent
+          ∙ filter_map-append (completed_by 1) before (host ∷ [])
+          ∙ ap (λ xs. xs ++ (p.from.going.number, p.from.going.command) ∷ []) silent;
+      steps = omega (arith, p.spent, h.step.book.spent_is, few);
+      idle = idle;
+    }
+
+queue_one : {F : Type 0} (state : F → FlashState) (old mid : Seen F) (ticket next : Ticket) (pages k : ℕ) → PlacesSome state old mid ticket next pages k → next.queue ≡ 1
+queue_one state old mid ticket next pages k p = ap (λ (t : Ticket). t.queue) p.same ∙ p.from.queue_is
+
+-- a write ended behind no other entry
+pub ends_alone : {F : Type 0} (state : F → FlashState) (old mid new : Seen F) (ticket next : Ticket) (pages k : ℕ) (p : PlacesSome state old mid ticket next pages k) (reply : Reply) (done : Done) →
+    k ≤ pages → EndsAlone state mid new next (record p.from.going { placed = k }) reply done → EndsWrite state old new ticket pages
+ends_alone state old mid new ticket next pages k p reply done few e =
+    let h = subst (λ q. Completes state mid new [] q p.from.going.number p.from.going.command done) (queue_one state old mid ticket next pages k p) e.completes in
+    ends_behind state old mid new ticket next pages k p [] done few refl
+    (idle_ended mid.book new.book p.from.going.number p.from.going.command done.reply done.moment h.step.book.config_is h.step.book.entries_are p.from.write) h
+
+-- a write ended in place of a page
+pub ends_placing : {F : Type 0} (state : F → FlashState) (old mid new : Seen F) (ticket next : Ticket) (pages k : ℕ) (p : PlacesSome state old mid ticket next pages k) (done : Done) →
+    k ≤ pages → EndsInPlacing state mid new next (record p.from.going { placed = k }) done → EndsWrite state old new ticket pages
+ends_placing state old mid new ticket next pages k p done few (inl gone) = ends_alone state old mid new ticket next pages k p _ done few gone.1
+ends_placing state old mid new ticket next pages k p done few (inr (inl wants)) = ends_alone state old mid new ticket next pages k p _ done few wants.1
+ends_placing state old mid new ticket next pages k p done few (inr (inr fails)) =
+    let shut : Entry = entries.Shut p.from.going.rg p.from.going.ruh in
+    let h = subst (λ q. Completes state mid new (shut ∷ []) q p.from.going.number p.from.going.command done) (queue_one state old mid ticket next pages k p) fails.1.completes in
+    ends_behind state old mid new ticket next pages k p (shut ∷ []) done few refl
+    (idle_ended_behind mid.book new.book shut p.from.going.number p.from.going.command done.reply done.moment h.step.book.config_is h.step.book.entries_are p.from.write) h
+
+-- a write ended whose pages were placed
+pub ends_committing : {F : Type 0} (state : F → FlashState) (old mid new : Seen F) (ticket next : Ticket) (pages : ℕ) (p : PlacesSome state old mid ticket next pages pages) (done : Done) →
+    Commits state mid new next (record p.from.going { placed = pages }) done → EndsWrite state old new ticket pages
+ends_committing state old mid new ticket next pages p done (inl gone) = ends_alone state old mid new ticket next pages pages p _ done (omega arith) gone.1
+ends_committing state old mid new ticket next pages p done (inr (inl over)) = ends_alone state old mid new ticket next pages pages p _ done (omega arith) over.2
+ends_committing state old mid new ticket next pages p done (inr (inr well)) = ends_alone state old mid new ticket next pages pages p _ done (omega arith) well.1
+
+-- ---- a command
+
+-- the first step of a command completed it
+pub ends_at_once : {F : Type 0} (state : F → FlashState) (old mid new : Seen F) (number : ℕ) (command : Command) (done : Done) →
+    mid ≡ with_spare old mid.book.spare → IsIdle old.book → Completes state mid new [] 1 number command done → ServesOne state old new number command
+ends_at_once state old mid new number command done same idle h = record {
+  es = entries.Host 1 number command done.reply done.moment ∷ [];
+  grown = grows-reserved state old mid new _ same (grows-step state mid new _ h.step);
+  completes = refl;
+  steps = omega (arith, h.step.book.spent_is, ap (λ (s : Seen _). s.book.spent) same);
+  idle = idle_still mid.book new.book number command done.reply done.moment h.step.book.config_is h.step.book.entries_are (subst (λ (s : Seen _). IsIdle s.book) (sym same) idle);
+}
+
+same_going : (a b : Going) (x : Option Going) → x ≡ Some a → x ≡ Some b → a ≡ b
+same_going a b x p q = cc
+
+-- a write was started, and ended
+pub ends_started : {F : Type 0} (state : F → FlashState) (old mid started new : Seen F) (number : ℕ) (command : Command) (ticket : Ticket) →
+    mid ≡ with_spare old mid.book.spare → Starts state mid started 1 number command ticket → blocks_written command + 2 ≤ 66 → EndsWrite state started new ticket (blocks_written command) → ServesOne state old new number command
+ends_started state old mid started new number command ticket same h few e =
+    let start : Entry = entries.Started 1 number command h.target.rg h.target.ruh h.target.valid in
+    let going = same_going e.from.going _ _ e.from.ticket_is.going_is h.going.going_is in
+    record {
+      es = start ∷ e.es;
+      grown = grows-reserved state old mid new _ same (grows-joined state mid started new (start ∷ []) e.es (grows-step state mid started _ h.step) h.well e.grown);
+      completes = e.completes ∙ ap (λ (g : Going). (g.number, g.command) ∷ []) going;
+      steps = omega (arith, h.step.book.spent_is, e.steps, few, ap (λ (s : Seen _). s.book.spent) same);
+      idle = e.idle;
+    }
+
+-- ---- a trace
+
+enumerate-push : (n : ℕ) (xs : List Command) (x : Command) → enumerate_from n (xs ++ x ∷ []) ≡ enumerate_from n xs ++ (n + length xs, x) ∷ []
+enumerate-push n [] x = let e : n ≡ n + 0 = omega arith in ap (λ k. (k, x) ∷ []) e
+enumerate-push n (y ∷ ys) x = let e : n + 1 + length ys ≡ n + suc (length ys) = omega arith in ap (λ zs. (n, y) ∷ zs) (enumerate-push (n + 1) ys x ∙ ap (λ k. enumerate_from (n + 1) ys ++ (k, x) ∷ []) e)
+
+numbered-more : (trace : List Command) (n : ℕ) (command : Command) → n < length trace → command ≡ get_or trace n command → numbered (take (n + 1) trace) ≡ numbered (take n trace) ++ (n, command) ∷ []
+numbered-more trace n command low is =
+    let size : 0 + length (take n trace) ≡ n = omega (arith, length-take n trace) in
+    ap numbered (take_more trace n command low ∙ ap (λ (x : Command). take n trace ++ x ∷ []) (sym is))
+    ∙ enumerate-push 0 (take n trace) command
+    ∙ ap (λ k. numbered (take n trace) ++ (k, command) ∷ []) size
+
+-- no command was served yet
+pub first-none : {F : Type 0} (state : F → FlashState) (old : Seen F) (trace : List Command) → old.failed ≡ false → ServesFirst state old old trace 0 false
+first-none state old trace well = record {
+  es = [];
+  grown = grows-none state old well;
+  completes = refl;
+  steps = omega arith;
+  well = well;
+}
+
+-- one command more was served
+pub first-more : {F : Type 0} (state : F → FlashState) (old mid new : Seen F) (trace : List Command) (n : ℕ) (command : Command) (failed : Bool) → ServesFirst state old mid trace n false → n < length trace → command ≡ get_or trace n command →
+    ServesOne state mid new n command → new.failed ≡ failed → ServesFirst state old new trace (n + 1) failed
+first-more state old mid new trace n command failed p low is q well = record {
+  es = p.es ++ q.es;
+  grown = grows-joined state old mid new p.es q.es p.grown p.well q.grown;
+  completes = filter_map-append (completed_by 1) p.es q.es ∙ ap (λ xs. xs ++ completed 1 q.es) p.completes ∙ ap (λ xs. numbered (take n trace) ++ xs) q.completes ∙ sym (numbered-more trace n command low is);
+  steps = omega (arith, p.steps, q.steps);
+  well = well;
+}
+
+-- only memory was taken
+pub first-reserved : {F : Type 0} (state : F → FlashState) (old mid new : Seen F) (trace : List Command) (n : ℕ) → ServesFirst state old mid trace n false → new ≡ with_spare mid new.book.spare → ServesFirst state old new trace n false
+first-reserved state old mid new trace n p same = record {
+  es = p.es;
+  grown = grows-reserving state old mid new p.es same p.grown;
+  completes = p.completes;
+  steps = omega (arith, p.steps, ap (λ (s : Seen _). s.book.spent) same);
+  well = ap (λ (s : Seen _). s.failed) same ∙ p.well;
+}
