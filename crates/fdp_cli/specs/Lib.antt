@@ -4,3 +4,7 @@ pub mod Faults
 pub mod Found
 pub mod OutputText
 pub mod Printing
+pub mod Servable
+pub mod Serving
+pub mod Session
+pub mod Top

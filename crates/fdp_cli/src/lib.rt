@@ -2,8 +2,16 @@
 #![tactic(auto)]
 
 mod asked;
-pub mod fault;
-pub mod find;
+mod fault;
+mod find;
 mod print;
+mod serving;
+mod top;
 
+pub use fault::Fault;
 pub use print::{Cut, print_output};
+pub use serving::{ServeEnd, serve};
+pub use top::drive_top;
+
+#[cfg(test)]
+mod tests;
