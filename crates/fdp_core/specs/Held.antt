@@ -1,11 +1,12 @@
 -- How the tables of a book stand for its history: one record for each pair of a table and what it follows.
-use Rattle.std.specs.Prelude.{◌≡◌, ℕ, ◌+◌, ◌*◌, ◌-◌, ◌<◌, ◌≤◌, false, IsTrue, IsFalse, List, Option, Some, None, length, slice_get, slice_index, option_map}
+use Rattle.std.specs.Prelude.{◌≡◌, ℕ, ◌+◌, ◌*◌, ◌-◌, ◌<◌, ◌≤◌, false, IsTrue, IsFalse, List, Option, Some, None, length, slice_get, slice_index, slice_set, option_map, if◌then◌else◌}
 use Rattle.std.specs.Option.{option_flatten}
+use Rattle.fdp_base.specs.declared.command.Command.{Command}
 use Rattle.fdp_base.specs.declared.config.DriveConfig.{DriveConfig}
 use Rattle.fdp_base.specs.declared.entry.Entry.{Entry}
 use Rattle.fdp_base.specs.declared.entry.Spot.{Spot}
 use Rattle.fdp_base.specs.declared.spare.DataSpare.{DataSpare}
-use Rattle.fdp_base.specs.CommandKinds.{Write, write_of}
+use Rattle.fdp_base.specs.CommandKinds.{Write, is_write, write_of}
 use Rattle.fdp_base.specs.Config.{IsValidConfig}
 use Rattle.fdp_base.specs.Geometry.{all_pages}
 use Rattle.fdp_base.specs.History.{fresh, point_of}
@@ -23,6 +24,7 @@ use Rattle.fdp_flash.specs.declared.cell.Cell.TheVariants.{Whole}
 use Rattle.fdp_flash.specs.Cells.{IsBlankFrom, IsBlankUnit}
 use Rattle.fdp_flash.specs.Layout.{page_number}
 use Rattle.fdp_history.specs.Orderly.{IsOrderly}
+use Rattle.fdp_history.specs.Standing.{IsStanding}
 use Rattle.fdp_spaces.specs.SpaceTable.{SpaceTable, namespace_at}
 use Rattle.fdp_handles.specs.HandleTable.{HandleTable, reference_at}
 use Rattle.fdp_map.specs.MapTable.{MapTable, mapped_at, size_in}
@@ -92,6 +94,10 @@ pub record IsMapOf (c : DriveConfig) (p : Point) (cells : List Cell) (x : MapTab
 abbrev pub flight_in : List (Option Flight) → ℕ → Option Flight
 flight_in flights queue = option_flatten (slice_get flights queue)
 
+-- the flights after the end of a command: of a write, none is in its queue
+abbrev pub flights_after : Command → List (Option Flight) → ℕ → List (Option Flight)
+flights_after command flights queue = if is_write command then slice_set flights queue None else flights
+
 -- a flight as a going write
 abbrev pub going_of : Flight → Going
 going_of f = record {
@@ -147,6 +153,7 @@ pub record AreUnitsOf (c : DriveConfig) (es : List Entry) (s : PlainState) (cell
 pub record IsHeld (c : DriveConfig) (es : List Entry) (setting : Setting) (sums : Sums) (spaces : SpaceTable) (handles : HandleTable) (map : MapTable) (flights : List (Option Flight)) (used : List ℕ) : Type 0 where
   pub config : IsValidConfig c
   pub orderly : IsOrderly c (point_of c (fresh c) es)
+  pub standing : IsStanding c (point_of c (fresh c) es)
   pub setting_is : IsSettingOf (point_of c (fresh c) es).state setting
   pub sums_are : AreSumsOf es sums
   pub all_units : HasAllUnits (point_of c (fresh c) es).state

@@ -8,10 +8,13 @@ pub mod Book
 pub mod Tickets
 pub mod BookSteps
 pub mod Reading
+pub mod Configured
 pub mod Held
+pub mod Flown
 pub mod Seen
 pub mod Media
 pub mod ReadSteps
 pub mod Steps
+pub mod Stages
 pub mod Answers
 pub mod Sound

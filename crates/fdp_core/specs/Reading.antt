@@ -6,7 +6,7 @@ use Rattle.fdp_base.specs.PlainState.{Block}
 use Rattle.fdp_base.specs.Step.{IsPage}
 use Rattle.fdp_flash.specs.declared.cell.Cell.TheVariants.{Whole}
 use Rattle.fdp_flash.specs.Layout.{page_number}
-use Rattle.fdp_core.specs.declared.book.Page.{Page}
+use Rattle.fdp_core.specs.declared.book.reading.Page.{Page}
 use Rattle.fdp_core.specs.Book.{BookSeen}
 use Rattle.fdp_core.specs.Pages.{cells_of}
 

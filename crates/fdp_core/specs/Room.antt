@@ -1,5 +1,5 @@
 -- Replies, and the memory that was taken for them.
-use Rattle.std.specs.Prelude.{◌≡◌, ℕ, ◌*◌, false, List, length, nat_le, replicate, if◌then◌else◌}
+use Rattle.std.specs.Prelude.{◌≡◌, ℕ, ◌*◌, false, List, nat_le, if◌then◌else◌}
 use Rattle.fdp_base.specs.declared.command.Command.{Command}
 use Rattle.fdp_base.specs.declared.command.Command.TheVariants as commands
 use Rattle.fdp_base.specs.declared.config.DriveConfig.{DriveConfig}

@@ -1,4 +1,4 @@
-ghost use Rattle.std.specs.Prelude.{◌≡◌, ◌+◌, ◌*◌, ◌≤◌, ◌^◌, IsTrue, length, OnOk, OnErr, IfOk};
+ghost use Rattle.std.specs.Prelude.{◌≡◌, ◌↔◌, ◌+◌, ◌*◌, ◌≤◌, ◌^◌, IsTrue, length, OnOk, OnErr, IfOk};
 ghost use Rattle.fdp_base.specs.Config.{IsValidConfig};
 ghost use Rattle.fdp_base.specs.History.{fresh, totals_of};
 ghost use Rattle.fdp_base.specs.Placement.{geometry_of};
@@ -7,10 +7,13 @@ ghost use Rattle.fdp_core.specs.Pages.{blank_cells};
 ghost use Rattle.fdp_core.specs.BookSteps.{IsFlying};
 ghost use Rattle.fdp_core.specs.UsedOnce.{IsLegalOnce};
 ghost use Rattle.fdp_core.specs.Seen.{HoldsHistory, new_over};
+ghost use Rattle.fdp_core.specs.Stages.{IsStage};
+ghost use Rattle.fdp_core.specs.Steps.{IsFree};
 
-use fdp_base::{DriveConfig, Entry, Totals};
 use crate::book::Book;
+use crate::stage::Stage;
 use crate::ticket::Ticket;
+use fdp_base::{DriveConfig, Entry, Totals};
 use fdp_flash::Flash;
 use std::alloc::{AllocError, Global};
 use std::marker::Model;
@@ -40,7 +43,7 @@ impl<F: Flash> Model for Group<F> {
 
     ghost view = { λ g. record { book = g.book; failed = g.failed; flash = g.flash } };
 
-    ghost invariant = { λ g. IsSound (F.state g.flash) g.book g.failed g.block.items };
+    ghost invariant = { λ g. IsSound (F.state g.flash) g.book.config g.book.entries g.failed g.block.items };
 }
 
 impl<F: Flash + Drop> Group<F> {
@@ -107,6 +110,7 @@ impl<F: Flash> Group<F> {
     }
 
     /// The position of the first entry of this run.
+    #[tactic(auto, unfolding(fdp_base::specs::History::fresh))]
     pub fn first(&self) -> u64
         ensures { result ≡ (fresh self.now.book.config).totals.position + 1 }
     {
@@ -126,6 +130,20 @@ impl<F: Flash> Group<F> {
         ensures { result ≡ self.now.failed }
     {
         self.failed
+    }
+
+    /// How far the write of a ticket has come. It takes a constant time.
+    pub fn stage(&self, ticket: &Ticket) -> Stage
+        ensures { IsStage self.now.book ticket.now result }
+    {
+        self.book.stage(ticket)
+    }
+
+    /// Whether no write is going in a queue with this number. It takes a constant time.
+    pub fn is_free(&self, queue: u8, number: u16) -> bool
+        ensures { IsTrue result ↔ IsFree (state_in self.now.book) queue number }
+    {
+        self.book.is_free(queue, number)
     }
 
     /// Gives a ticket up. Its write counts as going until the next write of its queue is started or refused.

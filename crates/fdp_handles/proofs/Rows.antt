@@ -1,7 +1,5 @@
 -- A row that is put into the table of the handles: each reference but one is as it was.
-use Rattle.std.proofs.Common.{◌≡◌, ◌≢◌, ℕ, zero, suc, ◌+◌, ◌*◌, ◌<◌, ◌≤◌, Bool, true, false, List, length, set, replicate, Option, Some, None, refl, ap, sym, ◌∙◌, subst, arith, cond, slice_get, ⊎_elim, eq-eqb, ne_eqb}
-use Rattle.std.specs.Prelude.{◌==◌, if◌then◌else◌, nat_lt}
-use Rattle.std.specs.Option.{option_map_or}
+use Rattle.std.proofs.Common.{◌≡◌, ◌≢◌, ℕ, ◌+◌, ◌*◌, ◌<◌, Bool, List, length, set, Some, ap, sym, ◌∙◌, subst, arith, cond, slice_get, ⊎_elim, eq-eqb, ne_eqb}
 use Rattle.std.proofs.Math.ListN.{length-set}
 use Rattle.std.proofs.lemmas.Bool.{cases_eq}
 use Rattle.std.proofs.lemmas.Bool.Decides.{nat_tests}
@@ -11,7 +9,7 @@ use Rattle.fdp_base.specs.Effect.{with_reference}
 use Rattle.fdp_base.specs.Numbers.{with_at}
 use Rattle.fdp_base.specs.PlainState.{Reference}
 use Rattle.fdp_handles.specs.declared.reference.HandleReference.{HandleReference}
-use Rattle.fdp_handles.specs.HandleTable.{AreRows, HandleTable, HasRightLeft, blank, reference_at, reference_of}
+use Rattle.fdp_handles.specs.HandleTable.{AreRows, HandleTable, HasRightLeft, reference_at, reference_of}
 
 -- the row that is put there, and the rows that were there before
 pub slice_get-set : {X : Type 0} (xs : List X) (place : ℕ) (y : X) → place < length xs → (i : ℕ) → slice_get (set xs place y) i ≡ with_at (slice_get xs) place (Some y) i

@@ -13,6 +13,7 @@ pub record HandleTable : Type 0 where
   pub classes : List Class
   pub rows : List HandleReference
 
+-- what a handle references, in the words of a state
 abbrev pub reference_of : HandleReference → Reference
 reference_of x = record { unit = x.unit; left = x.left }
 

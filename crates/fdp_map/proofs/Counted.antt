@@ -1,5 +1,5 @@
 -- The invariant of the map: what each group stores is counted.
-use Rattle.std.proofs.Common.{◌≡◌, ℕ, ◌+◌, ◌*◌, ◌^◌, ◌<◌, ◌≤◌, Bool, true, false, List, [], length, set, Option, Some, None, refl, ap, sym, ◌∙◌, subst, arith, eq-eqb, ⊎_elim}
+use Rattle.std.proofs.Common.{◌≡◌, ℕ, ◌+◌, ◌^◌, ◌<◌, ◌≤◌, true, false, List, length, Option, Some, None, refl, ap, sym, ◌∙◌, subst, arith, eq-eqb, ⊎_elim}
 use Rattle.std.specs.Prelude.{◌==◌, IfSome, if◌then◌else◌, slice_index}
 use Rattle.std.proofs.Math.ListN.{length-set}
 use Rattle.std.proofs.lemmas.Bool.{cases_lt}
@@ -14,14 +14,16 @@ use Rattle.fdp_map.proofs.Tables.{blocks_put, put_in, row_there, sizes_put}
 -- a namespace with a place has one of the identifiers
 pub identifier : (m : MapTable) (counts : List ℕ) → IsCounted m counts → (nsid lba : ℕ) → lba < size_in m nsid → IsWithin 1 16 nsid
 identifier m counts h nsid lba within =
-    let there : nsid < length m.rows = row_there m nsid lba within in
-    (⊎_elim
-    (λ (least : nsid < 1).
-    let zero_is : nsid ≡ 0 = omega (arith, least) in
-    let none : size_in m nsid ≡ 0 = ap (size_in m) zero_is ∙ h.first in
-    absurd (omega (arith, none, within)))
-    (λ (low : 1 ≤ nsid). low)
-    (cases_lt nsid 1), omega (arith, there, h.rows))
+    let there : nsid < length m.rows = row_there m nsid lba within in (
+      ⊎_elim
+          (λ (least : nsid < 1).
+          let zero_is : nsid ≡ 0 = omega (arith, least) in
+          let none : size_in m nsid ≡ 0 = ap (size_in m) zero_is ∙ h.first in
+          absurd (omega (arith, none, within)))
+          (λ (low : 1 ≤ nsid). low)
+          (cases_lt nsid 1),
+      omega (arith, there, h.rows),
+    )
 
 -- a group is below sixteen
 abbrev pub IsKnown : Option Mapped → Type 0

@@ -1,15 +1,13 @@
 -- How many blocks a group stores: after a block is put, and without those of a range.
-use Rattle.std.proofs.Common.{◌≡◌, ◌≢◌, ℕ, zero, suc, ◌+◌, ◌*◌, ◌-◌, ◌<◌, ◌≤◌, Bool, true, false, not, ◌&&◌, List, [], length, Option, Some, None, refl, ap, sym, ◌∙◌, subst, arith, cond, eq-eqb, ne_eqb, inl, inr, ⊎_elim}
-use Rattle.std.specs.Prelude.{◌==◌, ◌⊎◌, nat_le, nat_lt, if◌then◌else◌}
-use Rattle.std.proofs.lemmas.Bool.{cases_eq, cases_lt}
+use Rattle.std.proofs.Common.{◌≡◌, ◌≢◌, ℕ, ◌+◌, ◌*◌, ◌-◌, ◌<◌, ◌≤◌, Bool, true, false, not, ◌&&◌, List, length, Option, None, refl, ap, sym, ◌∙◌, arith, cond, eq-eqb, ne_eqb}
+use Rattle.std.specs.Prelude.{◌==◌, if◌then◌else◌}
 use Rattle.std.proofs.lemmas.Bool.Decides.{nat_tests}
-use Rattle.std.proofs.lemmas.List.{get_or_past}
-use Rattle.fdp_base.specs.Numbers.{count_below, is_among, numbers_from, with_at}
+use Rattle.fdp_base.specs.Numbers.{is_among, with_at}
 use Rattle.fdp_base.specs.PlainState.{PlainState}
 use Rattle.fdp_base.specs.Room.{lies_in, namespace_ids, size_of, stored, stored_where}
 use Rattle.fdp_map.specs.Counting.{as_number}
 use Rattle.fdp_map.specs.declared.mapped.Mapped.{Mapped}
-use Rattle.fdp_map.specs.MapTable.{Agrees, MapTable, block_in, is_mapped_in, mapped_at, row, size_in, stored_from, stored_in, stored_in_row, with_mapped}
+use Rattle.fdp_map.specs.MapTable.{Agrees, MapTable, block_in, is_mapped_in, mapped_at, size_in, stored_from, stored_in, stored_in_row, with_mapped}
 use Rattle.fdp_map.proofs.Sums.{counted-bound, counting, counting-bound, sum_from, sum_from-bound, sum_from-cut, sum_from-last, sum_from-none, sum_from-one, sum_from-same, sum_from-zero}
 use Rattle.fdp_map.proofs.Tables.{blocks_put, put_in, sizes_put}
 

@@ -1,6 +1,6 @@
 -- Sums and counts over numbers in a row: where the terms agree, where one differs, where the row is cut.
-use Rattle.std.proofs.Common.{◌≡◌, ◌≢◌, ℕ, zero, suc, ◌+◌, ◌-◌, ◌*◌, ◌<◌, ◌≤◌, Bool, true, false, List, [], ◌∷◌, refl, ap, sym, ◌∙◌, subst, arith, cond, ⊎_elim}
-use Rattle.std.specs.Prelude.{◌==◌, ◌&&◌, not, sum_by}
+use Rattle.std.proofs.Common.{◌≡◌, ◌≢◌, ℕ, zero, suc, ◌+◌, ◌*◌, ◌<◌, ◌≤◌, Bool, true, false, refl, ap, sym, ◌∙◌, arith, cond, ⊎_elim}
+use Rattle.std.specs.Prelude.{sum_by}
 use Rattle.std.proofs.lemmas.List.Sums.{sum_by-cons}
 use Rattle.std.proofs.lemmas.Bool.{cases_eq}
 use Rattle.fdp_base.specs.Numbers.{numbers_from}
@@ -84,5 +84,5 @@ sum_from-zero f first (suc count) h =
 pub sum_from-last : (f : ℕ → ℕ) (first count : ℕ) → sum_from f first (count + 1) ≡ sum_from f first count + f (first + count)
 sum_from-last f first count =
     omega (arith, sum_from-cut f first count 1, ap (sum_from f (first + count)) (one), sum_from-step f (first + count) 0, sum_from-none f (first + count + 1)) where
-  one : 1 ≡ suc zero
-  one = refl
+      one : 1 ≡ suc zero
+      one = refl

@@ -1,14 +1,14 @@
 -- Places without blocks, made or taken away: no group stores more or less.
-use Rattle.std.proofs.Common.{◌≡◌, ◌≢◌, ℕ, zero, suc, ◌+◌, ◌*◌, ◌<◌, ◌≤◌, Bool, true, false, List, [], length, replicate, get_or, Option, None, refl, ap, sym, ◌∙◌, subst, arith, cond, eq-eqb, ne_eqb, ⊎_elim}
-use Rattle.std.specs.Prelude.{◌==◌, IfSome, if◌then◌else◌, slice_index}
+use Rattle.std.proofs.Common.{◌≡◌, ◌≢◌, ℕ, zero, suc, ◌<◌, ◌≤◌, Bool, List, [], length, replicate, get_or, Option, None, refl, ap, sym, ◌∙◌, subst, arith, cond, eq-eqb, ne_eqb, ⊎_elim}
+use Rattle.std.specs.Prelude.{if◌then◌else◌, slice_index}
 use Rattle.std.proofs.Math.ListN.{length-set}
 use Rattle.std.proofs.lemmas.Bool.{cases_eq}
 use Rattle.fdp_base.specs.Numbers.{with_at}
 use Rattle.fdp_map.specs.declared.mapped.Mapped.{Mapped}
 use Rattle.fdp_map.specs.MapTable.{IsCounted, MapTable, block_in, is_mapped_in, mapped_at, row, size_in, stored_in}
 use Rattle.fdp_map.proofs.Counted.{IsKnown}
-use Rattle.fdp_map.proofs.Stored.{holds, of_all, of_one, stored_is}
-use Rattle.fdp_map.proofs.Sums.{counting, sum_from, sum_from-bound, sum_from-same, sum_from-zero}
+use Rattle.fdp_map.proofs.Stored.{holds, of_one, stored_is}
+use Rattle.fdp_map.proofs.Sums.{counting, sum_from, sum_from-same, sum_from-zero}
 use Rattle.fdp_map.proofs.Tables.{block_past, blocks_with, sizes_with, with_row}
 
 -- a row has no block

@@ -44,7 +44,7 @@ impl Map {
         })
     }
 
-    /// Makes the places of a namespace without blocks. It is the one call that takes memory.
+    /// Makes the places of a namespace without blocks. Beside `new` it is the one call that takes memory.
     pub fn add(&mut self, alloc: Global, nsid: u32, size: u64) -> Result<(), AllocError>
         requires nsid { IsWithin 1 16 nsid }
         requires size { size ≤ 262144 }
@@ -90,7 +90,7 @@ impl Map {
         }
     }
 
-    /// The block at an address, if there is one.
+    /// The block at an address, if there is one. This and `put` cost the same, however many blocks there are.
     pub fn get(&self, nsid: u32, lba: u64) -> Option<Mapped>
         ensures value { result ≡ mapped_at self.now nsid lba }
         ensures group { IfSome result (λ x. x.rg < 16) }

@@ -1,12 +1,11 @@
 -- A row that is put into the table of the namespaces, and rows without a namespace.
-use Rattle.std.proofs.Common.{◌≡◌, ◌≢◌, ℕ, zero, suc, ◌+◌, ◌-◌, ◌<◌, ◌≤◌, Bool, true, false, List, length, map, set, replicate, slice_get, Option, Some, None, refl, ap, sym, ◌∙◌, subst, arith, cond, eq-eqb, ne_eqb, ⊎_elim}
-use Rattle.std.specs.Prelude.{◌==◌, if◌then◌else◌, nat_lt, option_map}
+use Rattle.std.proofs.Common.{◌≡◌, ◌≢◌, ℕ, ◌-◌, ◌<◌, ◌≤◌, Bool, true, false, List, length, set, slice_get, Option, Some, None, refl, ap, sym, ◌∙◌, subst, arith, cond, eq-eqb, ne_eqb, ⊎_elim}
+use Rattle.std.specs.Prelude.{◌==◌, if◌then◌else◌}
 use Rattle.std.specs.Option.{IfSome, option_flatten}
 use Rattle.std.proofs.Math.ListN.{length-set}
 use Rattle.std.proofs.lemmas.Bool.{cases_eq, cases_lt, lt-ltb}
 use Rattle.std.proofs.lemmas.Bool.Decides.{nat_tests}
 use Rattle.std.proofs.lemmas.Grind.{common_steps}
-use Rattle.std.proofs.lemmas.List.{map-set}
 use Rattle.std.proofs.lemmas.Option.{gets, slice_get_past}
 use Rattle.fdp_base.specs.Geometry.{IsWithin}
 use Rattle.fdp_base.specs.Numbers.{with_at}

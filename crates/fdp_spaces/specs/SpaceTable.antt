@@ -1,5 +1,5 @@
 -- The namespaces of a drive, as a table.
-use Rattle.std.specs.Prelude.{ℕ, ◌-◌, ◌≡◌, ◌≤◌, List, [], Option, Some, None, length, nat_lt, if◌then◌else◌, slice_get}
+use Rattle.std.specs.Prelude.{ℕ, ◌-◌, ◌≡◌, List, [], Option, Some, None, length, nat_lt, if◌then◌else◌, slice_get}
 use Rattle.std.specs.Option.{option_flatten, option_map_or}
 use Rattle.fdp_base.specs.Geometry.{IsWithin}
 use Rattle.fdp_base.specs.PlainState.{Namespace}
@@ -10,6 +10,7 @@ pub record SpaceTable : Type 0 where
   pub groups : ℕ
   pub namespaces : List (Option Namespace)
 
+-- a namespace in the words of a state
 abbrev pub namespace_of : Space → Namespace
 namespace_of x = record { size = x.size; handles = x.handles.items; given = x.given; birth = x.birth }
 

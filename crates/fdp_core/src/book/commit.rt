@@ -1,13 +1,16 @@
-ghost use Rattle.std.specs.Prelude.{◌≡◌, ◌<◌, [], true};
+ghost use Rattle.std.specs.Prelude.{◌≡◌, ◌+◌, ◌<◌, ◌≤◌, [], length, true};
 ghost use Rattle.fdp_base.specs.declared.status.TheConstants.Status as statuses;
 ghost use Rattle.fdp_base.specs.Answer.{bare};
 ghost use Rattle.fdp_base.specs.PlainState.{Going};
 ghost use Rattle.fdp_base.specs.Step.{MaySucceed};
 ghost use Rattle.fdp_core.specs.Book.{point_in, state_in};
 ghost use Rattle.fdp_core.specs.BookSteps.{Completes, IsReady, IsVerdict};
+ghost use Rattle.fdp_core.specs.Flown.{with_pages};
 ghost use Rattle.fdp_core.specs.Tickets.{IsTicketOf};
+ghost use Rattle.fdp_map.specs.MapTable.{mapped_at, size_in};
 
 use super::Book;
+use super::end::{push_host, take_flight};
 use crate::extent::extent_of;
 use crate::flight::Flight;
 use crate::ticket::{Done, Ticket};
@@ -39,7 +42,7 @@ impl Book {
         ensures { (g : Going) → IsTicketOf (state_in self.old) ticket g → Completes self.old self.new [] ticket.queue g.number g.command (bare statuses.SUCCESS true) moment result }
     {
         let queue = ticket.give_up();
-        let flight = self.flights[usize::from(queue)].take().unwrap();
+        let flight = take_flight(&mut self.flights, queue);
         let Flight {
             number,
             ticket: position,
@@ -61,17 +64,29 @@ impl Book {
             rg,
             ruh,
         };
-        put_pages(&mut self.map, extent.nsid, extent.slba, first, pages.as_slice());
+        put_pages(
+            &mut self.map,
+            extent.nsid,
+            extent.slba,
+            first,
+            pages.as_slice(),
+        );
         self.sums.host_blocks += u64::from(extent.count);
-        self.push_host(queue, number, command, replies, moment)
+        push_host(&mut self.log, queue, number, command, replies, moment)
     }
 }
 
 /// Blocks stand at these pages, from an address on. `first` says what they have in common.
-fn put_pages(map: &mut Map, nsid: u32, slba: u64, first: Mapped, pages: &[Spot]) {
-    for (index, spot) in pages.iter().enumerate() {
+fn put_pages(map: &mut Map, nsid: u32, slba: u64, first: Mapped, pages: &[Spot])
+    requires range { slba + length pages.now ≤ size_in map.old nsid }
+    requires size { size_in map.old nsid ≤ 262144 }
+    requires group { first.rg < 16 }
+    ensures blocks { mapped_at map.new ≡ with_pages (mapped_at map.old) nsid slba first pages.now }
+    ensures sizes { size_in map.new ≡ size_in map.old }
+{
+    for index in 0..pages.len() {
         let mapped = Mapped {
-            spot: *spot,
+            spot: pages[index],
             index: index as u32,
             ..first
         };

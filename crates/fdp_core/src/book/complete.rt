@@ -1,9 +1,12 @@
-ghost use Rattle.std.specs.Prelude.{◌≡◌, ◌<◌, false, []};
+ghost use Rattle.std.specs.Prelude.{◌≡◌, ◌<◌, false, [], length};
 ghost use Rattle.fdp_base.specs.Step.{IsQueue};
 ghost use Rattle.fdp_core.specs.BookSteps.{Completes};
+ghost use Rattle.fdp_core.specs.Held.{flights_after};
 
 use super::Book;
+use super::end::push_host;
 use crate::extent::extent_of;
+use crate::flight::Flight;
 use crate::room::Replies;
 use crate::ticket::Done;
 use fdp_base::Command;
@@ -25,9 +28,17 @@ impl Book {
         requires spare { 0 < self.old.spare }
         ensures { Completes self.old self.new [] queue number command replies.history moment result }
     {
-        if extent_of(&command).is_some() {
-            self.flights[usize::from(queue)] = None;
-        }
-        self.push_host(queue, number, command, replies, moment)
+        forget(&mut self.flights, queue, &command);
+        push_host(&mut self.log, queue, number, command, replies, moment)
+    }
+}
+
+/// After the end of a write none is going in its queue.
+fn forget(flights: &mut Vec<Option<Flight>>, queue: u8, command: &Command)
+    requires { queue < length flights.old.items }
+    ensures { flights.new.items ≡ flights_after command.now flights.old.items queue }
+{
+    if extent_of(command).is_some() {
+        flights[usize::from(queue)] = None;
     }
 }

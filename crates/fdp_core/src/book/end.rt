@@ -1,12 +1,16 @@
-ghost use Rattle.std.specs.Prelude.{◌≡◌, ◌<◌, [], ◌∷◌, ◌++◌, false, length};
+ghost use Rattle.std.specs.Prelude.{◌≡◌, ◌<◌, [], ◌∷◌, ◌++◌, false, length, slice_set, IsSome, None, Some};
 ghost use Rattle.fdp_base.specs.declared.entry.Entry.TheVariants as entries;
 ghost use Rattle.fdp_base.specs.Answer.{bare};
 ghost use Rattle.fdp_base.specs.PlainState.{Going};
 ghost use Rattle.fdp_core.specs.Book.{state_in};
 ghost use Rattle.fdp_core.specs.BookSteps.{Completes, IsFlying};
+ghost use Rattle.fdp_core.specs.Held.{flight_in};
+ghost use Rattle.fdp_core.specs.Logged.{IsLogged};
 ghost use Rattle.fdp_core.specs.Tickets.{IsTicketOf};
 
 use super::Book;
+use crate::flight::Flight;
+use crate::log::Log;
 use crate::room::Replies;
 use crate::ticket::{Done, Ticket};
 use fdp_base::{Command, Entry, Reply, Status};
@@ -19,9 +23,16 @@ impl Book {
         ensures { (g : Going) → IsTicketOf (state_in self.old) ticket g → Completes self.old self.new [] ticket.queue g.number g.command (bare status false) moment result }
     {
         let queue = ticket.give_up();
-        let flight = self.flights[usize::from(queue)].take().unwrap();
+        let flight = take_flight(&mut self.flights, queue);
         let (command, replies) = flight.room.end(status, false);
-        self.push_host(queue, flight.number, command, replies, moment)
+        push_host(
+            &mut self.log,
+            queue,
+            flight.number,
+            command,
+            replies,
+            moment,
+        )
     }
 
     /// A going write ends with this status and changes nothing, in the step in which its handle is shut.
@@ -31,7 +42,7 @@ impl Book {
         ensures { (g : Going) → IsTicketOf (state_in self.old) ticket g → Completes self.old self.new (entries.Shut g.rg g.ruh ∷ []) ticket.queue g.number g.command (bare status false) moment result }
     {
         let queue = ticket.give_up();
-        let flight = self.flights[usize::from(queue)].take().unwrap();
+        let flight = take_flight(&mut self.flights, queue);
         let (rg, ruh) = (flight.rg, flight.ruh);
         let (command, replies) = flight.room.end(status, false);
         self.handles.shut(rg, ruh);
@@ -44,37 +55,50 @@ impl Book {
             moment,
         };
         self.log.push_both(Entry::Shut { rg, ruh }, host);
-        self.done(moment, answer)
+        done(&self.log, moment, answer)
     }
+}
 
-    /// The Host entry of a command, as a step of its own.
-    pub(super) fn push_host(
-        &mut self,
-        queue: u8,
-        number: u16,
-        command: Command,
-        replies: Replies,
-        moment: u64,
-    ) -> Done {
-        let Replies { history, answer } = replies;
-        self.log.push(Entry::Host {
-            queue,
-            number,
-            command,
-            reply: history,
-            moment,
-        });
-        self.done(moment, answer)
-    }
+/// The flight in a queue, which is gone from there.
+pub(super) fn take_flight(flights: &mut Vec<Option<Flight>>, queue: u8) -> Flight
+    requires { IsSome (flight_in flights.old.items queue) }
+    ensures flight { flight_in flights.old.items queue ≡ Some result }
+    ensures rest { flights.new.items ≡ slice_set flights.old.items queue None }
+{
+    flights[usize::from(queue)].take().unwrap()
+}
 
-    /// The answer to the command whose Host entry is the last.
-    pub(super) fn done(&self, moment: u64, reply: Reply) -> Done
-        ensures { result ≡ record { position = length self.now.entries; moment = moment; reply = reply } }
-    {
-        Done {
-            position: self.log.entries().len() as u64,
-            moment,
-            reply,
-        }
+/// The Host entry of a command, as a step of its own, and the answer to it.
+pub(super) fn push_host(
+    log: &mut Log,
+    queue: u8,
+    number: u16,
+    command: Command,
+    replies: Replies,
+    moment: u64,
+) -> Done
+    requires spare { 0 < log.old.spare }
+    ensures log { IsLogged log.old log.new (entries.Host queue number command replies.history moment ∷ []) }
+    ensures done { result ≡ record { position = length log.new.entries; moment = moment; reply = replies.answer } }
+{
+    let Replies { history, answer } = replies;
+    log.push(Entry::Host {
+        queue,
+        number,
+        command,
+        reply: history,
+        moment,
+    });
+    done(log, moment, answer)
+}
+
+/// The answer to the command whose Host entry is the last.
+pub(super) fn done(log: &Log, moment: u64, reply: Reply) -> Done
+    ensures { result ≡ record { position = length log.now.entries; moment = moment; reply = reply } }
+{
+    Done {
+        position: log.entries().len() as u64,
+        moment,
+        reply,
     }
 }

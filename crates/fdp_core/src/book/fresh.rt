@@ -1,12 +1,16 @@
-ghost use Rattle.std.specs.Prelude.{◌≡◌, ◌+◌, None, replicate, IfOk};
+ghost use Rattle.std.specs.Prelude.{◌≡◌, ◌+◌, ◌<◌, ◌≤◌, All, None, [], ◌∷◌, length, nat_lt, replicate, unwrap_or, IfOk};
+ghost use Rattle.std.specs.Option.{ForSome};
 ghost use Rattle.fdp_base.specs.Config.{IsValidConfig};
+ghost use Rattle.fdp_base.specs.Effect.{chosen_handles};
 ghost use Rattle.fdp_core.specs.Book.{first_book};
+ghost use Rattle.fdp_core.specs.Configured.{AreConfiguredSpaces, HasFewHandles, IsConfiguredMap, made_as};
+ghost use Rattle.fdp_spaces.specs.SpaceTable.{namespace_of};
 
 use super::{Book, Setting, Sums};
 use crate::flight::Flight;
 use crate::log::Log;
 use arrayvec::ArrayVec;
-use fdp_base::{DriveConfig, NamespaceConfig};
+use fdp_base::{DriveConfig, HandleList, NamespaceConfig};
 use fdp_handles::Handles;
 use fdp_map::Map;
 use fdp_spaces::{Space, SpaceHandles, Spaces};
@@ -35,71 +39,114 @@ impl Book {
             spaces: configured_spaces(alloc, config)?,
             handles: Handles::new(alloc, classes, config.geometry())?,
             map: configured_map(alloc, config)?,
-            flights: no_flights(alloc, config.queues)?,
-            used: vec![in alloc; 0; usize::from(config.groups)]?,
+            flights: no_flights(alloc, usize::from(config.queues) + 1)?,
+            used: no_units(alloc, usize::from(config.groups))?,
         })
     }
 }
 
 /// The namespaces that a drive is made with.
-fn configured_spaces(alloc: Global, config: &DriveConfig) -> Result<Spaces, AllocError> {
+fn configured_spaces(alloc: Global, config: &DriveConfig) -> Result<Spaces, AllocError>
+    requires { IsValidConfig config.now }
+    ensures { IfOk result (λ spaces. AreConfiguredSpaces config.now spaces) }
+{
     let mut spaces = Spaces::new(alloc, config.groups)?;
-    let mut nsid = 1;
-    for namespace in config.namespaces.as_slice() {
-        spaces.insert(nsid, configured_space(namespace));
-        nsid += 1;
+    let namespaces = config.namespaces.as_slice();
+    for place in 0..namespaces.len() {
+        spaces.insert(place as u32 + 1, configured_space(&namespaces[place]));
     }
     Ok(spaces)
 }
 
-/// A namespace that a drive is made with. Without a list of handles it has handle 0.
-fn configured_space(namespace: &NamespaceConfig) -> Space {
+/// A namespace that a drive is made with.
+fn configured_space(namespace: &NamespaceConfig) -> Space
+    requires { HasFewHandles namespace.now }
+    ensures { namespace_of result ≡ made_as namespace.now }
+{
     Space {
         size: namespace.blocks,
-        handles: configured_handles(namespace),
-        given: is_given(namespace),
+        handles: configured_handles(&namespace.handles),
+        given: is_given(&namespace.handles),
         birth: 0,
     }
 }
 
-fn is_given(namespace: &NamespaceConfig) -> bool {
-    match &namespace.handles {
+/// Whether a list of handles was given; an empty one counts as none.
+fn is_given(handles: &Option<HandleList>) -> bool
+    ensures { result ≡ nat_lt 0 (length (unwrap_or handles.now [])) }
+{
+    match handles {
         Some(list) => !list.as_slice().is_empty(),
         None => false,
     }
 }
 
-fn configured_handles(namespace: &NamespaceConfig) -> SpaceHandles {
-    let mut handles = ArrayVec::new();
-    match &namespace.handles {
+/// The handles that were listed, or handle 0 where none is.
+fn configured_handles(handles: &Option<HandleList>) -> SpaceHandles
+    requires few { ForSome handles.now (λ list. length list ≤ 16) }
+    requires known { ForSome handles.now (λ list. All (λ ruh. ruh < 16) list) }
+    ensures { result.items ≡ chosen_handles (unwrap_or handles.now []) }
+{
+    match handles {
         Some(list) => {
-            for ruh in list.as_slice() {
-                handles.push(*ruh as u8);
+            if list.as_slice().is_empty() {
+                first_handle()
+            } else {
+                listed_handles(list.as_slice())
             }
         }
-        None => handles.push(0),
+        None => first_handle(),
+    }
+}
+
+fn first_handle() -> SpaceHandles
+    ensures { result.items ≡ 0 ∷ [] }
+{
+    let mut handles = ArrayVec::new();
+    handles.push(0);
+    handles
+}
+
+fn listed_handles(list: &[u16]) -> SpaceHandles
+    requires few { length list.now ≤ 16 }
+    requires known { All (λ ruh. ruh < 16) list.now }
+    ensures { result.items ≡ list.now }
+{
+    let mut handles = ArrayVec::new();
+    for place in 0..list.len() {
+        handles.push(list[place] as u8);
     }
     handles
 }
 
 /// A place for each block of the namespaces that a drive is made with.
-fn configured_map(alloc: Global, config: &DriveConfig) -> Result<Map, AllocError> {
+fn configured_map(alloc: Global, config: &DriveConfig) -> Result<Map, AllocError>
+    requires { IsValidConfig config.now }
+    ensures { IfOk result (λ map. IsConfiguredMap config.now map) }
+{
     let mut map = Map::new(alloc)?;
-    let mut nsid = 1;
-    for namespace in config.namespaces.as_slice() {
-        map.add(alloc, nsid, namespace.blocks)?;
-        nsid += 1;
+    let namespaces = config.namespaces.as_slice();
+    for place in 0..namespaces.len() {
+        map.add(alloc, place as u32 + 1, namespaces[place].blocks)?;
     }
     Ok(map)
 }
 
-/// No write is going in any queue.
-fn no_flights(alloc: Global, queues: u8) -> Result<Vec<Option<Flight>>, AllocError>
-    ensures { IfOk result (λ flights. flights.items ≡ replicate (queues + 1) None) }
+/// No write is going in so many rows.
+#[tactic(auto, using(std::proofs::lemmas::List::replicate_more))]
+fn no_flights(alloc: Global, count: usize) -> Result<Vec<Option<Flight>>, AllocError>
+    ensures { IfOk result (λ flights. flights.items ≡ replicate count None) }
 {
     let mut flights = Vec::new(alloc);
-    for _ in 0..u32::from(queues) + 1 {
+    for _ in 0..count {
         flights.push(None)?;
     }
     Ok(flights)
+}
+
+/// No unit of so many groups was used.
+fn no_units(alloc: Global, count: usize) -> Result<Vec<u32>, AllocError>
+    ensures { IfOk result (λ used. used.items ≡ replicate count 0) }
+{
+    vec![in alloc; 0; count]
 }

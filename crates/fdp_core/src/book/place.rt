@@ -1,8 +1,15 @@
-ghost use Rattle.std.specs.Prelude.{◌≡◌, ◌<◌, Some};
+ghost use Rattle.std.specs.Prelude.{◌≡◌, ◌+◌, ◌<◌, ◌^◌, ◌==◌, ◌≤◌, ℕ, None, Some, length, slice_index};
 ghost use Rattle.fdp_base.specs.CommandKinds.{Write, write_of};
 ghost use Rattle.fdp_base.specs.PlainState.{Going};
+ghost use Rattle.fdp_base.specs.Sites.{is_there};
+ghost use Rattle.fdp_base.specs.Totals.{blocks_written};
+ghost use Rattle.fdp_core.specs.declared.flight.Flight.{Flight};
 ghost use Rattle.fdp_core.specs.Book.{state_in};
-ghost use Rattle.fdp_core.specs.BookSteps.{IsWaiting, Places};
+ghost use Rattle.fdp_core.specs.BookSteps.{IsFlying, IsWaiting, Places};
+ghost use Rattle.fdp_core.specs.Extent.{IsExtentOf};
+ghost use Rattle.fdp_core.specs.Flown.{HasPageMore, IsFlightAt, IsPlaceFor, IsUnfinished, used_after};
+ghost use Rattle.fdp_core.specs.Held.{going_of};
+ghost use Rattle.fdp_core.specs.Pages.{next_spare};
 ghost use Rattle.fdp_core.specs.Tickets.{ComesTo, IsNextSpot, IsTicketOf};
 
 use super::Book;
@@ -51,22 +58,24 @@ impl Book {
         let flight = self.flight(ticket);
         let (rg, ruh) = (flight.rg, flight.ruh);
         let index = flight.pages.len() as u32;
-        if self.handles.unit(rg, ruh).is_none() {
-            self.used[usize::from(rg)] += 1;
-        }
+        let unit = self.handles.unit(rg, ruh);
+        take_unit(&mut self.used, rg, unit);
         self.handles.place(rg, ruh, spot.unit);
-        self.sums.media_blocks += 1;
         self.log.push(Entry::Placed {
             ticket: ticket.position,
             index,
             unit: spot.unit,
             page: spot.page,
         });
+        self.sums.media_blocks += 1;
         push_page(&mut self.flights[usize::from(ticket.queue)], spot)
     }
 
     /// The write of a ticket.
-    pub(super) fn flight(&self, ticket: &Ticket) -> &Flight {
+    pub(super) fn flight(&self, ticket: &Ticket) -> &Flight
+        requires { IsFlying self.now ticket.now }
+        ensures { IsFlightAt self.now ticket.now result.now }
+    {
         match &self.flights[usize::from(ticket.queue)] {
             Some(flight) => flight,
             None => unreachable!(),
@@ -74,7 +83,10 @@ impl Book {
     }
 
     /// Whether the namespace of a write is there, and is the one that it was when the write was started.
-    pub(super) fn is_there(&self, flight: &Flight, extent: Extent) -> bool {
+    pub(super) fn is_there(&self, flight: &Flight, extent: Extent) -> bool
+        requires { IsExtentOf flight.now.room.command (Some extent) }
+        ensures { result ≡ is_there (state_in self.now) (going_of flight.now) }
+    {
         match self.spaces.birth(extent.nsid) {
             Some(birth) => birth == flight.birth,
             None => false,
@@ -82,7 +94,11 @@ impl Book {
     }
 
     /// Where the next page of a handle goes, unless it wants a unit and each of its group is used.
-    fn next_spot(&self, rg: u16, ruh: u8) -> Option<Spot> {
+    fn next_spot(&self, rg: u16, ruh: u8) -> Option<Spot>
+        requires group { rg < self.now.config.groups }
+        requires handle { ruh < 16 }
+        ensures { IsPlaceFor self.now rg ruh result }
+    {
         match self.handles.next_page(rg, ruh) {
             Some(spot) => Some(spot),
             None => self.unused_spot(rg),
@@ -90,7 +106,10 @@ impl Book {
     }
 
     /// The start of the first unit of a group that was not used.
-    fn unused_spot(&self, rg: u16) -> Option<Spot> {
+    fn unused_spot(&self, rg: u16) -> Option<Spot>
+        requires group { rg < self.now.config.groups }
+        ensures { (ruh : ℕ) → ((state_in self.now).references rg ruh).unit ≡ None → IsPlaceFor self.now rg ruh result }
+    {
         let used = self.used[usize::from(rg)];
         if used < self.config.units {
             Some(Spot {
@@ -103,7 +122,12 @@ impl Book {
     }
 
     /// What the spare bytes of the next page of a write say.
-    fn next_spare(&self, flight: &Flight, extent: Extent) -> DataSpare {
+    fn next_spare(&self, flight: &Flight, extent: Extent) -> DataSpare
+        requires extent { IsExtentOf flight.now.room.command (Some extent) }
+        requires index { length flight.now.pages.items < 64 }
+        requires lba { extent.slba ≤ 262144 }
+        ensures { (w : Write) → write_of flight.now.room.command ≡ Some w → result ≡ next_spare (state_in self.now) (going_of flight.now) w }
+    {
         let index = flight.pages.len();
         DataSpare {
             ruh: flight.ruh,
@@ -117,8 +141,24 @@ impl Book {
     }
 }
 
+/// A unit more of a group is used where a handle of it had none.
+fn take_unit(used: &mut Vec<u32>, rg: u16, unit: Option<u32>)
+    requires group { rg < length used.old.items }
+    requires room { slice_index used.old.items rg + 1 < 2 ^ 32 }
+    ensures { used.new.items ≡ used_after used.old.items rg unit }
+{
+    match unit {
+        Some(_) => (),
+        None => used[usize::from(rg)] += 1,
+    }
+}
+
 /// A page more of a flight is placed. Says whether that was its last.
-fn push_page(flight: &mut Option<Flight>, spot: Spot) -> bool {
+fn push_page(flight: &mut Option<Flight>, spot: Spot) -> bool
+    requires { IsUnfinished flight.old }
+    ensures page { (f : Flight) → flight.old ≡ Some f → HasPageMore f spot flight.new }
+    ensures last { (f : Flight) → flight.old ≡ Some f → result ≡ (length f.pages.items + 1 == blocks_written f.room.command) }
+{
     match flight {
         Some(flight) => {
             flight.pages.push(spot);

@@ -1,4 +1,4 @@
-ghost use Rattle.std.specs.Prelude.{◌≡◌, ◌+◌, ◌≤◌, ◌||◌, ◌&&◌, ◌==◌, not, nat_lt, IsTrue};
+ghost use Rattle.std.specs.Prelude.{◌≡◌, ℕ, ◌+◌, ◌<◌, ◌≤◌, ◌^◌, None, ◌||◌, ◌&&◌, ◌==◌, not, nat_lt, IsFalse, IsTrue};
 ghost use Rattle.fdp_base.specs.declared.payload.Payload.{Payload};
 ghost use Rattle.fdp_base.specs.Refusal.{has_no_room, is_past_end, is_present, refusal_of};
 ghost use Rattle.fdp_base.specs.Room.{size_of};
@@ -13,7 +13,8 @@ impl Book {
     /// The status with which a write or a read is refused, if it is. It looks at each group, and at each block of a write.
     pub fn refusal(&self, command: &Command) -> Option<Status>
         requires { IsServed command.now }
-        ensures { result ≡ refusal_of self.now.config (point_in self.now) command.now }
+        ensures refusal { result ≡ refusal_of self.now.config (point_in self.now) command.now }
+        ensures range { (nsid slba count : ℕ) → command.now ≡ Command.Read nsid slba count → result ≡ None → slba + count < 2 ^ 64 }
     {
         match command {
             Command::Write {
@@ -42,7 +43,8 @@ impl Book {
 
     #[tactic(auto, unfolding(fdp_base::specs::Refusal::checks_of, fdp_base::specs::Refusal::refusal_of))]
     fn refuse_read(&self, nsid: u32, slba: u64, count: u32) -> Option<Status>
-        ensures { result ≡ refusal_of self.now.config (point_in self.now) (Command.Read nsid slba count) }
+        ensures refusal { result ≡ refusal_of self.now.config (point_in self.now) (Command.Read nsid slba count) }
+        ensures range { result ≡ None → slba + count < 2 ^ 64 }
     {
         if self.spaces.size(nsid).is_none() {
             Some(Status::INVALID_NAMESPACE)
@@ -89,7 +91,8 @@ impl Book {
 
     /// Whether blocks reach past the end of a namespace.
     fn is_past_end(&self, nsid: u32, slba: u64, count: u32) -> bool
-        ensures { result ≡ is_past_end (state_in self.now) nsid slba count }
+        ensures value { result ≡ is_past_end (state_in self.now) nsid slba count }
+        ensures range { IsFalse result → slba + count < 2 ^ 64 }
     {
         let size = self.spaces.size(nsid).unwrap_or(0);
         u128::from(size) < u128::from(slba) + u128::from(count)

@@ -8,9 +8,9 @@ ghost use Rattle.fdp_core.specs.Answers.{Places};
 use super::Group;
 use crate::answer::Placed;
 use crate::media::{MediaError, program};
-use fdp_base::{Spot, Status};
 use crate::next_page::NextPage;
 use crate::ticket::Ticket;
+use fdp_base::{Spot, Status};
 use fdp_flash::Flash;
 
 impl<F: Flash> Group<F> {
@@ -43,7 +43,14 @@ impl<F: Flash> Group<F> {
         ensures { (g : Going) → IsTicketOf (state_in self.old.book) ticket g → Places F.state self.old self.new ticket g result }
     {
         let payload = self.book.payload(&ticket);
-        match program(&mut self.flash, spot, spare, payload, index, &mut self.block) {
+        match program(
+            &mut self.flash,
+            spot,
+            spare,
+            payload,
+            index,
+            &mut self.block,
+        ) {
             Ok(()) => {
                 if self.book.place(&ticket, spot) {
                     Placed::Ready(ticket)

@@ -1,16 +1,15 @@
-ghost use Rattle.std.specs.Prelude.{◌≡◌, ◌+◌, ◌*◌, ◌<◌, ◌≤◌, false, IsTrue, None, OnErr, OnOk, length, replicate};
+ghost use Rattle.std.specs.Prelude.{◌≡◌, ◌+◌, ◌*◌, ◌^◌, ◌<◌, ◌≤◌, [], false, IsTrue, None, OnErr, OnOk, length, replicate};
 ghost use Rattle.fdp_base.specs.declared.command.Command.TheVariants as commands;
 ghost use Rattle.fdp_base.specs.Answer.{read_block};
 ghost use Rattle.fdp_base.specs.CommandKinds.{IsWellFormed};
 ghost use Rattle.fdp_base.specs.Placement.{geometry_of};
 ghost use Rattle.fdp_base.specs.Refusal.{refusal_of};
-ghost use Rattle.fdp_base.specs.Room.{size_of};
 ghost use Rattle.fdp_base.specs.Step.{IsQueue};
 ghost use Rattle.fdp_flash.specs.FlashState.{Faulted};
 ghost use Rattle.fdp_core.specs.Book.{point_in, state_in};
 ghost use Rattle.fdp_core.specs.Media.{IsReadFrom};
 ghost use Rattle.fdp_core.specs.Pages.{cells_of};
-ghost use Rattle.fdp_core.specs.ReadSteps.{blocks_from};
+ghost use Rattle.fdp_core.specs.ReadSteps.{Reads, blocks_from};
 ghost use Rattle.fdp_core.specs.Room.{room_for};
 ghost use Rattle.fdp_core.specs.Steps.{Completes};
 
@@ -37,25 +36,39 @@ impl<F: Flash> Group<F> {
         requires queue { IsQueue self.old.book.config queue }
         requires formed { IsWellFormed self.old.book.config command }
         requires accepted { refusal_of self.old.book.config (point_in self.old.book) command ≡ None }
+        requires range { extent.slba + extent.count < 2 ^ 64 }
         requires room { room ≡ room_for command self.old.book.config }
         requires spare { 0 < self.old.book.spare }
         requires sound { self.old.failed ≡ false }
         ensures { Completes F.state self.old self.new [] queue number command result }
     {
-        let (mut history, mut answer) = room.into_buffers();
-        let read = read_blocks(&mut self.flash, &self.book, extent, &mut history);
-        let replies = match read {
-            Ok(()) => {
-                answer.copy_from_slice(&history);
-                Replies::of_read(history, answer)
-            }
-            Err(MediaError) => {
-                self.failed = true;
-                Replies::empty(history, answer, Status::UNRECOVERED_READ_ERROR, false)
-            }
-        };
+        let (replies, failed) = read_replies(&mut self.flash, &self.book, extent, room);
+        self.failed = failed;
         let moment = self.flash.moment();
         self.book.complete(queue, number, command, replies, moment)
+    }
+}
+
+/// Reads blocks for both replies, and says whether that failed.
+fn read_replies<F: Flash>(flash: &mut F, book: &Book, extent: Extent, room: Room) -> (Replies, bool)
+    requires geometry { (F.state flash.old).geometry ≡ geometry_of book.now.config }
+    requires cells { IsTrue (F.state flash.old).told → (F.state flash.old).cells ≡ cells_of book.now.config book.now.entries }
+    requires room { room ≡ room_for (commands.Read extent.nsid extent.slba extent.count) book.now.config }
+    requires few { extent.count ≤ book.now.config.blocks_per_command }
+    requires range { extent.slba + extent.count < 2 ^ 64 }
+    ensures read { IsReadFrom (F.state flash.old) (F.state flash.new) }
+    ensures replies { Reads (F.state flash.old) (F.state flash.new) book.now extent result.0 result.1 }
+{
+    let (mut history, mut answer) = room.into_buffers();
+    match read_blocks(flash, book, extent, &mut history) {
+        Ok(()) => {
+            answer.copy_from_slice(&history);
+            (Replies::of_read(history, answer), false)
+        }
+        Err(MediaError) => {
+            let status = Status::UNRECOVERED_READ_ERROR;
+            (Replies::empty(history, answer, status, false), true)
+        }
     }
 }
 
@@ -69,6 +82,7 @@ fn read_blocks<F: Flash>(
     requires geometry { (F.state flash.old).geometry ≡ geometry_of book.now.config }
     requires cells { IsTrue (F.state flash.old).told → (F.state flash.old).cells ≡ cells_of book.now.config book.now.entries }
     requires zeros { into.old ≡ replicate (extent.count * book.now.config.block) 0 }
+    requires range { extent.slba + extent.count < 2 ^ 64 }
     ensures read { IsReadFrom (F.state flash.old) (F.state flash.new) }
     ensures size { length into.new ≡ length into.old }
     ensures blocks { OnOk result (IsTrue (F.state flash.old).told → into.new ≡ blocks_from book.now extent.nsid extent.slba extent.count) }
@@ -79,7 +93,13 @@ fn read_blocks<F: Flash>(
     for index in 0..extent.count {
         let start = index as usize * size;
         let lba = extent.slba + u64::from(index);
-        read_block(flash, book, extent.nsid, lba, &mut into[start..start + size])?;
+        read_block(
+            flash,
+            book,
+            extent.nsid,
+            lba,
+            &mut into[start..start + size],
+        )?;
     }
     Ok(())
 }

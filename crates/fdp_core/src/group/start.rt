@@ -5,8 +5,8 @@ ghost use Rattle.fdp_core.specs.Steps.{MayBegin};
 use super::Group;
 use crate::answer::Begun;
 use crate::extent::extent_read;
-use fdp_base::Command;
 use crate::room::Room;
+use fdp_base::Command;
 use fdp_flash::Flash;
 
 impl<F: Flash> Group<F> {

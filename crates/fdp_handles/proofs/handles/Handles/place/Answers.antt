@@ -1,4 +1,4 @@
-use Rattle.std.proofs.Common.{◌≡◌, ◌∙◌, ◌+◌, ◌*◌, ◌<◌, ap, arith, length, sym}
+use Rattle.std.proofs.Common.{◌≡◌, ◌∙◌, ◌<◌, ap, arith, length, sym}
 use Rattle.fdp_base.specs.Change.{one_less}
 use Rattle.fdp_base.specs.Effect.{with_reference}
 use Rattle.fdp_handles.specs.HandleTable.{HandleTable, reference_at}

@@ -1,5 +1,4 @@
-use Rattle.std.proofs.Common.{◌≡◌, ◌∙◌, ◌<◌, ◌≤◌, ℕ, List, [], Option, None, ap, arith, length, refl, subst, sym, cond, eq-eqb}
-use Rattle.std.specs.Prelude.{if◌then◌else◌}
+use Rattle.std.proofs.Common.{◌∙◌, ◌<◌, ℕ, List, [], Option, ap, arith, length, refl, subst, sym}
 use Rattle.fdp_base.specs.Numbers.{with_at}
 use Rattle.fdp_map.specs.declared.mapped.Mapped.{Mapped}
 use Rattle.fdp_map.specs.MapTable.{IsCounted, MapTable, mapped_at, row, size_in}

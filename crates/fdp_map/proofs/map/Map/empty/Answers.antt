@@ -1,5 +1,5 @@
-use Rattle.std.proofs.Common.{◌≡◌, ◌∙◌, ◌<◌, ◌≤◌, ℕ, ap, arith}
-use Rattle.fdp_map.specs.MapTable.{MapTable, mapped_at, size_in}
+use Rattle.std.proofs.Common.{◌≡◌, ℕ, ap, arith}
+use Rattle.fdp_map.specs.MapTable.{size_in}
 use Rattle.fdp_map.proofs.Emptied.{emptied_end, emptied_next}
 use Rattle.fdp_map.proofs.map.Map.empty.Goals as goal
 

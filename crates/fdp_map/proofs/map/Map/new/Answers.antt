@@ -1,4 +1,4 @@
-use Rattle.std.proofs.Common.{◌≡◌, List, Option, replicate, refl, subst, sym}
+use Rattle.std.proofs.Common.{List, Option, replicate, subst, sym}
 use Rattle.fdp_map.specs.declared.mapped.Mapped.{Mapped}
 use Rattle.fdp_map.specs.MapTable.{IsCounted}
 use Rattle.fdp_map.proofs.Vacant.{counted_first}

@@ -1,4 +1,4 @@
-use Rattle.std.proofs.Common.{◌≡◌, ◌∙◌, ◌+◌, ◌≤◌, ap, arith, sym}
+use Rattle.std.proofs.Common.{◌≡◌, ◌∙◌, ◌+◌, ap, arith}
 use Rattle.fdp_map.specs.Counting.{as_number}
 use Rattle.fdp_map.proofs.Stored.{byte_is, counting_first, counting_next, holds_in}
 use Rattle.fdp_map.proofs.places.Places.stored_among.Goals as goal

@@ -1,11 +1,10 @@
-use Rattle.std.proofs.Common.{◌≡◌, ◌∙◌, ◌-◌, ◌<◌, List, Option, Some, ap, arith, length, map, set, subst, sym}
+use Rattle.std.proofs.Common.{◌∙◌, ◌-◌, ◌<◌, List, Option, Some, ap, arith, length, map, subst, sym}
 use Rattle.std.specs.Prelude.{option_map}
 use Rattle.std.proofs.lemmas.List.{map-set}
 use Rattle.fdp_base.specs.Numbers.{with_at}
 use Rattle.fdp_base.specs.PlainState.{Namespace}
-use Rattle.fdp_spaces.specs.declared.space.Space.{Space}
 use Rattle.fdp_spaces.specs.SpaceTable.{AreRows, SpaceTable, namespace_at, namespace_of}
-use Rattle.fdp_spaces.proofs.Rows.{namespace_put, rows_put, with_row}
+use Rattle.fdp_spaces.proofs.Rows.{namespace_put, rows_put}
 use Rattle.fdp_spaces.proofs.spaces.Spaces.insert.Goals as goal
 
 pub invariant_of-self : goal.invariant_of-self

@@ -1,0 +1,162 @@
+-- How a group begins a command: it refuses it, reads for it, or lets it go.
+use Rattle.std.proofs.Common.{◌≡◌, ℕ, ◌+◌, ◌*◌, ◌≤◌, Bool, true, false, IsTrue, List, [], ◌∷◌, ◌++◌, length, refl, ap, sym, ◌∙◌, subst, inl, inr, Some, None}
+use Rattle.std.proofs.lemmas.Bool.{false≢true}
+use Rattle.fdp_base.specs.declared.command.Command.{Command}
+use Rattle.fdp_base.specs.declared.command.Command.TheVariants as commands
+use Rattle.fdp_base.specs.declared.entry.Entry.TheVariants as entries
+use Rattle.fdp_base.specs.declared.entry.Reply.{Reply}
+use Rattle.fdp_base.specs.declared.status.Status.{Status}
+use Rattle.fdp_base.specs.declared.status.TheConstants.Status as statuses
+use Rattle.fdp_base.specs.Answer.{bare}
+use Rattle.fdp_base.specs.Change.{after, changed_by, is_media_error}
+use Rattle.fdp_base.specs.CommandKinds.{IsWellFormed, is_write}
+use Rattle.fdp_base.specs.History.{fresh, point_of}
+use Rattle.fdp_base.specs.Refusal.{refusal_of}
+use Rattle.fdp_base.specs.Step.{Follows, IsQueue}
+use Rattle.fdp_flash.specs.FlashState.{FlashState}
+use Rattle.fdp_core.specs.declared.extent.Extent.{Extent}
+use Rattle.fdp_core.specs.declared.room.Replies.{Replies}
+use Rattle.fdp_core.specs.declared.ticket.Done.{Done}
+use Rattle.fdp_core.specs.declared.ticket.Ticket.{Ticket}
+use Rattle.fdp_core.specs.Answers.{EndsAtOnce, Starts}
+use Rattle.fdp_core.specs.Book.{BookSeen, point_in, state_in}
+use Rattle.fdp_core.specs.BookSteps as book
+use Rattle.fdp_core.specs.Media.{IsReadFrom}
+use Rattle.fdp_core.specs.ReadSteps.{HasBlocks, HasFault, Reads, blocks_from}
+use Rattle.fdp_core.specs.Room.{read_reply}
+use Rattle.fdp_core.specs.Seen.{HoldsHistory, Matches, Seen}
+use Rattle.fdp_core.specs.Sound.{IsSound}
+use Rattle.fdp_core.specs.Steps.{Completes, IsFree, MayBegin}
+use Rattle.fdp_core.proofs.GroupAdds.{EndsSo, adds, completes, ends-well, matches-quiet}
+use Rattle.fdp_core.proofs.GroupEnded.{sound-ended}
+use Rattle.fdp_core.proofs.GroupHost.{media-ended, new-moment, read-follows, refused-fine, refused-follows, unread-follows}
+use Rattle.fdp_core.proofs.GroupReads.{length-blocks_from}
+use Rattle.fdp_core.proofs.GroupSound.{sound-as, sound-orderly, sound-push}
+
+-- ---- refusals
+
+-- a command is refused
+pub record IsRefusal (b : BookSeen) (queue number : ℕ) (command : Command) (status : Status) (reply : Reply) : Type 0 where
+  pub queue_is : IsQueue b.config queue
+  pub formed : IsWellFormed b.config command
+  pub free : IsFree (state_in b) queue number
+  pub refused : refusal_of b.config (point_in b) command ≡ Some status
+  pub reply_is : reply ≡ bare status false
+
+pub sound-refused : (f : FlashState) (b d : BookSeen) (failed : Bool) (block : List ℕ) (queue number : ℕ) (command : Command) (status : Status) (reply : Reply) (moment : ℕ) (done : Done) →
+    IsSound f b.config b.entries failed block → failed ≡ false → IsRefusal b queue number command status reply →
+    book.Completes b d [] queue number command reply moment done → IsSound f d.config d.entries failed block
+sound-refused f b d failed block queue number command status reply moment done so well is completed =
+    sound-ended f b.config d.config b.entries d.entries failed block queue number moment command (bare status false) so well completed.step.config_is
+    (completed.step.entries_are ∙ ap (λ (r : Reply). b.entries ++ entries.Host queue number command r moment ∷ []) is.reply_is)
+    (inl (refused-follows f.told b.config (point_in b) queue number command status moment is.queue_is is.formed is.free is.refused)) (refused-fine b.config (point_in b) command status is.refused)
+
+pub begins-refused : {F : Type 0} (state : F → FlashState) (old new : Seen F) (queue number : ℕ) (command : Command) (status : Status) (reply : Reply) (moment : ℕ) (done : Done) (block : List ℕ) →
+    IsSound (state new.flash) new.book.config new.book.entries new.failed block → new.flash ≡ old.flash → new.failed ≡ false → IsRefusal old.book queue number command status reply →
+    book.Completes old.book new.book [] queue number command reply moment done → moment ≡ (state new.flash).moment →
+    EndsAtOnce state old new queue number command done
+begins-refused {F} state old new queue number command status reply moment done block so same well is completed moment_is =
+    let told : done.reply ≡ bare status false = ap (λ (d : Done). d.reply) completed.done_is ∙ is.reply_is in
+    let fine : is_media_error reply.status ≡ false = ap (λ (r : Reply). is_media_error r.status) is.reply_is ∙ refused-fine old.book.config (point_in old.book) command status is.refused in
+    record {
+      completes = completes state old new [] queue number command reply moment done block so completed moment_is
+          (subst (λ (x : F). EndsSo (state x) (state new.flash) [] reply new.failed) same (ends-well (state new.flash) reply new.failed well fine));
+      refused = λ _. is.refused ∙ ap (λ (r : Reply). Some r.status) (sym told);
+    }
+
+-- ---- writes that are let go
+
+pub sound-started : (f : FlashState) (b d : BookSeen) (failed : Bool) (block : List ℕ) (queue number : ℕ) (command : Command) (ticket : Ticket) →
+    IsSound f b.config b.entries failed block → book.Starts b d queue number command ticket → IsSound f d.config d.entries failed block
+unfolding after changed_by
+sound-started f b d failed block queue number command ticket so is =
+    let e = entries.Started queue number command is.target.rg is.target.ruh is.target.valid in
+    sound-as f b.config d.config (b.entries ++ e ∷ []) d.entries failed block is.step.config_is is.step.entries_are
+    (sound-push f f b.config b.entries e failed failed block block so refl refl (inl (is.follows f.told)) so.cells so.healthy so.buffer)
+
+pub begins-started : {F : Type 0} (state : F → FlashState) (old new : Seen F) (queue number : ℕ) (command : Command) (ticket : Ticket) (block : List ℕ) →
+    IsSound (state new.flash) new.book.config new.book.entries new.failed block → new.flash ≡ old.flash → new.failed ≡ false →
+    refusal_of old.book.config (point_in old.book) command ≡ None → book.Starts old.book new.book queue number command ticket →
+    Starts state old new queue number command ticket
+begins-started {F} state old new queue number command ticket block so same well accepted is =
+    let e = entries.Started queue number command is.target.rg is.target.ruh is.target.valid in
+    record {
+      accepted = accepted;
+      target = is.target;
+      target_is = is.target_is;
+      step = adds state old new (e ∷ []) block so is.step (subst (λ (x : F). Matches (state x) (state new.flash) (e ∷ []) new.failed) same (matches-quiet (state new.flash) e new.failed well refl refl));
+      ticket_is = is.ticket_is;
+      going = is.going;
+      well = well;
+    }
+
+-- ---- reads
+
+-- a read is not refused
+pub record IsRead (b : BookSeen) (queue : ℕ) (command : Command) (x : Extent) : Type 0 where
+  pub command_is : command ≡ commands.Read x.nsid x.slba x.count
+  pub queue_is : IsQueue b.config queue
+  pub formed : IsWellFormed b.config command
+  pub accepted : refusal_of b.config (point_in b) command ≡ None
+
+-- a read, over the flash that it left
+sound-host : (f g : FlashState) (b d : BookSeen) (failed : Bool) (block : List ℕ) (queue number nsid slba count : ℕ) (reply : Reply) (moment : ℕ) →
+    IsSound f b.config b.entries false block → IsReadFrom f g → d.config ≡ b.config →
+    d.entries ≡ b.entries ++ entries.Host queue number (commands.Read nsid slba count) reply moment ∷ [] →
+    Follows f.told b.config (point_in b) (entries.Host queue number (commands.Read nsid slba count) reply moment) → (failed ≡ false → is_media_error reply.status ≡ false) → IsSound g d.config d.entries failed block
+sound-host f g b d failed block queue number nsid slba count reply moment so reads same longer step fine =
+    let e = entries.Host queue number (commands.Read nsid slba count) reply moment in
+    sound-as g b.config d.config (b.entries ++ e ∷ []) d.entries failed block same longer
+    (sound-push f g b.config b.entries e false failed block block so reads.kept.geometry reads.kept.told (inl step)
+    (λ _ tells. reads.cells tells ∙ so.cells refl tells)
+    (λ well. media-ended b.config (state_in b) queue number (commands.Read nsid slba count) reply moment (fine well) (so.healthy refl)) so.buffer)
+
+sound-by : (f g : FlashState) (b d : BookSeen) (failed : Bool) (block : List ℕ) (queue number : ℕ) (x : Extent) (replies : Replies) (moment : ℕ) →
+    IsSound f b.config b.entries false block → IsReadFrom f g → IsRead b queue (commands.Read x.nsid x.slba x.count) x → Reads f g b x replies failed → d.config ≡ b.config →
+    d.entries ≡ b.entries ++ entries.Host queue number (commands.Read x.nsid x.slba x.count) replies.history moment ∷ [] → IsSound g d.config d.entries failed block
+sound-by f g b d true block queue number x replies moment so reads is h same longer =
+    sound-host f g b d true block queue number x.nsid x.slba x.count (bare statuses.UNRECOVERED_READ_ERROR false) moment so reads same
+    (longer ∙ ap (λ (r : Reply). b.entries ++ entries.Host queue number (commands.Read x.nsid x.slba x.count) r moment ∷ []) h.twice.history_is)
+    (unread-follows f.told b.config (point_in b) queue number x.nsid x.slba x.count moment is.queue_is is.formed is.accepted (new-moment (state_in b) moment (so.healthy refl)))
+    (λ wrong. absurd (false≢true (sym wrong)))
+sound-by f g b d false block queue number x replies moment so reads is h same longer =
+    let orderly = (sound-orderly f b.config b.entries false block so).state in
+    sound-host f g b d false block queue number x.nsid x.slba x.count (read_reply h.bytes) moment so reads same
+    (longer ∙ ap (λ (r : Reply). b.entries ++ entries.Host queue number (commands.Read x.nsid x.slba x.count) r moment ∷ []) h.twice.history_is)
+    (read-follows f.told b.config (point_in b) queue number x.nsid x.slba x.count h.bytes moment is.queue_is is.formed is.accepted (h.size ∙ sym (length-blocks_from b x.nsid x.slba x.count orderly)) h.blocks)
+    (λ _. refl)
+
+pub sound-read : (f g : FlashState) (b d : BookSeen) (was failed : Bool) (block : List ℕ) (queue number : ℕ) (command : Command) (x : Extent) (replies : Replies) (moment : ℕ) (done : Done) →
+    IsSound f b.config b.entries was block → was ≡ false → IsReadFrom f g → IsRead b queue command x → Reads f g b x replies failed →
+    book.Completes b d [] queue number command replies.history moment done → IsSound g d.config d.entries failed block
+sound-read f g b d was failed block queue number command x replies moment done so well reads is h completed =
+    sound-by f g b d failed block queue number x replies moment (subst (λ w. IsSound f b.config b.entries w block) well so) reads
+    (subst (λ (y : Command). IsRead b queue y x) is.command_is is) h completed.step.config_is
+    (completed.step.entries_are ∙ ap (λ (y : Command). b.entries ++ entries.Host queue number y replies.history moment ∷ []) is.command_is)
+
+reads-end : (f g : FlashState) (b : BookSeen) (x : Extent) (replies : Replies) (failed : Bool) → IsReadFrom f g → Reads f g b x replies failed → EndsSo f g [] replies.history failed
+reads-end f g b x replies true reads h = record {
+  kept = reads.kept;
+  programs = reads.programs;
+  unplaced = refl;
+  is_error = ap (λ (r : Reply). is_media_error r.status) (sym h.twice.history_is);
+  quiet = refl;
+  fault = λ _. h.fault;
+  no_fault = λ wrong. absurd (false≢true (sym wrong));
+}
+reads-end f g b x replies false reads h = record {
+  kept = reads.kept;
+  programs = reads.programs;
+  unplaced = refl;
+  is_error = ap (λ (r : Reply). is_media_error r.status) (sym h.twice.history_is);
+  quiet = refl;
+  fault = λ wrong. absurd (false≢true wrong);
+  no_fault = λ _. h.no_fault;
+}
+
+pub read-completes : {F : Type 0} (state : F → FlashState) (old new : Seen F) (queue number : ℕ) (command : Command) (x : Extent) (replies : Replies) (moment : ℕ) (done : Done) (block : List ℕ) →
+    IsSound (state new.flash) new.book.config new.book.entries new.failed block → IsReadFrom (state old.flash) (state new.flash) → Reads (state old.flash) (state new.flash) old.book x replies new.failed →
+    book.Completes old.book new.book [] queue number command replies.history moment done → moment ≡ (state new.flash).moment →
+    Completes state old new [] queue number command done
+read-completes state old new queue number command x replies moment done block so reads h completed moment_is =
+    completes state old new [] queue number command replies.history moment done block so completed moment_is (reads-end (state old.flash) (state new.flash) old.book x replies new.failed reads h)

@@ -1,0 +1,55 @@
+-- How a group ends a write whose pages are placed.
+use Rattle.std.proofs.Common.{◌≡◌, ◌⊎◌, ℕ, Bool, true, false, IsTrue, List, [], ◌∷◌, refl, ap, sym, ◌∙◌, subst, inl, inr, Ok, Err}
+use Rattle.fdp_base.specs.declared.status.Status.{Status}
+use Rattle.fdp_base.specs.declared.status.TheConstants.Status as statuses
+use Rattle.fdp_base.specs.Answer.{bare}
+use Rattle.fdp_base.specs.Change.{is_media_error}
+use Rattle.fdp_base.specs.PlainState.{Going}
+use Rattle.fdp_base.specs.Step.{MaySucceed}
+use Rattle.fdp_flash.specs.FlashState.{FlashState}
+use Rattle.fdp_core.specs.declared.ticket.Done.{Done}
+use Rattle.fdp_core.specs.declared.ticket.Ticket.{Ticket}
+use Rattle.fdp_core.specs.Answers.{Commits, EndsAlone}
+use Rattle.fdp_core.specs.Book.{BookSeen, point_in, state_in}
+use Rattle.fdp_core.specs.BookSteps as book
+use Rattle.fdp_core.specs.Seen.{Seen}
+use Rattle.fdp_core.specs.Sound.{IsSound}
+use Rattle.fdp_core.specs.Tickets.{IsTicketOf}
+use Rattle.fdp_core.proofs.GroupEnded.{ends-alone, going-orderly, sound-end}
+use Rattle.fdp_core.proofs.GroupHost.{write-succeeds}
+
+pub sound-ok : (f : FlashState) (b d : BookSeen) (failed : Bool) (block : List ℕ) (ticket : Ticket) (g : Going) (moment : ℕ) (done : Done) →
+    IsSound f b.config b.entries failed block → failed ≡ false → IsTicketOf (state_in b) ticket g → MaySucceed b.config (point_in b) g →
+    book.Completes b d [] ticket.queue g.number g.command (bare statuses.SUCCESS true) moment done → IsSound f d.config d.entries failed block
+sound-ok f b d failed block ticket g moment done so well is may completed =
+    let write = (going-orderly f b.config b.entries failed block ticket.queue g so is.going_is).write in
+    sound-end f b d failed block ticket g (bare statuses.SUCCESS true) moment done so well is (inr (inr (inl (may, write-succeeds f.told b.config (point_in b) g.command write)))) refl completed
+
+pub sound-err : (f : FlashState) (b d : BookSeen) (failed : Bool) (block : List ℕ) (ticket : Ticket) (g : Going) (status : Status) (moment : ℕ) (done : Done) →
+    IsSound f b.config b.entries failed block → failed ≡ false → IsTicketOf (state_in b) ticket g → book.IsVerdict b g (Err status) →
+    book.Completes b d [] ticket.queue g.number g.command (bare status false) moment done → IsSound f d.config d.entries failed block
+sound-err f b d failed block ticket g status moment done so well is verdict completed =
+    elim verdict [
+      | inl gone ↦ sound-end f b d failed block ticket g (bare status false) moment done so well is (inl (gone.0, ap (λ (x : Status). bare x false) gone.1)) (ap is_media_error gone.1) completed
+      | inr over ↦ sound-end f b d failed block ticket g (bare status false) moment done so well is (inr (inl (over.0, over.1, ap (λ (x : Status). bare x false) over.2))) (ap is_media_error over.2) completed
+    ]
+
+pub commits-ok : {F : Type 0} (state : F → FlashState) (old new : Seen F) (ticket : Ticket) (g : Going) (moment : ℕ) (done : Done) (block : List ℕ) →
+    IsSound (state new.flash) new.book.config new.book.entries new.failed block → new.flash ≡ old.flash → new.failed ≡ false →
+    MaySucceed old.book.config (point_in old.book) g → book.Completes old.book new.book [] ticket.queue g.number g.command (bare statuses.SUCCESS true) moment done →
+    moment ≡ (state new.flash).moment → Commits state old new ticket g done
+commits-ok state old new ticket g moment done block so same well may completed moment_is =
+    inr (inr (may, ends-alone state old new ticket g (bare statuses.SUCCESS true) moment done block so same well completed moment_is refl))
+
+pub commits-err : {F : Type 0} (state : F → FlashState) (old new : Seen F) (ticket : Ticket) (g : Going) (status : Status) (moment : ℕ) (done : Done) (block : List ℕ) →
+    IsSound (state new.flash) new.book.config new.book.entries new.failed block → new.flash ≡ old.flash → new.failed ≡ false →
+    book.IsVerdict old.book g (Err status) → book.Completes old.book new.book [] ticket.queue g.number g.command (bare status false) moment done →
+    moment ≡ (state new.flash).moment → Commits state old new ticket g done
+commits-err {F} state old new ticket g status moment done block so same well verdict completed moment_is =
+    elim verdict [
+      | inl gone ↦ inl (gone.0, ends-as statuses.INVALID_NAMESPACE gone.1 refl)
+      | inr over ↦ inr (inl (over.0, over.1, ends-as statuses.CAPACITY_EXCEEDED over.2 refl))
+    ]
+  where
+    ends-as : (x : Status) → status ≡ x → is_media_error x ≡ false → EndsAlone state old new ticket g (bare x false) done
+    ends-as x e fine = ends-alone state old new ticket g (bare x false) moment done block so same well (subst (λ (y : Status). book.Completes old.book new.book [] ticket.queue g.number g.command (bare y false) moment done) e completed) moment_is fine

@@ -1,0 +1,73 @@
+-- The end of a going write: what it leaves, and what contracts say of it.
+use Rattle.std.proofs.Common.{◌≡◌, ◌⊎◌, ℕ, Bool, true, false, List, [], ◌∷◌, ◌++◌, refl, ap, sym, ◌∙◌, subst, inl, inr, Some}
+use Rattle.fdp_base.specs.declared.command.Command.{Command}
+use Rattle.fdp_base.specs.declared.config.DriveConfig.{DriveConfig}
+use Rattle.fdp_base.specs.declared.entry.Entry.{Entry}
+use Rattle.fdp_base.specs.declared.entry.Entry.TheVariants as entries
+use Rattle.fdp_base.specs.declared.entry.Reply.{Reply}
+use Rattle.fdp_base.specs.Change.{is_media_error}
+use Rattle.fdp_base.specs.declared.status.TheConstants.Status as statuses
+use Rattle.fdp_base.specs.Answer.{bare}
+use Rattle.fdp_base.specs.History.{fresh, point_of, state_of}
+use Rattle.fdp_base.specs.PlainState.{Going}
+use Rattle.fdp_base.specs.Step.{IsEnd, IsGoing}
+use Rattle.fdp_flash.specs.FlashState.{FlashState}
+use Rattle.fdp_history.specs.OrderlyState.{IsOrderlyGoing}
+use Rattle.fdp_core.specs.declared.ticket.Done.{Done}
+use Rattle.fdp_core.specs.declared.ticket.Ticket.{Ticket}
+use Rattle.fdp_core.specs.Answers.{EndsAlone}
+use Rattle.fdp_core.specs.Book.{BookSeen, point_in, state_in}
+use Rattle.fdp_core.specs.BookSteps as book
+use Rattle.fdp_core.specs.Seen.{Seen}
+use Rattle.fdp_core.specs.Sound.{IsSound}
+use Rattle.fdp_core.specs.Tickets.{IsTicketOf}
+use Rattle.fdp_core.specs.UsedOnce.{EndsForWantOfUnit, IsStepOnce, WantsUnit}
+use Rattle.fdp_core.proofs.GroupAdds.{EndsSo, completes, ends-well}
+use Rattle.fdp_core.proofs.GroupHost.{end-follows, media-ended}
+use Rattle.fdp_core.proofs.GroupSound.{sound-as, sound-orderly, sound-push}
+
+-- a Host entry that is no media error, over the flash as it was
+pub sound-ended : (f : FlashState) (c d : DriveConfig) (es fs : List Entry) (failed : Bool) (block : List ℕ) (queue number moment : ℕ) (command : Command) (reply : Reply) →
+    IsSound f c es failed block → failed ≡ false → d ≡ c → fs ≡ es ++ entries.Host queue number command reply moment ∷ [] →
+    IsStepOnce f.told c es (entries.Host queue number command reply moment) → is_media_error reply.status ≡ false →
+    IsSound f d fs failed block
+sound-ended f c d es fs failed block queue number moment command reply so well same longer step fine =
+    sound-as f c d (es ++ entries.Host queue number command reply moment ∷ []) fs failed block same longer
+    (sound-push f f c es (entries.Host queue number command reply moment) failed failed block block so refl refl step so.cells
+    (λ _. media-ended c (point_of c (fresh c) es).state queue number command reply moment fine (so.healthy well)) so.buffer)
+
+-- a going write is orderly
+pub going-orderly : (f : FlashState) (c : DriveConfig) (es : List Entry) (failed : Bool) (block : List ℕ) (queue : ℕ) (g : Going) → IsSound f c es failed block → (point_of c (fresh c) es).state.going queue ≡ Some g → IsOrderlyGoing c (point_of c (fresh c) es).state queue g
+going-orderly f c es failed block queue g so going = (sound-orderly f c es failed block so).state.writes queue g going
+
+-- the end of a going write, with no media error
+pub sound-end : (f : FlashState) (b d : BookSeen) (failed : Bool) (block : List ℕ) (ticket : Ticket) (g : Going) (reply : Reply) (moment : ℕ) (done : Done) →
+    IsSound f b.config b.entries failed block → failed ≡ false → IsTicketOf (state_in b) ticket g → IsEnd f.told b.config (point_in b) g reply moment → is_media_error reply.status ≡ false →
+    book.Completes b d [] ticket.queue g.number g.command reply moment done → IsSound f d.config d.entries failed block
+sound-end f b d failed block ticket g reply moment done so well is ends fine completed =
+    sound-ended f b.config d.config b.entries d.entries failed block ticket.queue g.number moment g.command reply so well completed.step.config_is completed.step.entries_are
+    (inl (end-follows f.told b.config (point_in b) ticket.queue g reply moment (going-orderly f b.config b.entries failed block ticket.queue g so is.going_is) is.going_is ends)) fine
+
+want-follows : (b : BookSeen) (ticket : Ticket) (g : Going) → IsTicketOf (state_in b) ticket g → WantsUnit b.config b.entries (state_in b) g → EndsForWantOfUnit b.config b.entries ticket.queue g.number g.command (bare statuses.CAPACITY_EXCEEDED false)
+unfolding point_of
+want-follows b ticket g is wants = record { going = g; going_is = record { going = is.going_is; same_number = refl; same_command = refl }; wants = wants; reply_is = refl }
+
+-- the end of a going write that wants a unit
+pub sound-want : (f : FlashState) (b d : BookSeen) (failed : Bool) (block : List ℕ) (ticket : Ticket) (g : Going) (moment : ℕ) (done : Done) →
+    IsSound f b.config b.entries failed block → failed ≡ false → IsTicketOf (state_in b) ticket g → WantsUnit b.config b.entries (state_in b) g →
+    book.Completes b d [] ticket.queue g.number g.command (bare statuses.CAPACITY_EXCEEDED false) moment done → IsSound f d.config d.entries failed block
+sound-want f b d failed block ticket g moment done so well is wants completed =
+    sound-ended f b.config d.config b.entries d.entries failed block ticket.queue g.number moment g.command (bare statuses.CAPACITY_EXCEEDED false) so well completed.step.config_is completed.step.entries_are
+    (inr (want-follows b ticket g is wants)) refl
+
+-- a going write ends alone, as the book says, with no media error
+pub ends-alone : {F : Type 0} (state : F → FlashState) (old new : Seen F) (ticket : Ticket) (g : Going) (reply : Reply) (moment : ℕ) (done : Done) (block : List ℕ) →
+    IsSound (state new.flash) new.book.config new.book.entries new.failed block → new.flash ≡ old.flash → new.failed ≡ false →
+    book.Completes old.book new.book [] ticket.queue g.number g.command reply moment done →
+    moment ≡ (state new.flash).moment → is_media_error reply.status ≡ false →
+    EndsAlone state old new ticket g reply done
+ends-alone {F} state old new ticket g reply moment done block so same well is moment_is fine = record {
+  completes = completes state old new [] ticket.queue g.number g.command reply moment done block so is moment_is
+      (subst (λ (x : F). EndsSo (state x) (state new.flash) [] reply new.failed) same (ends-well (state new.flash) reply new.failed well fine));
+  reply_is = ap (λ (d : Done). d.reply) is.done_is;
+}

@@ -1,0 +1,162 @@
+-- What contracts say of a step that places a page, or ends its write.
+use Rattle.std.proofs.Common.{◌≡◌, ◌≢◌, ◌⊎◌, ℕ, ◌+◌, ◌<◌, ◌≤◌, Bool, true, false, IsTrue, List, [], ◌∷◌, ◌++◌, length, take, drop, refl, ap, sym, ◌∙◌, subst, inl, inr, arith, append_assoc, length-append, length-take, length-drop, None, Some}
+use Rattle.std.specs.Prelude.{IsFalse, ◌==◌}
+use Rattle.std.proofs.lemmas.Bool.{false≢true, eqb-false, eqb-true}
+use Rattle.fdp_base.specs.declared.config.DriveConfig.{DriveConfig}
+use Rattle.fdp_base.specs.declared.entry.Entry.{Entry}
+use Rattle.fdp_base.specs.declared.entry.Entry.TheVariants as entries
+use Rattle.fdp_base.specs.declared.entry.Spot.{Spot}
+use Rattle.fdp_base.specs.declared.payload.Payload.{Payload}
+use Rattle.fdp_base.specs.declared.status.TheConstants.Status as statuses
+use Rattle.fdp_base.specs.Answer.{bare}
+use Rattle.fdp_base.specs.Change.{after, changed_by, one_more_placed}
+use Rattle.fdp_base.specs.Counts.{counted}
+use Rattle.fdp_base.specs.History.{fresh, point_of}
+use Rattle.fdp_base.specs.Next.{next}
+use Rattle.fdp_base.specs.PlainState.{Going, PlainState}
+use Rattle.fdp_base.specs.Point.{Point}
+use Rattle.fdp_base.specs.Sites.{is_there}
+use Rattle.fdp_base.specs.Step.{Follows, IsEnd}
+use Rattle.fdp_base.specs.Totals.{blocks_written, media_blocks}
+use Rattle.fdp_base.proofs.Pushes.{point_of-push}
+use Rattle.fdp_flash.specs.declared.cell.Cell.{Cell}
+use Rattle.fdp_flash.specs.FlashState.{Faulted, FlashState}
+use Rattle.fdp_history.specs.OrderlyState.{IsOrderlyGoing}
+use Rattle.fdp_core.specs.declared.answer.Placed.{Placed}
+use Rattle.fdp_core.specs.declared.answer.Placed.TheVariants as placed
+use Rattle.fdp_core.specs.declared.ticket.Done.{Done}
+use Rattle.fdp_core.specs.declared.ticket.Ticket.{Ticket}
+use Rattle.fdp_core.specs.Answers.{EndsAlone, EndsInPlacing, Places, PlacesPage}
+use Rattle.fdp_core.specs.Book.{BookSeen, point_in, state_in}
+use Rattle.fdp_core.specs.BookSteps as book
+use Rattle.fdp_core.specs.Media.{IsProgrammedTo}
+use Rattle.fdp_core.specs.Seen.{IsKept, Matches, Seen, counted_more}
+use Rattle.fdp_core.specs.Sound.{IsSound}
+use Rattle.fdp_core.specs.Tickets.{IsNextSpot, IsTicketOf}
+use Rattle.fdp_core.proofs.GroupAdds.{EndsSo, adds, completes}
+use Rattle.fdp_core.proofs.GroupEnded.{going-orderly}
+use Rattle.fdp_core.proofs.GroupHost.{end-follows, new-moment}
+use Rattle.fdp_core.proofs.GroupPlacing.{next-there}
+use Rattle.fdp_core.proofs.GroupSound.{sound-as, sound-orderly, sound-push}
+
+-- a buffer that was filled has its length
+pub filled-buffer : (len : ℕ) (items xs : List ℕ) → length items ≡ len → length xs ≡ length items → length (take len (xs ++ drop (length xs) items)) ≡ length items
+filled-buffer len items xs all same =
+    omega (arith, length-take len (xs ++ drop (length xs) items), length-append xs (drop (length xs) items), length-drop (length xs) items, all, same)
+
+-- ---- a page was placed
+
+matches-placed : (f h : FlashState) (number : ℕ) (page : Cell) (ticket index unit at : ℕ) (failed : Bool) → failed ≡ false → IsProgrammedTo f h number page → Matches f h (entries.Placed ticket index unit at ∷ []) failed
+unfolding counted_more
+matches-placed f h number page ticket index unit at failed well is =
+    let one : media_blocks (entries.Placed ticket index unit at ∷ []) ≡ 1 = refl in
+    record {
+      kept = is.kept;
+      programs = is.programs ∙ sym (ap (counted_more f.programs) one);
+      fault = λ wrong. absurd (false≢true (sym well ∙ wrong));
+      no_fault = λ _. is.faults;
+      told_by = sym well;
+    }
+
+pub places-page : {F : Type 0} (state : F → FlashState) (old new : Seen F) (ticket : Ticket) (g : Going) (spot : Spot) (last : Bool) (number : ℕ) (page : Cell) (block : List ℕ) →
+    IsSound (state new.flash) new.book.config new.book.entries new.failed block → new.failed ≡ false → IsNextSpot old.book ticket g spot →
+    IsProgrammedTo (state old.flash) (state new.flash) number page → book.Places old.book new.book ticket g spot last → PlacesPage state old new ticket g ticket
+places-page state old new ticket g spot last number page block so well next programmed is = record {
+  unit = spot.unit;
+  page = spot.page;
+  step = adds state old new (entries.Placed ticket.position g.placed spot.unit spot.page ∷ []) block so is.step
+      (matches-placed (state old.flash) (state new.flash) number page ticket.position g.placed spot.unit spot.page new.failed well programmed);
+  next_is = refl;
+  going = is.going;
+  unused = next.unused;
+  well = well;
+}
+
+-- it was the last
+pub places-last : {F : Type 0} (state : F → FlashState) (old new : Seen F) (ticket : Ticket) (g : Going) (last : Bool) (result : Placed) →
+    PlacesPage state old new ticket g ticket → last ≡ true → last ≡ (g.placed + 1 == blocks_written g.command) → result ≡ placed.Ready ticket → Places state old new ticket g result
+places-last state old new ticket g last result page full is same =
+    subst (Places state old new ticket g) (sym same) (page, eqb-true (g.placed + 1) (blocks_written g.command) (sym is ∙ full))
+
+-- it was not
+pub places-more : {F : Type 0} (state : F → FlashState) (old new : Seen F) (ticket : Ticket) (g : Going) (last : Bool) (result : Placed) →
+    PlacesPage state old new ticket g ticket → last ≡ false → g.placed < blocks_written g.command → last ≡ (g.placed + 1 == blocks_written g.command) → result ≡ placed.More ticket → Places state old new ticket g result
+places-more state old new ticket g last result page short asked is same =
+    let other = eqb-false (g.placed + 1) (blocks_written g.command) (sym is ∙ short) in
+    subst (Places state old new ticket g) (sym same) (page, omega (arith, other, asked))
+
+-- the pages of the write of a ticket that are still to be placed
+pub asked-as : (s : PlainState) (ticket : Ticket) (g h : Going) → IsTicketOf s ticket g → IsTicketOf s ticket h → g.placed < blocks_written g.command → h.placed < blocks_written h.command
+asked-as s ticket g h p q asked =
+    let same : g ≡ h = some-same g h (sym p.going_is ∙ q.going_is) in
+    subst (λ (x : Going). x.placed < blocks_written x.command) same asked
+  where
+    some-same : (x y : Going) → Some x ≡ Some y → x ≡ y
+    some-same x y e = cc
+
+-- ---- a program failed
+
+-- what a shut handle leaves
+pub record IsShutFrom (s t : PlainState) (g : Going) (queue : ℕ) : Type 0 where
+  pub going : t.going queue ≡ s.going queue
+  pub there : is_there t g ≡ is_there s g
+  pub media : t.media ≡ s.media
+
+shut-from : (c : DriveConfig) (s : PlainState) (g : Going) (queue rg ruh : ℕ) → IsShutFrom s (after c s (entries.Shut rg ruh)) g queue
+unfolding after changed_by
+shut-from c s g queue rg ruh = record { going = refl; there = refl; media = refl }
+
+-- a handle may be shut
+shut-follows : (told : Bool) (c : DriveConfig) (p : Point) (g : Going) (queue : ℕ) → IsOrderlyGoing c p.state queue g → IsTrue (is_there p.state g) → Follows told c p (entries.Shut g.rg g.ruh)
+unfolding Follows
+shut-follows told c p g queue orderly there = record { group = orderly.group; handle = orderly.in_force there }
+
+state-shut : (c : DriveConfig) (es : List Entry) (g : Going) (queue : ℕ) → IsShutFrom (point_of c (fresh c) es).state (point_of c (fresh c) (es ++ entries.Shut g.rg g.ruh ∷ [])).state g queue
+unfolding next
+state-shut c es g queue =
+    subst (λ (p : Point). IsShutFrom (point_of c (fresh c) es).state p.state g queue) (sym (point_of-push c (fresh c) es (entries.Shut g.rg g.ruh))) (shut-from c (point_of c (fresh c) es).state g queue g.rg g.ruh)
+
+-- the handle is shut, and the write ends with Write Fault
+pub sound-shut : (f h : FlashState) (b d : BookSeen) (failed : Bool) (block now : List ℕ) (ticket : Ticket) (g : Going) (moment : ℕ) (done : Done) →
+    IsSound f b.config b.entries failed block → failed ≡ false → IsKept f h → IsTicketOf (state_in b) ticket g → IsTrue (is_there (state_in b) g) → g.placed < blocks_written g.command →
+    length now ≡ length block → book.Completes b d (entries.Shut g.rg g.ruh ∷ []) ticket.queue g.number g.command (bare statuses.WRITE_FAULT false) moment done →
+    IsSound h d.config d.entries true now
+sound-shut f h b d failed block now ticket g moment done so well kept is there asked size completed =
+    let c = b.config in
+    let shut = entries.Shut g.rg g.ruh in
+    let es = b.entries ++ shut ∷ [] in
+    let host = entries.Host ticket.queue g.number g.command (bare statuses.WRITE_FAULT false) moment in
+    let first : IsSound h c es true now = sound-push f h c b.entries shut failed true block now so kept.geometry kept.told
+    (inl (shut-follows f.told c (point_in b) g ticket.queue (going-orderly f c b.entries failed block ticket.queue g so is.going_is) there))
+    (λ wrong. absurd (false≢true (sym wrong))) (λ wrong. absurd (false≢true (sym wrong))) (size ∙ so.buffer) in
+    let from = state-shut c b.entries g ticket.queue in
+    let p = point_of c (fresh c) es in
+    let ends : IsEnd h.told c p g (bare statuses.WRITE_FAULT false) moment =
+    inr (inr (inr (inr (from.there ∙ there, asked, new-moment p.state moment (from.media ∙ so.healthy well), refl)))) in
+    let going = from.going ∙ is.going_is in
+    let second : IsSound h c (es ++ host ∷ []) true now = sound-push h h c es host true true now now first refl refl
+    (inl (end-follows h.told c p ticket.queue g (bare statuses.WRITE_FAULT false) moment (going-orderly h c es true now ticket.queue g first going) going ends))
+    (λ wrong. absurd (false≢true (sym wrong))) (λ wrong. absurd (false≢true (sym wrong))) (size ∙ so.buffer) in
+    sound-as h c d.config (es ++ host ∷ []) d.entries true now completed.step.config_is (completed.step.entries_are ∙ sym (append_assoc b.entries (shut ∷ []) (host ∷ []))) second
+
+pub fails-to-place : {F : Type 0} (state : F → FlashState) (old new : Seen F) (ticket : Ticket) (g : Going) (moment : ℕ) (done : Done) (block : List ℕ) →
+    IsSound (state new.flash) new.book.config new.book.entries new.failed block → new.failed ≡ true → IsKept (state old.flash) (state new.flash) → (state new.flash).programs ≡ (state old.flash).programs → Faulted (state old.flash) (state new.flash) →
+    IsTrue (is_there (state_in old.book) g) → book.Completes old.book new.book (entries.Shut g.rg g.ruh ∷ []) ticket.queue g.number g.command (bare statuses.WRITE_FAULT false) moment done →
+    moment ≡ (state new.flash).moment → EndsInPlacing state old new ticket g done
+fails-to-place state old new ticket g moment done block so broken kept programs fault there completed moment_is =
+    inr (inr (
+      there,
+      record {
+        completes = completes state old new (entries.Shut g.rg g.ruh ∷ []) ticket.queue g.number g.command (bare statuses.WRITE_FAULT false) moment done block so completed moment_is (record {
+          kept = kept;
+          programs = programs;
+          unplaced = refl;
+          is_error = broken;
+          quiet = sym broken;
+          fault = λ _. fault;
+          no_fault = λ wrong. absurd (false≢true (sym wrong ∙ broken));
+        });
+        reply_is = ap (λ (d : Done). d.reply) completed.done_is;
+        failed = broken;
+      },
+    ))

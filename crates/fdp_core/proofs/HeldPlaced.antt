@@ -1,0 +1,266 @@
+-- What a page that is placed leaves.
+use Rattle.std.proofs.Common.{◌≡◌, ◌≢◌, ◌⊎◌, ⊎_elim, ℕ, ◌+◌, ◌-◌, ◌*◌, ◌<◌, ◌≤◌, Bool, true, false, IsTrue, List, [], ◌∷◌, ◌++◌, length, slice_get, slice_index, slice_set, Option, Some, None, refl, sym, ◌∙◌, ap, subst, arith, cond, eq-eqb, ne_eqb, eqb-true}
+use Rattle.std.specs.Prelude.{◌==◌, ◌&&◌, is_some, option_map, option_and_then, if◌then◌else◌}
+use Rattle.std.specs.Option.{option_map_or}
+use Rattle.std.proofs.Math.ListN.{length-set}
+use Rattle.std.proofs.lemmas.Bool.{cases_eq}
+use Rattle.std.proofs.lemmas.Option.{slice_get_within}
+use Rattle.fdp_base.proofs.Pushes.{point_of-push}
+use Rattle.fdp_base.specs.declared.config.DriveConfig.{DriveConfig}
+use Rattle.fdp_base.specs.declared.entry.Entry.{Entry}
+use Rattle.fdp_base.specs.declared.entry.Entry.TheVariants as entries
+use Rattle.fdp_base.specs.declared.entry.Spot.{Spot}
+use Rattle.fdp_base.specs.Change.{after, changed_by, going_with, holds_ticket, one_less, one_more_placed, placed_going, placed_references}
+use Rattle.fdp_base.specs.CommandKinds.{Write, is_write, write_of}
+use Rattle.fdp_base.specs.Effect.{References, with_reference}
+use Rattle.fdp_base.specs.History.{fresh, point_of}
+use Rattle.fdp_base.specs.Next.{next}
+use Rattle.fdp_base.specs.Numbers.{with_at}
+use Rattle.fdp_base.specs.Pattern.{payload_block}
+use Rattle.fdp_base.specs.Placement.{geometry_of}
+use Rattle.fdp_base.specs.PlainState.{Block, Going, PageName, PageName.found, PageName.written, PlainState, Reference}
+use Rattle.fdp_base.specs.Point.{Point}
+use Rattle.fdp_base.specs.Sites.{group_of, is_page_of, traced_by}
+use Rattle.fdp_base.specs.Spare.{data_spare}
+use Rattle.fdp_base.specs.Step.{Follows, IsNextPage, IsPage, IsPlaced}
+use Rattle.fdp_flash.proofs.Lists.{slice_get-set_other, slice_get-set_same}
+use Rattle.fdp_flash.specs.declared.cell.Cell.{Cell}
+use Rattle.fdp_flash.specs.declared.cell.Cell.TheVariants.{Blank, Whole}
+use Rattle.fdp_flash.specs.Cells.{IsBlankFrom}
+use Rattle.fdp_flash.specs.Layout.{page_number}
+use Rattle.fdp_handles.specs.HandleTable.{HandleTable, reference_at}
+use Rattle.fdp_history.proofs.Placing.{going_with-is}
+use Rattle.fdp_history.proofs.Points.{orderly-next}
+use Rattle.fdp_history.proofs.Standing.{standing-next}
+use Rattle.fdp_history.specs.OrderlyState.{IsOrderlyState}
+use Rattle.fdp_map.specs.MapTable.{MapTable}
+use Rattle.fdp_spaces.specs.SpaceTable.{SpaceTable}
+use Rattle.fdp_core.specs.declared.book.Setting.{Setting}
+use Rattle.fdp_core.specs.declared.book.Sums.{Sums}
+use Rattle.fdp_core.specs.declared.flight.Flight.{Flight}
+use Rattle.fdp_core.specs.Flown.{IsPageMore, used_after}
+use Rattle.fdp_core.specs.Held.{AreFlightsOf, AreHandlesOf, AreUnitsOf, IsFlightOf, IsHeld, flight_in, going_of}
+use Rattle.fdp_core.specs.Pages.{cells_after, cells_of, next_page, with_page}
+use Rattle.fdp_core.proofs.Flights.{flown-set, going-set}
+use Rattle.fdp_core.proofs.Grown.{IsGrown, all_units-grown, flight-grown, map-grown, setting-grown, spaces-grown}
+use Rattle.fdp_core.proofs.HeldAt.{IsHeldAt, held-at}
+use Rattle.fdp_core.proofs.HeldSums.{are_sums-push}
+use Rattle.fdp_core.proofs.Longer.{cells_of-push}
+use Rattle.fdp_core.proofs.PlacedPages.{IsPageBy, flight-more}
+use Rattle.fdp_core.proofs.UnitsMore.{units-placed}
+
+-- a page of another name is no page of this write
+other-page : (ticket index : ℕ) (name : PageName) → name ≢ written ticket index → is_page_of ticket index name ≡ false
+other-page ticket index (found spot) ne = refl
+other-page ticket index (written t i) ne =
+    ⊎_elim
+    (λ (e : ticket ≡ t). ⊎_elim
+    (λ (f : index ≡ i). absurd (ne (ap (λ (x : ℕ). written x i) (sym e) ∙ ap (λ (x : ℕ). written ticket x) (sym f))))
+    (λ (n : index ≢ i). rw (eq-eqb ticket t e, ne_eqb index i n) refl)
+    (cases_eq index i))
+    (λ (n : ticket ≢ t). rw (ne_eqb ticket t n) refl)
+    (cases_eq ticket t)
+
+own-page : (ticket index : ℕ) → is_page_of ticket index (written ticket index) ≡ true
+own-page ticket index = rw (eq-eqb ticket ticket refl, eq-eqb index index refl) refl
+
+-- ---- the going writes
+
+holds-here : (s : PlainState) (ticket queue : ℕ) (g : Going) → s.going queue ≡ Some g → g.ticket ≡ ticket → holds_ticket s ticket queue ≡ true
+holds-here s ticket queue g e same = ap (λ (o : Option Going). option_map_or (λ (x : Going). x.ticket == ticket) o false) e ∙ eq-eqb g.ticket ticket same
+
+holds-none : (s : PlainState) (ticket queue : ℕ) → ((g : Going) → s.going queue ≡ Some g → g.ticket ≢ ticket) → holds_ticket s ticket queue ≡ false
+holds-none s ticket queue other =
+    (elim (s.going queue) as (λ o. s.going queue ≡ o → option_map_or (λ (x : Going). x.ticket == ticket) o false ≡ false) [ None ↦ (λ e. refl) | Some g ↦ (λ e. ne_eqb g.ticket ticket (other g e)) ]) refl
+
+going-placed : (c : DriveConfig) (s : PlainState) (queue : ℕ) (g : Going) → IsOrderlyState c s → s.going queue ≡ Some g → (q : ℕ) → placed_going s g.ticket q ≡ with_at s.going queue (Some (one_more_placed g)) q
+going-placed c s queue g h e q =
+    ⊎_elim
+    (λ (same : q ≡ queue).
+    let there : s.going q ≡ Some g = ap s.going same ∙ e in
+    ap (λ (b : Bool). cond b (option_map one_more_placed (s.going q)) (s.going q)) (holds-here s g.ticket q g there refl)
+    ∙ ap (option_map one_more_placed) there
+    ∙ sym (ap (λ (b : Bool). cond b (Some (one_more_placed g)) (s.going q)) (eq-eqb q queue same)))
+    (λ (ne : q ≢ queue).
+    ap (λ (b : Bool). cond b (option_map one_more_placed (s.going q)) (s.going q)) (holds-none s g.ticket q (λ x is same. ne (h.tickets q queue x g is e same)))
+    ∙ sym (ap (λ (b : Bool). cond b (Some (one_more_placed g)) (s.going q)) (ne_eqb q queue ne)))
+    (cases_eq q queue)
+
+-- a command that is a write has what it puts where
+write-is : (o : Option Write) → IsTrue (is_some o) → (w : Write) × (o ≡ Some w)
+write-is None h = absurd cc
+write-is (Some w) h = (w, refl)
+
+-- ---- what is placed
+
+-- what a page that is placed for the flight in a queue makes of the point and the cells
+record IsPlacedFor (c : DriveConfig) (p q : Point) (cells new : List Cell) (queue index : ℕ) (f : Flight) (spot : Spot) (w : Write) : Type 0 where
+  pub grown : IsGrown p q cells new (written f.ticket index)
+  pub cells_are : new ≡ slice_set cells (page_number (geometry_of c) spot) (next_page c p.state (going_of f) w)
+  pub blocks : q.state.blocks ≡ p.state.blocks
+  pub references : q.state.references ≡ with_reference p.state.references f.rg f.ruh (one_less c spot.unit (p.state.references f.rg f.ruh))
+  pub going : (k : ℕ) → q.state.going k ≡ with_at p.state.going queue (Some (one_more_placed (going_of f))) k
+  pub site : q.trail.site (written f.ticket index) ≡ Some spot
+
+placed-for : (c : DriveConfig) (p : Point) (cells : List Cell) (queue index : ℕ) (f : Flight) (spot : Spot) (w : Write) → IsOrderlyState c p.state → 1 ≤ queue → queue ≤ c.queues → p.state.going queue ≡ Some (going_of f) → write_of f.room.command ≡ Some w → slice_get cells (page_number (geometry_of c) spot) ≡ Some Blank →
+    IsPlacedFor c p (next c p (entries.Placed f.ticket index spot.unit spot.page)) cells (cells_after c p.state cells (entries.Placed f.ticket index spot.unit spot.page)) queue index f spot w
+unfolding next after changed_by traced_by
+placed-for c p cells queue index f spot w orderly low high going write blank =
+    let s : PlainState = p.state in
+    let g : Going = going_of f in
+    let n : ℕ = page_number (geometry_of c) spot in
+    let is : going_with c s f.ticket ≡ Some g = going_with-is c s queue f.ticket g orderly low high going refl in
+    let new_is : with_page c s cells spot (going_with c s f.ticket) ≡ slice_set cells n (next_page c s g w) =
+    ap (with_page c s cells spot) is ∙ ap (λ (o : Option Write). option_map_or (λ (page : Cell). slice_set cells n page) (option_map (next_page c s g) o) cells) write in
+    record {
+      grown = record {
+        enabled = refl;
+        index = refl;
+        generation = refl;
+        namespaces = refl;
+        is_lost = refl;
+        is_worn = refl;
+        site = λ name ne. ap (λ (b : Bool). cond b (Some spot) (p.trail.site name)) (other-page f.ticket index name ne);
+        whole = λ k spare bytes e.
+            let apart : k ≢ n = λ same. let clash : Some (Whole spare bytes) ≡ Some Blank = sym e ∙ ap (slice_get cells) same ∙ blank in absurd cc in
+            ap (λ (xs : List Cell). slice_get xs k) new_is ∙ slice_get-set_other cells n k (next_page c s g w) apart ∙ e;
+      };
+      cells_are = new_is;
+      blocks = refl;
+      references = ap (placed_references c s.references spot.unit) is;
+      going = going-placed c s queue g orderly going;
+      site = ap (λ (b : Bool). cond b (Some spot) (p.trail.site (written f.ticket index))) (own-page f.ticket index);
+    }
+
+-- the pages of the going writes are other ones
+pages-other : (c : DriveConfig) (p : Point) (cells : List Cell) (flights : List (Option Flight)) (queue : ℕ) (f : Flight) → IsOrderlyState c p.state → AreFlightsOf c p cells flights → flight_in flights queue ≡ Some f → (k : ℕ) (x : Flight) → flight_in flights k ≡ Some x → (index : ℕ) (spot : Spot) → slice_get x.pages.items index ≡ Some spot → written x.ticket index ≢ written f.ticket (length f.pages.items)
+pages-other c p cells flights queue f orderly h there k x is index spot e same =
+    let tickets : x.ticket ≡ f.ticket = cc in
+    let indexes : index ≡ length f.pages.items = cc in
+    let mine : p.state.going queue ≡ Some (going_of f) = h.going queue ∙ ap (option_map going_of) there in
+    let its : p.state.going k ≡ Some (going_of x) = h.going k ∙ ap (option_map going_of) is in
+    let queues : k ≡ queue = orderly.tickets k queue (going_of x) (going_of f) its mine tickets in
+    let one : Some x ≡ Some f = sym is ∙ ap (flight_in flights) queues ∙ there in
+    let flights_same : x ≡ f = cc in
+    let within : index < length x.pages.items = slice_get_within x.pages.items index spot e in
+    let shorter : index < length f.pages.items = subst (λ (y : Flight). index < length y.pages.items) flights_same within in
+    absurd (omega (arith, shorter, indexes))
+
+-- the page that was placed last is whole, with its block
+last-page : (c : DriveConfig) (p q : Point) (cells new : List Cell) (queue : ℕ) (f : Flight) (spot : Spot) (w : Write) → IsPlacedFor c p q cells new queue (length f.pages.items) f spot w → write_of f.room.command ≡ Some w → slice_get cells (page_number (geometry_of c) spot) ≡ Some Blank → IsPage c spot → IsPageBy c q new (going_of f) (length f.pages.items) spot
+last-page c p q cells new queue f spot w h write blank page = record {
+  site = h.site;
+  page = page;
+  whole = λ v is there.
+      let n : ℕ = page_number (geometry_of c) spot in
+      let same : Some w ≡ Some v = sym write ∙ is in
+      let one : w ≡ v = cc in
+      let before : slice_get new n ≡ Some (next_page c p.state (going_of f) w) =
+      ap (λ (xs : List Cell). slice_get xs n) h.cells_are ∙ slice_get-set_same cells n (next_page c p.state (going_of f) w) (slice_get_within cells n Blank blank) in
+      subst (λ (generation : ℕ). slice_get new n ≡ Some (Whole (data_spare (record { ruh = f.ruh; rg = f.rg; generation = generation; ticket = f.ticket; nsid = v.nsid; index = length f.pages.items; lba = v.slba + length f.pages.items })) (payload_block c.block v.payload (length f.pages.items))))
+      (sym h.grown.generation) (before ∙ ap (λ (y : Write). Some (next_page c p.state (going_of f) y)) one);
+}
+
+flights-placed : (c : DriveConfig) (p q : Point) (cells new : List Cell) (flights : List (Option Flight)) (queue : ℕ) (f more : Flight) (spot : Spot) (w : Write) → IsOrderlyState c p.state → queue < length flights → IsPlacedFor c p q cells new queue (length f.pages.items) f spot w → write_of f.room.command ≡ Some w → slice_get cells (page_number (geometry_of c) spot) ≡ Some Blank → IsPage c spot → flight_in flights queue ≡ Some f → IsPageMore f spot more → AreFlightsOf c p cells flights → AreFlightsOf c q new (slice_set flights queue (Some more))
+flights-placed c p q cells new flights queue f more spot w orderly within h write blank page there grown flights_are =
+    let other = pages-other c p cells flights queue f orderly flights_are there in
+    let fresh_one : IsFlightOf c q new more = flight-more c p q cells new (written f.ticket (length f.pages.items)) f more spot h.grown (other queue f there) grown (last-page c p q cells new queue f spot w h write blank page) (flights_are.flown queue f there) in
+    record {
+      rows = length-set flights queue (Some more) ∙ flights_are.rows;
+      going = λ k. h.going k ∙ going-set p.state.going flights queue (Some (one_more_placed (going_of f))) (Some more) within (ap (λ (g : Going). Some g) (sym grown.going_is)) flights_are.going k;
+      flown = flown-set (IsFlightOf c q new) flights queue (Some more) within
+          (λ x e. let one : more ≡ x = cc in subst (IsFlightOf c q new) one fresh_one)
+          (λ k x e. flight-grown c p q cells new (written f.ticket (length f.pages.items)) x h.grown (other k x e) (flights_are.flown k x e));
+    }
+
+handles-placed : (c : DriveConfig) (s t : PlainState) (handles new : HandleTable) (rg ruh unit : ℕ) → new.unit_pages ≡ handles.unit_pages → new.groups ≡ handles.groups → reference_at new ≡ with_reference (reference_at handles) rg ruh (one_less c unit (reference_at handles rg ruh)) → t.references ≡ with_reference s.references rg ruh (one_less c unit (s.references rg ruh)) → AreHandlesOf c s handles → AreHandlesOf c t new
+handles-placed c s t handles new rg ruh unit pages groups is after_is h =
+    let same : s.references ≡ reference_at handles = λ d r k. h.references r k d in
+    let all : t.references ≡ reference_at new = after_is ∙ ap (λ (refs : References). with_reference refs rg ruh (one_less c unit (refs rg ruh))) same ∙ sym is in
+    record {
+      unit_pages = h.unit_pages ∙ sym pages;
+      groups = h.groups ∙ sym groups;
+      references = λ r k. ap (λ (refs : References). refs r k) all;
+    }
+
+-- the tables with a page more of the flight in a queue
+pub record IsTablesMore (c : DriveConfig) (sums more_sums : Sums) (handles more_handles : HandleTable) (flights more_flights : List (Option Flight)) (used more_used : List ℕ) (queue : ℕ) (g : Going) (f more : Flight) (spot : Spot) (o : Option ℕ) : Type 0 where
+  pub host_blocks : more_sums.host_blocks ≡ sums.host_blocks
+  pub media_blocks : more_sums.media_blocks ≡ sums.media_blocks + 1
+  pub unit_pages : more_handles.unit_pages ≡ handles.unit_pages
+  pub groups : more_handles.groups ≡ handles.groups
+  pub references : reference_at more_handles ≡ with_reference (reference_at handles) g.rg g.ruh (one_less c spot.unit (reference_at handles g.rg g.ruh))
+  pub flights_are : more_flights ≡ slice_set flights queue (Some more)
+  pub flight : IsPageMore f spot more
+  pub unit : o ≡ (reference_at handles g.rg g.ruh).unit
+  pub used_are : more_used ≡ used_after used g.rg o
+
+placed-is : (c : DriveConfig) (p : Point) (ticket index unit page : ℕ) → ((told : Bool) → Follows told c p (entries.Placed ticket index unit page)) → IsPlaced c p ticket index unit page
+unfolding Follows
+placed-is c p ticket index unit page h = h true
+
+-- the cells after an entry more
+cells-more : (c : DriveConfig) (es : List Entry) (e : Entry) → cells_after c (point_of c (fresh c) es).state (cells_of c es) e ≡ cells_of c (es ++ e ∷ [])
+unfolding point_of
+cells-more c es e = sym (cells_of-push c es e)
+
+held-placed : (c : DriveConfig) (es : List Entry) (setting : Setting) (sums more_sums : Sums) (spaces : SpaceTable) (handles more_handles : HandleTable) (map : MapTable) (flights more_flights : List (Option Flight)) (used more_used : List ℕ) (queue : ℕ) (f more : Flight) (spot : Spot) (o : Option ℕ) →
+    IsHeld c es setting sums spaces handles map flights used → flight_in flights queue ≡ Some f →
+    ((told : Bool) → Follows told c (point_of c (fresh c) es) (entries.Placed f.ticket (length f.pages.items) spot.unit spot.page)) →
+    IsBlankFrom (geometry_of c) (cells_of c es) spot → (o ≡ None → spot.unit ≡ f.rg * c.units + slice_index used f.rg) →
+    IsTablesMore c sums more_sums handles more_handles flights more_flights used more_used queue (going_of f) f more spot o →
+    IsHeld c (es ++ entries.Placed f.ticket (length f.pages.items) spot.unit spot.page ∷ []) setting more_sums spaces more_handles map more_flights more_used
+held-placed c es setting sums more_sums spaces handles more_handles map flights more_flights used more_used queue f more spot o h there follows blank first tables =
+    let index : ℕ = length f.pages.items in
+    let e : Entry = entries.Placed f.ticket index spot.unit spot.page in
+    let p : Point = point_of c (fresh c) es in
+    let q : Point = next c p e in
+    let cells : List Cell = cells_of c es in
+    let new : List Cell = cells_after c p.state cells e in
+    let going : p.state.going queue ≡ Some (going_of f) = h.flights_are.going queue ∙ ap (option_map going_of) there in
+    let write_going = h.orderly.state.writes queue (going_of f) going in
+    let within : queue < length flights = omega (arith, write_going.queue_is.1, h.flights_are.rows) in
+    let write = write-is (write_of f.room.command) write_going.write in
+    let step : IsPlaced c p f.ticket index spot.unit spot.page = placed-is c p f.ticket index spot.unit spot.page follows in
+    let same : step.queue ≡ queue = h.orderly.state.tickets step.queue queue step.going (going_of f) step.going_is going step.same in
+    let one : Some step.going ≡ Some (going_of f) = sym step.going_is ∙ ap p.state.going same ∙ going in
+    let is : step.going ≡ going_of f = cc in
+    let group : group_of c spot.unit ≡ f.rg = step.group ∙ ap (λ (g : Going). g.rg) is in
+    let place : IsNextPage c p.state (p.state.references f.rg f.ruh) spot.unit spot.page = subst (λ (g : Going). IsNextPage c p.state (p.state.references g.rg g.ruh) spot.unit spot.page) is step.place in
+    let empty : slice_get cells (page_number (geometry_of c) spot) ≡ Some Blank = blank.blank spot.page (omega arith) step.spot.1 in
+    let placed : IsPlacedFor c p q cells new queue index f spot write.0 = placed-for c p cells queue index f spot write.0 h.orderly.state write_going.queue_is.0 write_going.queue_is.1 going write.1 empty in
+    let unit_is : o ≡ (p.state.references f.rg f.ruh).unit = tables.unit ∙ sym (ap (λ (x : Reference). x.unit) (h.handles_are.references f.rg f.ruh)) in
+    let units : AreUnitsOf c (es ++ e ∷ []) q.state (slice_set cells (page_number (geometry_of c) spot) (next_page c p.state (going_of f) write.0)) (used_after used f.rg (p.state.references f.rg f.ruh).unit) =
+    units-placed c es p.state q.state cells used f.ticket index f.rg f.ruh spot (next_page c p.state (going_of f) write.0) h.orderly.state h.units_are h.config.ranges.units.0 write_going.group group step.spot.1 place (λ none. first (unit_is ∙ none)) blank placed.references in
+    let units_now : AreUnitsOf c (es ++ e ∷ []) q.state new more_used =
+    subst (λ (xs : List Cell). AreUnitsOf c (es ++ e ∷ []) q.state xs more_used) (sym placed.cells_are)
+    (subst (λ (ys : List ℕ). AreUnitsOf c (es ++ e ∷ []) q.state (slice_set cells (page_number (geometry_of c) spot) (next_page c p.state (going_of f) write.0)) ys) (ap (used_after used f.rg) (sym unit_is) ∙ sym tables.used_are) units) in
+    let flights_now : AreFlightsOf c q new (slice_set flights queue (Some more)) = flights-placed c p q cells new flights queue f more spot write.0 h.orderly.state within placed write.1 empty step.spot there tables.flight h.flights_are in
+    let not_its : (nsid lba : ℕ) (b : Block) → p.state.blocks nsid lba ≡ Some b → b.page ≢ written f.ticket index = λ nsid lba b e same_page.
+    (h.standing.blocks nsid lba b e).ended f.ticket index queue (going_of f) same_page going refl in
+    held-at c (es ++ e ∷ []) q new setting more_sums spaces more_handles map more_flights more_used (sym (point_of-push c (fresh c) es e)) (cells-more c es e)
+    (record {
+      config = h.config;
+      orderly = orderly-next true c p e h.config h.orderly (follows true);
+      standing = standing-next true c p e h.orderly h.standing (follows true);
+      setting_is = setting-grown p q cells new (written f.ticket index) setting placed.grown h.setting_is;
+      sums_are = are_sums-push es e sums more_sums h.sums_are (omega arith) (omega arith) refl (omega (arith, tables.host_blocks)) tables.media_blocks;
+      all_units = all_units-grown p q cells new (written f.ticket index) placed.grown h.all_units;
+      spaces_are = spaces-grown c p q cells new (written f.ticket index) spaces placed.grown h.spaces_are;
+      handles_are = handles-placed c p.state q.state handles more_handles f.rg f.ruh spot.unit tables.unit_pages tables.groups tables.references placed.references h.handles_are;
+      map_is = map-grown c p q cells new (written f.ticket index) map placed.grown placed.blocks not_its h.map_is;
+      flights_are = subst (λ (fs : List (Option Flight)). AreFlightsOf c q new fs) (sym tables.flights_are) flights_now;
+      units_are = units_now;
+    })
+
+-- the tables after a page more of the flight in a queue
+pub held_placed : (c : DriveConfig) (es longer : List Entry) (setting : Setting) (sums more_sums : Sums) (spaces : SpaceTable) (handles more_handles : HandleTable) (map : MapTable) (flights more_flights : List (Option Flight)) (used more_used : List ℕ) (queue : ℕ) (f more : Flight) (spot : Spot) (o : Option ℕ) →
+    IsHeld c es setting sums spaces handles map flights used → flight_in flights queue ≡ Some f →
+    ((told : Bool) → Follows told c (point_of c (fresh c) es) (entries.Placed f.ticket (length f.pages.items) spot.unit spot.page)) →
+    IsBlankFrom (geometry_of c) (cells_of c es) spot → (o ≡ None → spot.unit ≡ f.rg * c.units + slice_index used f.rg) →
+    IsTablesMore c sums more_sums handles more_handles flights more_flights used more_used queue (going_of f) f more spot o →
+    longer ≡ es ++ entries.Placed f.ticket (length f.pages.items) spot.unit spot.page ∷ [] →
+    IsHeld c longer setting more_sums spaces more_handles map more_flights more_used
+held_placed c es longer setting sums more_sums spaces handles more_handles map flights more_flights used more_used queue f more spot o h there follows blank first tables is =
+    subst (λ (xs : List Entry). IsHeld c xs setting more_sums spaces more_handles map more_flights more_used) (sym is)
+    (held-placed c es setting sums more_sums spaces handles more_handles map flights more_flights used more_used queue f more spot o h there follows blank first tables)

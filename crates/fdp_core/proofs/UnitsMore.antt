@@ -1,0 +1,217 @@
+-- The units that are used once a page more is placed.
+use Rattle.std.proofs.Common.{◌≡◌, ◌≢◌, ◌⊎◌, inl, inr, ⊎_elim, ℕ, zero, suc, ◌+◌, ◌-◌, ◌*◌, ◌%◌, ◌<◌, ◌≤◌, Bool, true, false, List, [], ◌∷◌, ◌++◌, length, set, slice_get, slice_index, slice_set, Option, Some, None, refl, sym, ◌∙◌, ap, subst, arith, cond, eq-eqb, ne_eqb}
+use Rattle.std.specs.Prelude.{◌==◌, ◌||◌, IsTrue, IsFalse, MatchOption, nat_lt, if◌then◌else◌}
+use Rattle.std.specs.List.{list_any}
+use Rattle.std.proofs.Math.ListN.{length-set}
+use Rattle.std.proofs.lemmas.Bool.{cases_eq, ltb-true}
+use Rattle.std.proofs.lemmas.Bool.Decides.{nat_tests}
+use Rattle.std.proofs.lemmas.Grind.{common_steps}
+use Rattle.std.proofs.lemmas.List.Folds.{list_any-append}
+use Rattle.std.proofs.lemmas.Nat.{mod_below, same_from_place}
+use Rattle.std.proofs.lemmas.Option.{gets}
+use Rattle.fdp_base.specs.declared.config.DriveConfig.{DriveConfig}
+use Rattle.fdp_base.specs.declared.entry.Entry.{Entry}
+use Rattle.fdp_base.specs.declared.entry.Entry.TheVariants as entries
+use Rattle.fdp_base.specs.declared.entry.Spot.{Spot}
+use Rattle.fdp_base.specs.Change.{one_less}
+use Rattle.fdp_base.specs.Effect.{References, no_reference, with_reference}
+use Rattle.fdp_base.specs.Placement.{geometry_of}
+use Rattle.fdp_base.specs.PlainState.{PlainState, Reference}
+use Rattle.fdp_base.specs.Sites.{group_of}
+use Rattle.fdp_base.specs.Step.{IsNextPage, IsUnreferenced}
+use Rattle.fdp_flash.proofs.Lists.{slice_get-set_other}
+use Rattle.fdp_flash.specs.declared.cell.Cell.{Cell}
+use Rattle.fdp_flash.specs.declared.cell.Cell.TheVariants.{Blank}
+use Rattle.fdp_flash.specs.Cells.{IsBlankFrom}
+use Rattle.fdp_flash.specs.Layout.{first_page, page_number}
+use Rattle.fdp_history.proofs.References.{one_less-unit}
+use Rattle.fdp_history.specs.OrderlyState.{IsOrderlyState}
+use Rattle.fdp_core.specs.Flown.{used_after}
+use Rattle.fdp_core.specs.Held.{AreUnitsOf, IsUnused}
+use Rattle.fdp_core.specs.UsedOnce.{is_placed_in, is_used}
+use Rattle.fdp_core.proofs.Units.{unit-parts}
+
+-- a reference is the one that was put there, or the one of another handle that stood there
+read-reference : (references : References) (rg ruh : ℕ) (x : Reference) (i k : ℕ) → ((i ≡ rg) × (k ≡ ruh) × (with_reference references rg ruh x i k ≡ x)) ⊎ (((i ≡ rg) → (k ≡ ruh) → ⊥) × (with_reference references rg ruh x i k ≡ references i k))
+read-reference references rg ruh x i k =
+    ⊎_elim
+    (λ (e : i ≡ rg). ⊎_elim
+    (λ (f : k ≡ ruh). inl (e, f, rw (eq-eqb i rg e, eq-eqb k ruh f) refl))
+    (λ (ne : k ≢ ruh). inr ((λ a b. ne b), rw (eq-eqb i rg e, ne_eqb k ruh ne, e) refl))
+    (cases_eq k ruh))
+    (λ (ne : i ≢ rg). inr ((λ a b. ne a), rw (ne_eqb i rg ne) refl))
+    (cases_eq i rg)
+
+-- no other handle references the unit in which the next page of a handle goes
+alone : (c : DriveConfig) (s : PlainState) (rg ruh unit page : ℕ) → IsNextPage c s (s.references rg ruh) unit page → IsOrderlyState c s → (i k : ℕ) → (s.references i k).unit ≡ Some unit → (i ≡ rg) × (k ≡ ruh)
+alone c s rg ruh unit page place h i k e =
+    let P : Option ℕ → Type 0 = λ o. (s.references rg ruh).unit ≡ o → MatchOption o (IsUnreferenced s unit × (page ≡ 0)) (λ (v : ℕ). (unit ≡ v) × (page + (s.references rg ruh).left ≡ c.unit_pages)) → (i ≡ rg) × (k ≡ ruh) in
+    elim (s.references rg ruh).unit as P [
+      | None ↦ λ none first. absurd (first.0 i k e)
+      | Some v ↦ λ some next. h.units i k rg ruh unit e (some ∙ ap (λ (n : ℕ). Some n) (sym next.0))
+    ] refl place
+
+-- behind the page of a handle so many are left of its unit
+page-left : (c : DriveConfig) (s : PlainState) (rg ruh unit page : ℕ) → IsNextPage c s (s.references rg ruh) unit page → IsOrderlyState c s → page + (s.references rg ruh).left ≡ c.unit_pages
+page-left c s rg ruh unit page place h =
+    let P : Option ℕ → Type 0 = λ o. (s.references rg ruh).unit ≡ o → MatchOption o (IsUnreferenced s unit × (page ≡ 0)) (λ (v : ℕ). (unit ≡ v) × (page + (s.references rg ruh).left ≡ c.unit_pages)) → page + (s.references rg ruh).left ≡ c.unit_pages in
+    elim (s.references rg ruh).unit as P [
+      | None ↦ λ none first. omega (arith, first.1, (h.references rg ruh).whole none)
+      | Some v ↦ λ some next. next.1
+    ] refl place
+
+-- ---- the list of the units that were used
+
+-- which units are used: those that were, and this one
+record IsUsedMore (c : DriveConfig) (used new : List ℕ) (unit : ℕ) : Type 0 where
+  pub groups : length new ≡ length used
+  pub most : (rg : ℕ) → rg < c.groups → slice_index new rg ≤ c.units
+  pub used_are : (rg i : ℕ) → rg < c.groups → i < slice_index new rg → (i < slice_index used rg) ⊎ (rg * c.units + i ≡ unit)
+  pub unused_are : (rg i : ℕ) → rg < c.groups → slice_index new rg ≤ i → i < c.units → (slice_index used rg ≤ i) × (rg * c.units + i ≢ unit)
+
+index-same : (xs : List ℕ) (place x : ℕ) → place < length xs → slice_index (slice_set xs place x) place ≡ x
+index-same [] place x there = absurd (omega (arith, there))
+index-same (y ∷ ys) zero x there = refl
+index-same (y ∷ ys) (suc place) x there = index-same ys place x (omega (arith, there))
+
+index-other : (xs : List ℕ) (place x i : ℕ) → i ≢ place → slice_index (slice_set xs place x) i ≡ slice_index xs i
+index-other [] place x i ne = refl
+index-other (y ∷ ys) zero x zero ne = absurd (ne refl)
+index-other (y ∷ ys) zero x (suc i) ne = refl
+index-other (y ∷ ys) (suc place) x zero ne = refl
+index-other (y ∷ ys) (suc place) x (suc i) ne = index-other ys place x i (λ e. ne (ap suc e))
+
+-- a handle without a unit takes the first of its group that was not used
+taken-more : (c : DriveConfig) (es : List Entry) (s : PlainState) (cells : List Cell) (used : List ℕ) (rg unit : ℕ) → AreUnitsOf c es s cells used → rg < c.groups → slice_index used rg < c.units → unit ≡ rg * c.units + slice_index used rg → IsUsedMore c used (slice_set used rg (slice_index used rg + 1)) unit
+taken-more c es s cells used rg unit h group room is =
+    let n : ℕ = slice_index used rg in
+    let there : rg < length used = omega (arith, group, h.groups) in
+    let here : (r : ℕ) → r ≡ rg → slice_index (slice_set used rg (n + 1)) r ≡ n + 1 = λ r e. ap (slice_index (slice_set used rg (n + 1))) e ∙ index-same used rg (n + 1) there in
+    let else_where : (r : ℕ) → r ≢ rg → slice_index (slice_set used rg (n + 1)) r ≡ slice_index used r = λ r ne. index-other used rg (n + 1) r ne in
+    record {
+      groups = length-set used rg (n + 1);
+      most = λ r below. ⊎_elim (λ (e : r ≡ rg). omega (arith, here r e, room)) (λ (ne : r ≢ rg). omega (arith, else_where r ne, h.most r below)) (cases_eq r rg);
+      used_are = λ r i below within.
+          ⊎_elim
+          (λ (e : r ≡ rg). ⊎_elim
+          (λ (last : i ≡ n). inr (ap (λ (k : ℕ). k * c.units + i) e ∙ ap (λ (k : ℕ). rg * c.units + k) last ∙ sym is))
+          (λ (ne : i ≢ n). inl (let before : i < n = omega (arith, here r e, within, ne) in subst (λ (k : ℕ). i < slice_index used k) (sym e) before))
+          (cases_eq i n))
+          (λ (ne : r ≢ rg). inl (omega (arith, else_where r ne, within)))
+          (cases_eq r rg);
+      unused_are = λ r i below above within.
+          ⊎_elim
+          (λ (e : r ≡ rg).
+          let past : n < i = omega (arith, here r e, above) in
+          (subst (λ (k : ℕ). slice_index used k ≤ i) (sym e) (omega (arith, past)),
+              λ same. let parts = same_from_place r i rg n c.units within room (same ∙ is) in absurd (omega (arith, parts.1, past))))
+          (λ (ne : r ≢ rg). (omega (arith, else_where r ne, above),
+              λ same. let parts = same_from_place r i rg n c.units within room (same ∙ is) in ne parts.0))
+          (cases_eq r rg);
+    }
+
+-- a handle with a unit goes on in it
+kept-more : (c : DriveConfig) (es : List Entry) (s : PlainState) (cells : List Cell) (used : List ℕ) (rg ruh unit : ℕ) → AreUnitsOf c es s cells used → (s.references rg ruh).unit ≡ Some unit → IsUsedMore c used used unit
+kept-more c es s cells used rg ruh unit h some = record {
+  groups = refl;
+  most = h.most;
+  used_are = λ r i below within. inl within;
+  unused_are = λ r i below above within.
+      (above, λ same. (h.unused_are r i below above within).unreferenced rg ruh (some ∙ ap (λ (n : ℕ). Some n) (sym same)));
+}
+
+-- where the next page of a handle goes is a unit more that is used, or one that was
+used-more : (c : DriveConfig) (es : List Entry) (s : PlainState) (cells : List Cell) (used : List ℕ) (rg ruh unit page : ℕ) (o : Option ℕ) → AreUnitsOf c es s cells used → 1 ≤ c.units → rg < c.groups → group_of c unit ≡ rg → (s.references rg ruh).unit ≡ o → IsNextPage c s (s.references rg ruh) unit page → (o ≡ None → unit ≡ rg * c.units + slice_index used rg) → IsUsedMore c used (used_after used rg o) unit
+used-more c es s cells used rg ruh unit page None h some group of_group is place first =
+    let u : unit ≡ rg * c.units + slice_index used rg = first refl in
+    let parts : unit ≡ rg * c.units + unit % c.units = unit-parts c unit rg some of_group in
+    let room : slice_index used rg < c.units = omega (arith, u, parts, mod_below unit c.units (omega (arith, some))) in
+    taken-more c es s cells used rg unit h group room u
+used-more c es s cells used rg ruh unit page (Some v) h some group of_group is place first =
+    let next : (unit ≡ v) × (page + (s.references rg ruh).left ≡ c.unit_pages) = subst (λ (o : Option ℕ). MatchOption o (IsUnreferenced s unit × (page ≡ 0)) (λ (w : ℕ). (unit ≡ w) × (page + (s.references rg ruh).left ≡ c.unit_pages))) is place in
+    kept-more c es s cells used rg ruh unit h (is ∙ ap (λ (n : ℕ). Some n) (sym next.0))
+
+-- ---- the units
+
+used-placed : (es : List Entry) (ticket index unit page u : ℕ) → is_used (es ++ entries.Placed ticket index unit page ∷ []) u ≡ (is_used es u || (unit == u))
+used-placed es ticket index unit page u = list_any-append (is_placed_in u) es (entries.Placed ticket index unit page ∷ []) ∙ ap (λ (b : Bool). is_used es u || b) (or-false (unit == u))
+  where
+    or-false : (b : Bool) → (b || false) ≡ b
+    or-false true = refl
+    or-false false = refl
+
+or-left : (a b : Bool) → a ≡ true → (a || b) ≡ true
+or-left true b e = refl
+or-left false b e = absurd cc
+
+or-right : (a b : Bool) → b ≡ true → (a || b) ≡ true
+or-right true b e = refl
+or-right false b e = e
+
+or-none : (a b : Bool) → a ≡ false → b ≡ false → (a || b) ≡ false
+or-none a b e f = rw (e, f) refl
+
+-- the pages behind a page that is placed stay blank
+one_less-left : (c : DriveConfig) (unit u : ℕ) (x : Reference) → (one_less c unit x).unit ≡ Some u → ((one_less c unit x).left ≡ x.left - 1) × (1 < x.left)
+one_less-left c unit u x e =
+    (elim (nat_lt 1 x.left) as (λ b. nat_lt 1 x.left ≡ b → (cond b (record { unit = Some unit; left = x.left - 1 }) (no_reference c)).unit ≡ Some u → ((cond b (record { unit = Some unit; left = x.left - 1 }) (no_reference c)).left ≡ x.left - 1) × (1 < x.left)) [ true ↦ (λ t some. (refl, ltb-true 1 x.left t)) | false ↦ (λ t none. absurd cc) ]) refl e
+
+-- the units after a page more
+pub units-placed : (c : DriveConfig) (es : List Entry) (s t : PlainState) (cells : List Cell) (used : List ℕ) (ticket index rg ruh : ℕ) (spot : Spot) (x : Cell) →
+    IsOrderlyState c s → AreUnitsOf c es s cells used → 1 ≤ c.units → rg < c.groups → group_of c spot.unit ≡ rg → spot.page < c.unit_pages →
+    IsNextPage c s (s.references rg ruh) spot.unit spot.page → ((s.references rg ruh).unit ≡ None → spot.unit ≡ rg * c.units + slice_index used rg) →
+    IsBlankFrom (geometry_of c) cells spot → t.references ≡ with_reference s.references rg ruh (one_less c spot.unit (s.references rg ruh)) →
+    AreUnitsOf c (es ++ entries.Placed ticket index spot.unit spot.page ∷ []) t (slice_set cells (page_number (geometry_of c) spot) x) (used_after used rg (s.references rg ruh).unit)
+units-placed c es s t cells used ticket index rg ruh spot x orderly h some group of_group below place first blank referenced =
+    let unit : ℕ = spot.unit in
+    let y : Reference = s.references rg ruh in
+    let new : List Cell = slice_set cells (page_number (geometry_of c) spot) x in
+    let more : IsUsedMore c used (used_after used rg y.unit) unit = used-more c es s cells used rg ruh unit spot.page y.unit h some group of_group refl place first in
+    let left = page-left c s rg ruh unit spot.page place orderly in
+    let other : (u page : ℕ) → page < c.unit_pages → (u ≡ unit → page ≢ spot.page) → slice_get new (first_page (geometry_of c) u + page) ≡ slice_get cells (first_page (geometry_of c) u + page) = λ u page within differs.
+    slice_get-set_other cells (page_number (geometry_of c) spot) (first_page (geometry_of c) u + page) x
+    (λ same. let parts = same_from_place u page unit spot.page c.unit_pages within below same in differs parts.0 parts.1) in
+    let reference : (r k : ℕ) → t.references r k ≡ with_reference s.references rg ruh (one_less c unit y) r k = λ r k. ap (λ (f : References). f r k) referenced in
+    record {
+      pages = length-set cells (page_number (geometry_of c) spot) x ∙ h.pages;
+      groups = more.groups ∙ h.groups;
+      most = more.most;
+      used_are = λ r i r_below within.
+          used-placed es ticket index unit spot.page (r * c.units + i)
+          ∙ ⊎_elim
+          (λ old. or-left (is_used es (r * c.units + i)) (unit == r * c.units + i) (h.used_are r i r_below old))
+          (λ same. or-right (is_used es (r * c.units + i)) (unit == r * c.units + i) (eq-eqb unit (r * c.units + i) (sym same)))
+          (more.used_are r i r_below within);
+      unused_are = λ r i r_below above within.
+          let was = more.unused_are r i r_below above within in
+          let u : ℕ = r * c.units + i in
+          let unused : IsUnused c es s cells u = h.unused_are r i r_below was.0 within in
+          record {
+            unnamed = used-placed es ticket index unit spot.page u ∙ or-none (is_used es u) (unit == u) unused.unnamed (ne_eqb unit u (λ same. was.1 (sym same)));
+            unreferenced = λ j k e.
+                ⊎_elim
+                (λ here. was.1 (one_less-unit c unit u y (sym (ap (λ (z : Reference). z.unit) (reference j k ∙ here.2)) ∙ e)))
+                (λ there. unused.unreferenced j k (sym (ap (λ (z : Reference). z.unit) (reference j k ∙ there.1)) ∙ e))
+                (read-reference s.references rg ruh (one_less c unit y) j k);
+            blank = record { blank = λ page in_unit. other u page in_unit (λ same. absurd (was.1 same)) ∙ unused.blank.blank page in_unit };
+          };
+      blank = λ j k u e.
+          ⊎_elim
+          (λ here.
+          let is : t.references j k ≡ one_less c unit y = reference j k ∙ here.2 in
+          let some_is : (one_less c unit y).unit ≡ Some u = sym (ap (λ (z : Reference). z.unit) is) ∙ e in
+          let same : u ≡ unit = one_less-unit c unit u y some_is in
+          let less = one_less-left c unit u y some_is in
+          let left_is : (t.references j k).left ≡ y.left - 1 = ap (λ (z : Reference). z.left) is ∙ less.0 in
+          record { blank = λ page low high.
+              other u page high (λ _ at. absurd (omega (arith, at, low, left_is, less.1, left)))
+              ∙ subst (λ (v : ℕ). slice_get cells (first_page (geometry_of c) v + page) ≡ Some Blank) (sym same) (blank.blank page (omega (arith, low, left_is, less.1, left)) high) })
+          (λ there.
+          let is : t.references j k ≡ s.references j k = reference j k ∙ there.1 in
+          let was : (s.references j k).unit ≡ Some u = sym (ap (λ (z : Reference). z.unit) is) ∙ e in
+          let apart : u ≢ unit = λ same. let one = alone c s rg ruh unit spot.page place orderly j k (was ∙ ap (λ (n : ℕ). Some n) same) in there.0 one.0 one.1 in
+          let old = h.blank j k u was in
+          let left_is : (t.references j k).left ≡ (s.references j k).left = ap (λ (z : Reference). z.left) is in
+          record { blank = λ page low high. other u page high (λ same. absurd (apart same)) ∙ old.blank page (omega (arith, low, left_is)) high })
+          (read-reference s.references rg ruh (one_less c unit y) j k);
+    }

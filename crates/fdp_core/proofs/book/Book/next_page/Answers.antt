@@ -1,0 +1,19 @@
+use Rattle.std.proofs.Common.{◌≡◌, ◌∙◌, ◌<◌, IsTrue, Some, ap, arith, length, subst, sym}
+use Rattle.std.specs.Prelude.{option_map}
+use Rattle.fdp_base.specs.CommandKinds.{Write, write_of}
+use Rattle.fdp_base.specs.PlainState.{Going}
+use Rattle.fdp_base.specs.Sites.{is_there}
+use Rattle.fdp_base.specs.Totals.{blocks_written}
+use Rattle.fdp_core.specs.declared.flight.Flight.{Flight}
+use Rattle.fdp_core.specs.Book.{state_in}
+use Rattle.fdp_core.specs.Held.{going_of}
+use Rattle.fdp_core.specs.Tickets.{ComesTo}
+use Rattle.fdp_core.proofs.Nexts.{next-at, one-going}
+use Rattle.fdp_core.proofs.book.Book.next_page.Goals as goal
+
+pub returns-in-Some : goal.returns-in-Some
+returns-in-Some c g is =
+    let b = c.args.self.now in
+    let f : Flight = c.flight-flight.result.now in
+    let at = c.flight-flight.ensures in
+    next-at b c.args.ticket.now f g c.requires.going c.extent-extent.result c.in-Some.spot c.len.result c.next_spare.result c.encode.result at is c.requires.ticket_is c.requires.asked (sym c.is_there.ensures ∙ c.if-not-is_there.false) (c.in-Some.ensures) c.len.ensures.value c.extent-extent.ensures c.next_spare.ensures c.encode.ensures

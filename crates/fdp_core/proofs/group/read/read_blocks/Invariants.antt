@@ -1,0 +1,15 @@
+use Rattle.std.proofs.Common.{◌≡◌, ◌-◌, ◌*◌, IsTrue, length, take, drop, replicate}
+use Rattle.fdp_core.specs.Media.{IsReadFrom}
+use Rattle.fdp_core.specs.ReadSteps.{blocks_from}
+use Rattle.fdp_core.proofs.group.read.read_blocks.Given as goal
+
+-- the blocks so far were read, and the rest of the buffer is all zeros
+abbrev pub invariant-loop-index : goal.invariant-loop-index
+invariant-loop-index g l = record {
+  block : l.size ≡ l.book.config.block;
+  read : IsReadFrom (g.F.Flash.state l.fn.flash) (g.F.Flash.state l.flash);
+  faults : (g.F.Flash.state l.flash).faults ≡ (g.F.Flash.state l.fn.flash).faults;
+  size : length l.into ≡ l.extent.count * l.book.config.block;
+  done : IsTrue (g.F.Flash.state l.fn.flash).told → take (l.index * l.book.config.block) l.into ≡ blocks_from l.book l.extent.nsid l.extent.slba l.index;
+  rest : drop (l.index * l.book.config.block) l.into ≡ replicate ((l.extent.count - l.index) * l.book.config.block) 0;
+}
