@@ -1,0 +1,91 @@
+use crate::drive_top;
+use fdp_io::{BenchMem, SinkMem};
+use std::alloc::{AllocError, Global};
+use std::test::Fail;
+
+mod calls;
+mod configurations;
+mod drives;
+mod lines;
+mod texts;
+mod words;
+
+/// What is asked for, the configuration of the name `c` and the trace of the name `t`, the bench's and the sink's calls that
+/// fail, and the room of the sink.
+#[derive(Drop)]
+struct Run<'a> {
+    words: &'a [&'a str],
+    config: &'a [u8],
+    trace: &'a [u8],
+    bench_fails: Option<u64>,
+    sink_fails: Option<u64>,
+    room: usize,
+}
+
+const RUN: [&str; 4] = ["run", "c", "blank", "t"];
+
+/// Room for every output of these tests.
+const AMPLE: usize = 1 << 20;
+
+/// The drive of `examples/drive-s.toml`.
+const DRIVE_S: &[u8] = b"\
+    block = 512\n\
+    unit_pages = 8\n\
+    groups = 1\n\
+    units = 12\n\
+    area_units = 4\n\
+    queues = 1\n\
+    blocks_per_command = 4\n\
+    fdp = [[\"initial\"]]\n\
+    enabled = true\n\
+    index = 0\n\
+    queue_depth = 64\n\
+    collectors = 0\n\
+    turns = 0\n\
+    namespaces = [{ blocks = 52, handles = [0] }]\n\
+";
+
+/// A run of a trace on a drive, in which no call fails.
+fn run_of<'a>(config: &'a [u8], trace: &'a [u8]) -> Run<'a> {
+    Run {
+        words: &RUN,
+        config,
+        trace,
+        bench_fails: None,
+        sink_fails: None,
+        room: AMPLE,
+    }
+}
+
+fn failing(alloc: Global, call: Option<u64>) -> Result<Vec<u64>, AllocError> {
+    let mut calls = Vec::new(alloc);
+    if let Some(call) = call {
+        calls.push(call)?;
+    }
+    Ok(calls)
+}
+
+/// The status of a run, and what its sink then holds.
+fn outcome(alloc: Global, run: &Run) -> Result<(u8, Vec<u8>), AllocError> {
+    let mut words = Vec::new(alloc);
+    for word in run.words {
+        words.push(String::from_str(alloc, word)?)?;
+    }
+    let mut bench = BenchMem::new(alloc, failing(alloc, run.bench_fails)?);
+    bench.add(alloc, "c", run.config)?;
+    bench.add(alloc, "t", run.trace)?;
+    let mut sink = SinkMem::new(alloc, run.room, failing(alloc, run.sink_fails)?)?;
+    let status = drive_top(alloc, &words, &mut bench, &mut sink);
+    Ok((status, Vec::from_slice(alloc, sink.bytes())?))
+}
+
+/// Whether a run ends with a status, and its sink then holds a text.
+fn ends(alloc: Global, run: &Run, status: u8, output: &[u8]) -> Result<bool, AllocError> {
+    let (ended, held) = outcome(alloc, run)?;
+    Ok(ended == status && held.as_slice() == output)
+}
+
+/// Whether a trace on drive S ends with a status and an output.
+fn serves(alloc: Global, trace: &[u8], status: u8, output: &[u8]) -> Result<bool, AllocError> {
+    ends(alloc, &run_of(DRIVE_S, trace), status, output)
+}
