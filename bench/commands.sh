@@ -1,23 +1,37 @@
 #!/bin/sh
-# Measures a run of 8,192 commands on the fixed drive: 64 writes, and reads of what they wrote. Prints commands per
-# second, the start of the program, the reading of the trace and the printing included.
+# Measures runs of 8,192 commands: on drive S 64 writes of a block, and reads of what they wrote; on the large drive 4,096
+# writes of a block, and reads of what they wrote. Prints commands per second, the start of the program, the reading of the
+# texts, the making of the drive and the printing included.
 # Usage: bench/commands.sh [RUNS]: the best of so many runs, 5 if not given.
 set -eu
 runs=${1:-5}
 top=$(cd "$(dirname "$0")/.." && pwd)
 work=$(mktemp -d)
 trap 'rm -rf "$work"' EXIT
-awk 'BEGIN {
-    for (i = 0; i < 64; i++) printf "write 1 %d 1 %d\n", i % 16, i
-    for (i = 64; i < 8192; i++) printf "read 1 %d 1\n", i % 16
-}' > "$work/trace"
-"$top/fdpdrive" run fixed blank "$work/trace" > "$work/output"
-best=
-for run in $(seq "$runs"); do
-    start=$(date +%s%N)
-    "$top/fdpdrive" run fixed blank "$work/trace" > "$work/output"
-    end=$(date +%s%N)
-    took=$((end - start))
-    if [ -z "$best" ] || [ "$took" -lt "$best" ]; then best=$took; fi
-done
-echo "$((8192 * 1000000000 / best)) commands per second ($((best / 1000)) microseconds for 8192)"
+
+# a trace of so many writes, over so many addresses, and reads up to 8,192 commands
+trace() {
+    awk -v writes="$1" -v blocks="$2" 'BEGIN {
+        for (i = 0; i < writes; i++) printf "write 1 %d 1 %d\n", i % blocks, i
+        for (i = writes; i < 8192; i++) printf "read 1 %d 1\n", i % blocks
+    }'
+}
+
+# the best of the runs of a trace on a configuration
+measure() {
+    best=
+    for run in $(seq "$runs"); do
+        start=$(date +%s%N)
+        "$top/fdpdrive" run "$top/examples/$1" blank "$2" > "$work/output"
+        end=$(date +%s%N)
+        took=$((end - start))
+        if [ -z "$best" ] || [ "$took" -lt "$best" ]; then best=$took; fi
+    done
+    echo "$1: $((8192 * 1000000000 / best)) commands per second ($((best / 1000)) microseconds for 8192)"
+}
+
+trace 64 52 > "$work/small.trace"
+trace 4096 4096 > "$work/large.trace"
+"$top/fdpdrive" run "$top/examples/drive-s.toml" blank "$work/small.trace" > "$work/output"
+measure drive-s.toml "$work/small.trace"
+measure large.toml "$work/large.trace"

@@ -1,4 +1,9 @@
-pub mod Lacking
+pub mod Configuring
+pub mod Formed
+pub mod Growing
+pub mod Idling
 pub mod Printed
 pub mod Served
 pub mod Shown
+pub mod Small
+pub mod Starting

@@ -1,78 +1,156 @@
 -- The steps of one command, joined.
-use Rattle.std.proofs.Common.{◌≡◌, ℕ, suc, ◌+◌, get_or, take, length-take, ◌<◌, Bool, true, false, List, [], ◌∷◌, ◌++◌, length, refl, ap, sym, ◌∙◌, subst, arith, Some}
+use Rattle.std.proofs.Common.{◌≡◌, ℕ, suc, ◌+◌, ◌*◌, ◌≤◌, ◌<◌, Bool, true, false, get_or, take, length-take, List, [], ◌∷◌, ◌++◌, length, refl, ap, sym, ◌∙◌, subst, arith, Some, None, inl, inr}
+use Rattle.std.specs.Prelude.{Option}
 use Rattle.std.specs.List.{enumerate_from}
 use Rattle.std.proofs.lemmas.List.{take_more}
 use Rattle.std.proofs.lemmas.List.Elements.{filter_map-append}
 use Rattle.fdp_base.specs.declared.command.Command.{Command}
 use Rattle.fdp_base.specs.declared.entry.Entry.{Entry}
 use Rattle.fdp_base.specs.declared.entry.Entry.TheVariants as entries
-use Rattle.fdp_base.specs.FixedDrive.{Going, IsLegal, state_of}
+use Rattle.fdp_base.specs.declared.entry.Reply.{Reply}
+use Rattle.fdp_base.specs.PlainState.{Going}
 use Rattle.fdp_base.specs.Queue.{completed, completed_by, numbered}
+use Rattle.fdp_base.specs.Totals.{blocks_written}
 use Rattle.fdp_flash.specs.FlashState.{FlashState}
-use Rattle.fdp_core.specs.declared.answer.Done.{Done}
-use Rattle.fdp_core.specs.declared.answer.Ticket.{Ticket}
-use Rattle.fdp_core.specs.Seen.{Completes, Grows, HoldsHistory, Matches, PlacesPage, Seen, Starts}
-use Rattle.fdp_core.specs.Idle.{IsIdleBelow}
-use Rattle.fdp_core.proofs.Idle.{going-placed, going-started, idle-completed, idle-shut, idle_going, idle_more}
-use Rattle.fdp_core.proofs.Grown.{grows-joined, grows-none, grows-step}
-use Rattle.fdp_cli.specs.Serving.{EndsWrite, ServesFirst, ServesOne}
+use Rattle.fdp_core.specs.declared.ticket.Done.{Done}
+use Rattle.fdp_core.specs.declared.ticket.Ticket.{Ticket}
+use Rattle.fdp_core.specs.Book.{state_in}
+use Rattle.fdp_core.specs.Answers.{EndsAlone, EndsInPlacing, FailsToPlace, PlacesPage, Starts, Commits}
+use Rattle.fdp_core.specs.BookSteps.{IsReady, IsWaiting}
+use Rattle.fdp_core.specs.Seen.{Seen}
+use Rattle.fdp_core.specs.Steps.{Completes, Grows}
+use Rattle.fdp_core.specs.Tickets.{IsTicketOf}
+use Rattle.fdp_cli.specs.Serving.{EndsWrite, IsIdle, IsPlacing, PlacesSome, ServesFirst, ServesOne}
+use Rattle.fdp_cli.proofs.Growing.{grows-joined, grows-none, grows-reserved, grows-reserving, grows-step, with_spare}
+use Rattle.fdp_cli.proofs.Idling.{idle_ended, idle_ended_behind, idle_still}
 
--- the memory that was reserved is not seen
-pub grows-reserved : {F : Type 0} (state : F → FlashState) (old mid new : Seen F) (es : List Entry) → mid ≡ record old { spare = mid.spare } → Grows state mid new es → Grows state old new es
-grows-reserved state old mid new es same h =
-    let k = subst (λ (s : Seen _). Grows state s new es) same h in
-    record { entries_are = k.entries_are; legal = k.legal; flash_is = k.flash_is; cells = k.cells }
+-- ---- the pages of a write
+
+-- no page is placed yet
+pub places-none : {F : Type 0} (state : F → FlashState) (old : Seen F) (ticket : Ticket) (pages : ℕ) → old.failed ≡ false → IsPlacing old.book ticket pages 0 → PlacesSome state old old ticket ticket pages 0
+places-none state old ticket pages well from = record {
+  from = from;
+  to = subst (λ k. IsTicketOf (state_in old.book) ticket (record from.going { placed = k })) from.placed_are from.ticket_is;
+  same = refl;
+  es = [];
+  grown = grows-none state old well;
+  silent = refl;
+  spent = omega arith;
+  spare = omega arith;
+  well = well;
+}
+
+-- a page more is placed
+pub places-more : {F : Type 0} (state : F → FlashState) (old mid new : Seen F) (ticket next last : Ticket) (pages k : ℕ) (p : PlacesSome state old mid ticket next pages k) → PlacesPage state mid new next (record p.from.going { placed = k }) last → PlacesSome state old new ticket last pages (k + 1)
+places-more state old mid new ticket next last pages k p q = record {
+  from = p.from;
+  to = q.going;
+  same = q.next_is ∙ p.same;
+  es = p.es ++ entries.Placed next.position k q.unit q.page ∷ [];
+  grown = grows-joined state old mid new p.es (entries.Placed next.position k q.unit q.page ∷ []) p.grown p.well (grows-step state mid new _ q.step);
+  silent = filter_map-append (completed_by 1) p.es (entries.Placed next.position k q.unit q.page ∷ []) ∙ ap (λ xs. xs ++ []) p.silent;
+  spent = omega (arith, p.spent, q.step.book.spent_is);
+  spare = omega (arith, p.spare, q.step.book.spare_is);
+  well = q.well;
+}
+
+-- a page is still to be placed
+pub placing_waits : {F : Type 0} (state : F → FlashState) (old mid : Seen F) (ticket next : Ticket) (pages k : ℕ) → PlacesSome state old mid ticket next pages k → k < pages → IsWaiting mid.book next
+placing_waits state old mid ticket next pages k p low = record { going = _; ticket_is = p.to; asked = omega (arith, low, p.from.pages_are) }
+
+-- all pages are placed
+pub placing_ready : {F : Type 0} (state : F → FlashState) (old mid : Seen F) (ticket next : Ticket) (pages : ℕ) → PlacesSome state old mid ticket next pages pages → IsReady mid.book next
+placing_ready state old mid ticket next pages p = record { going = _; ticket_is = p.to; placed = sym p.from.pages_are }
+
+-- the page that was placed is not the last
+pub placed_more : {F : Type 0} (state : F → FlashState) (old mid new : Seen F) (ticket next last : Ticket) (pages k : ℕ) (p : PlacesSome state old mid ticket next pages k) →
+    PlacesPage state mid new next (record p.from.going { placed = k }) last × (k + 1 < blocks_written p.from.going.command) → PlacesSome state old new ticket last pages (k + 1) × (k + 1 < pages)
+placed_more state old mid new ticket next last pages k p h = (places-more state old mid new ticket next last pages k p h.0, omega (arith, h.1, p.from.pages_are))
+
+-- it is the last
+pub placed_all : {F : Type 0} (state : F → FlashState) (old mid new : Seen F) (ticket next last : Ticket) (pages k : ℕ) (p : PlacesSome state old mid ticket next pages k) →
+    PlacesPage state mid new next (record p.from.going { placed = k }) last × (k + 1 ≡ blocks_written p.from.going.command) → PlacesSome state old new ticket last pages pages
+placed_all state old mid new ticket next last pages k p h =
+    subst (λ n. PlacesSome state old new ticket last pages n) (h.1 ∙ p.from.pages_are) (places-more state old mid new ticket next last pages k p h.0)
+
+-- ---- the end of a write
+
+ends_behind : {F : Type 0} (state : F → FlashState) (old mid new : Seen F) (ticket next : Ticket) (pages k : ℕ) (p : PlacesSome state old mid ticket next pages k) (before : List Entry) (done : Done) →
+    k ≤ pages → completed 1 before ≡ [] → IsIdle new.book → Completes state mid new before 1 p.from.going.number p.from.going.command done → EndsWrite state old new ticket pages
+ends_behind state old mid new ticket next pages k p before done few silent idle h =
+    let host : Entry = entries.Host 1 p.from.going.number p.from.going.command done.reply done.moment in
+    record {
+      from = p.from;
+      es = p.es ++ (before ++ host ∷ []);
+      grown = grows-joined state old mid new p.es (before ++ host ∷ []) p.grown p.well (grows-step state mid new _ h.step);
+      completes = filter_map-append (completed_by 1) p.es (before ++ host ∷ [])
+          ∙ ap (λ xs. xs ++ completed 1 (before ++ host ∷ [])) p.silent
+          ∙ filter_map-append (completed_by 1) before (host ∷ [])
+          ∙ ap (λ xs. xs ++ (p.from.going.number, p.from.going.command) ∷ []) silent;
+      steps = omega (arith, p.spent, h.step.book.spent_is, few);
+      idle = idle;
+    }
+
+queue_one : {F : Type 0} (state : F → FlashState) (old mid : Seen F) (ticket next : Ticket) (pages k : ℕ) → PlacesSome state old mid ticket next pages k → next.queue ≡ 1
+queue_one state old mid ticket next pages k p = ap (λ (t : Ticket). t.queue) p.same ∙ p.from.queue_is
+
+-- a write ended behind no other entry
+pub ends_alone : {F : Type 0} (state : F → FlashState) (old mid new : Seen F) (ticket next : Ticket) (pages k : ℕ) (p : PlacesSome state old mid ticket next pages k) (reply : Reply) (done : Done) →
+    k ≤ pages → EndsAlone state mid new next (record p.from.going { placed = k }) reply done → EndsWrite state old new ticket pages
+ends_alone state old mid new ticket next pages k p reply done few e =
+    let h = subst (λ q. Completes state mid new [] q p.from.going.number p.from.going.command done) (queue_one state old mid ticket next pages k p) e.completes in
+    ends_behind state old mid new ticket next pages k p [] done few refl
+    (idle_ended mid.book new.book p.from.going.number p.from.going.command done.reply done.moment h.step.book.config_is h.step.book.entries_are p.from.write) h
+
+-- a write ended in place of a page
+pub ends_placing : {F : Type 0} (state : F → FlashState) (old mid new : Seen F) (ticket next : Ticket) (pages k : ℕ) (p : PlacesSome state old mid ticket next pages k) (done : Done) →
+    k ≤ pages → EndsInPlacing state mid new next (record p.from.going { placed = k }) done → EndsWrite state old new ticket pages
+ends_placing state old mid new ticket next pages k p done few (inl gone) = ends_alone state old mid new ticket next pages k p _ done few gone.1
+ends_placing state old mid new ticket next pages k p done few (inr (inl wants)) = ends_alone state old mid new ticket next pages k p _ done few wants.1
+ends_placing state old mid new ticket next pages k p done few (inr (inr fails)) =
+    let shut : Entry = entries.Shut p.from.going.rg p.from.going.ruh in
+    let h = subst (λ q. Completes state mid new (shut ∷ []) q p.from.going.number p.from.going.command done) (queue_one state old mid ticket next pages k p) fails.1.completes in
+    ends_behind state old mid new ticket next pages k p (shut ∷ []) done few refl
+    (idle_ended_behind mid.book new.book shut p.from.going.number p.from.going.command done.reply done.moment h.step.book.config_is h.step.book.entries_are p.from.write) h
+
+-- a write ended whose pages were placed
+pub ends_committing : {F : Type 0} (state : F → FlashState) (old mid new : Seen F) (ticket next : Ticket) (pages : ℕ) (p : PlacesSome state old mid ticket next pages pages) (done : Done) →
+    Commits state mid new next (record p.from.going { placed = pages }) done → EndsWrite state old new ticket pages
+ends_committing state old mid new ticket next pages p done (inl gone) = ends_alone state old mid new ticket next pages pages p _ done (omega arith) gone.1
+ends_committing state old mid new ticket next pages p done (inr (inl over)) = ends_alone state old mid new ticket next pages pages p _ done (omega arith) over.2
+ends_committing state old mid new ticket next pages p done (inr (inr well)) = ends_alone state old mid new ticket next pages pages p _ done (omega arith) well.1
+
+-- ---- a command
 
 -- the first step of a command completed it
 pub ends_at_once : {F : Type 0} (state : F → FlashState) (old mid new : Seen F) (number : ℕ) (command : Command) (done : Done) →
-    mid ≡ record old { spare = mid.spare } → IsIdleBelow (state_of old.entries) number → Completes state mid new number command [] done → ServesOne state old new number command
+    mid ≡ with_spare old mid.book.spare → IsIdle old.book → Completes state mid new [] 1 number command done → ServesOne state old new number command
 ends_at_once state old mid new number command done same idle h = record {
   es = entries.Host 1 number command done.reply done.moment ∷ [];
   grown = grows-reserved state old mid new _ same (grows-step state mid new _ h.step);
   completes = refl;
-  steps = omega (arith, h.step.spent_is, ap (λ (s : Seen _). s.spent) same);
-  idle = idle_more (state_of new.entries) number
-      (idle-completed state mid new number number command done h (subst (λ (s : Seen _). IsIdleBelow (state_of s.entries) number) (sym same) idle));
+  steps = omega (arith, h.step.book.spent_is, ap (λ (s : Seen _). s.book.spent) same);
+  idle = idle_still mid.book new.book number command done.reply done.moment h.step.book.config_is h.step.book.entries_are (subst (λ (s : Seen _). IsIdle s.book) (sym same) idle);
 }
 
--- the write ended when its handle was shut
-pub ends_shut : {F : Type 0} (state : F → FlashState) (old new : Seen F) (g : Going) (done : Done) → (state_of old.entries).going ≡ Some g → Completes state old new g.number g.command (entries.Shut 0 0 ∷ []) done → EndsWrite state old new g
-ends_shut state old new g done going h = record {
-  es = entries.Shut 0 0 ∷ entries.Host 1 g.number g.command done.reply done.moment ∷ [];
-  grown = grows-step state old new _ h.step;
-  completes = refl;
-  steps = omega (arith, h.step.spent_is);
-  idle = idle-shut state old new g done going h;
-}
-
--- the page of the write was placed, and the write committed
-pub ends_committed : {F : Type 0} (state : F → FlashState) (old mid new : Seen F) (ticket next : Ticket) (g : Going) (done : Done) → (state_of old.entries).going ≡ Some g →
-    PlacesPage state old mid ticket next → ((w : Going) → (state_of mid.entries).going ≡ Some w → Completes state mid new w.number w.command [] done) → EndsWrite state old new g
-ends_committed state old mid new ticket next g done going p h =
-    let placed : Entry = entries.Placed ticket.position 0 p.unit p.page in
-    let still = going-placed state old mid ticket next g going p in
-    let k = h (record g { is_placed = true }) still in
-    record {
-      es = placed ∷ entries.Host 1 g.number g.command done.reply done.moment ∷ [];
-      grown = grows-joined state old mid new (placed ∷ []) (entries.Host 1 g.number g.command done.reply done.moment ∷ []) (grows-step state old mid _ p.step) p.well (grows-step state mid new _ k.step);
-      completes = refl;
-      steps = omega (arith, p.step.spent_is, k.step.spent_is);
-      idle = idle-completed state mid new g.number (g.number + 1) g.command done k (idle_going (state_of mid.entries) (record g { is_placed = true }) still);
-    }
+same_going : (a b : Going) (x : Option Going) → x ≡ Some a → x ≡ Some b → a ≡ b
+same_going a b x p q = cc
 
 -- a write was started, and ended
 pub ends_started : {F : Type 0} (state : F → FlashState) (old mid started new : Seen F) (number : ℕ) (command : Command) (ticket : Ticket) →
-    mid ≡ record old { spare = mid.spare } → Starts state mid started number command ticket → ((g : Going) → (state_of started.entries).going ≡ Some g → EndsWrite state started new g) → ServesOne state old new number command
-ends_started state old mid started new number command ticket same h ends =
-    let start : Entry = entries.Started 1 number command 0 0 true in
-    let e = ends _ (going-started state mid started number command ticket h) in
+    mid ≡ with_spare old mid.book.spare → Starts state mid started 1 number command ticket → blocks_written command + 2 ≤ 66 → EndsWrite state started new ticket (blocks_written command) → ServesOne state old new number command
+ends_started state old mid started new number command ticket same h few e =
+    let start : Entry = entries.Started 1 number command h.target.rg h.target.ruh h.target.valid in
+    let going = same_going e.from.going _ _ e.from.ticket_is.going_is h.going.going_is in
     record {
       es = start ∷ e.es;
       grown = grows-reserved state old mid new _ same (grows-joined state mid started new (start ∷ []) e.es (grows-step state mid started _ h.step) h.well e.grown);
-      completes = e.completes;
-      steps = omega (arith, h.step.spent_is, e.steps, ap (λ (s : Seen _). s.spent) same);
+      completes = e.completes ∙ ap (λ (g : Going). (g.number, g.command) ∷ []) going;
+      steps = omega (arith, h.step.book.spent_is, e.steps, few, ap (λ (s : Seen _). s.book.spent) same);
       idle = e.idle;
     }
+
+-- ---- a trace
 
 enumerate-push : (n : ℕ) (xs : List Command) (x : Command) → enumerate_from n (xs ++ x ∷ []) ≡ enumerate_from n xs ++ (n + length xs, x) ∷ []
 enumerate-push n [] x = let e : n ≡ n + 0 = omega arith in ap (λ k. (k, x) ∷ []) e
@@ -107,16 +185,11 @@ first-more state old mid new trace n command failed p low is q well = record {
 }
 
 -- only memory was taken
-pub first-reserved : {F : Type 0} (state : F → FlashState) (old mid new : Seen F) (trace : List Command) (n : ℕ) → ServesFirst state old mid trace n false → new ≡ record mid { spare = new.spare } → ServesFirst state old new trace n false
+pub first-reserved : {F : Type 0} (state : F → FlashState) (old mid new : Seen F) (trace : List Command) (n : ℕ) → ServesFirst state old mid trace n false → new ≡ with_spare mid new.book.spare → ServesFirst state old new trace n false
 first-reserved state old mid new trace n p same = record {
   es = p.es;
-  grown = record {
-    entries_are = ap (λ (s : Seen _). s.entries) same ∙ p.grown.entries_are;
-    legal = λ legal. subst (λ (s : Seen _). IsLegal (state s.flash).told s.entries) (sym same) (p.grown.legal legal);
-    flash_is = subst (λ (s : Seen _). Matches (state old.flash) (state s.flash) p.es s.failed) (sym same) p.grown.flash_is;
-    cells = λ held. subst (λ (s : Seen _). HoldsHistory (state s.flash) s.entries s.failed) (sym same) (p.grown.cells held);
-  };
+  grown = grows-reserving state old mid new p.es same p.grown;
   completes = p.completes;
-  steps = omega (arith, p.steps, ap (λ (s : Seen _). s.spent) same);
+  steps = omega (arith, p.steps, ap (λ (s : Seen _). s.book.spent) same);
   well = ap (λ (s : Seen _). s.failed) same ∙ p.well;
 }

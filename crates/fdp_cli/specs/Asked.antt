@@ -1,21 +1,30 @@
 -- What the words of a run ask for.
-use Rattle.std.specs.Prelude.{ℕ, Bool, not, ◌&&◌, ◌||◌, ◌==◌, if◌then◌else◌, List, [], ◌∷◌, length, slice_index, codes, bytes_eq, String, string_bytes, Result, Ok, Err}
+use Rattle.std.specs.Prelude.{ℕ, Bool, not, ◌&&◌, ◌||◌, ◌==◌, nat_lt, if◌then◌else◌, List, [], ◌∷◌, length, slice_index, codes, bytes_eq, String, string_bytes, Result, Ok, Err}
+use Rattle.std.specs.List.{list_any}
 use Rattle.std.specs.declared.alloc.Global.{Global}
 use Rattle.fdp_cli.specs.declared.fault.Fault.{Fault}
 use Rattle.fdp_cli.specs.declared.fault.Fault.TheVariants as faults
 
+-- the names of the texts that a run reads
+pub record Texts : Type 0 where
+  pub config : List ℕ
+  pub trace : List ℕ
+
 abbrev pub begins_with_dash : String Global → Bool
 begins_with_dash word = not (length (string_bytes word) == 0) && (slice_index (string_bytes word) 0 == 45)
 
--- the name of the trace: the words are `run fixed blank TRACE`
-abbrev pub asked_of : List (String Global) → Result (List ℕ) Fault
+abbrev pub is_word : String Global → List ℕ → Bool
+is_word word text = bytes_eq (string_bytes word) text
+
+-- the texts that a run reads: the words are `run`, a configuration, an image and 1 to 16 traces, none of them with a dash at its
+-- beginning; only a blank image and one trace are built
+abbrev pub asked_of : List (String Global) → Result Texts Fault
 asked_of [] = Err faults.Usage
-asked_of (a ∷ []) = Err faults.Usage
-asked_of (a ∷ b ∷ []) = Err faults.Usage
-asked_of (a ∷ b ∷ c ∷ []) = Err faults.Usage
-asked_of (a ∷ b ∷ c ∷ d ∷ e ∷ words) = Err faults.Usage
-asked_of (run ∷ configuration ∷ image ∷ trace ∷ []) =
-    if begins_with_dash run || (begins_with_dash configuration || (begins_with_dash image || begins_with_dash trace)) then Err faults.Usage
-    else (if not (bytes_eq (string_bytes run) (codes "run")) then Err faults.Usage
-    else (if not (bytes_eq (string_bytes configuration) (codes "fixed")) || not (bytes_eq (string_bytes image) (codes "blank")) then Err faults.NotBuilt
-    else Ok (string_bytes trace)))
+asked_of (run ∷ []) = Err faults.Usage
+asked_of (run ∷ config ∷ []) = Err faults.Usage
+asked_of (run ∷ config ∷ image ∷ []) = Err faults.Usage
+asked_of (run ∷ config ∷ image ∷ trace ∷ more) =
+    if not (is_word run (codes "run")) || nat_lt 15 (length more) || list_any begins_with_dash (run ∷ config ∷ image ∷ trace ∷ more)
+    then Err faults.Usage
+    else (if not (is_word image (codes "blank")) || nat_lt 0 (length more) then Err faults.NotBuilt
+    else Ok (record { config = string_bytes config; trace = string_bytes trace }))

@@ -1,7 +1,10 @@
 pub mod Asked
+pub mod Configured
 pub mod Faults
 pub mod Found
+pub mod OutputText
+pub mod Printing
+pub mod Servable
 pub mod Serving
 pub mod Session
-pub mod Printing
 pub mod Top

@@ -1,8 +1,15 @@
 -- How much of a text was printed.
-use Rattle.std.specs.Prelude.{◌≡◌, ℕ, ◌≤◌, IsTrue, List, ◌++◌, length, take, Result, Ok, Err, ⊤}
+use Rattle.std.specs.Prelude.{◌≡◌, ℕ, ◌≤◌, ◌^◌, IsTrue, List, ◌++◌, length, take, Result, Ok, Err, ⊤}
+use Rattle.fdp_base.specs.declared.entry.Totals.{Totals}
 use Rattle.fdp_io.specs.Sink.{Holds, HoldsFront, SinkState}
 use Rattle.fdp_cli.specs.declared.print.Cut.{Cut}
 use Rattle.fdp_cli.specs.declared.print.Cut.TheVariants as cuts
+
+-- the sums can be told in bytes, in 64 bits
+pub record AreSmall (t : Totals) : Type 0 where
+  pub host_blocks : t.host_blocks ≤ 2 ^ 44
+  pub media_blocks : t.media_blocks ≤ 2 ^ 40
+  pub erases : t.erases ≤ 2 ^ 40
 
 -- the sink holds a prefix of this text more
 pub record HoldsSome (old new : SinkState) (text : List ℕ) : Type 0 where

@@ -1,38 +1,75 @@
 -- What serving a trace does to the history of a group.
-use Rattle.std.specs.Prelude.{◌≡◌, ℕ, ◌+◌, ◌*◌, ◌≤◌, Bool, true, false, List, [], ◌∷◌, length, take, Result, Ok, Err}
+use Rattle.std.specs.Prelude.{◌≡◌, ℕ, ◌+◌, ◌*◌, ◌≤◌, Bool, true, false, List, [], ◌∷◌, length, take, Option, None, Some, Result, Ok, Err}
 use Rattle.std.specs.declared.alloc.AllocError.{AllocError}
 use Rattle.fdp_base.specs.declared.command.Command.{Command}
 use Rattle.fdp_base.specs.declared.entry.Entry.{Entry}
-use Rattle.fdp_base.specs.FixedDrive.{Going, state_of}
+use Rattle.fdp_base.specs.CommandKinds.{is_write}
+use Rattle.fdp_base.specs.PlainState.{Going}
 use Rattle.fdp_base.specs.Queue.{completed, numbered}
+use Rattle.fdp_base.specs.Totals.{blocks_written}
 use Rattle.fdp_flash.specs.FlashState.{FlashState}
-use Rattle.fdp_core.specs.Idle.{IsIdleBelow}
-use Rattle.fdp_core.specs.Seen.{Grows, Seen}
+use Rattle.fdp_core.specs.declared.ticket.Ticket.{Ticket}
+use Rattle.fdp_core.specs.Book.{BookSeen, state_in}
+use Rattle.fdp_core.specs.Seen.{Seen}
+use Rattle.fdp_core.specs.Steps.{Grows}
+use Rattle.fdp_core.specs.Tickets.{IsTicketOf}
 use Rattle.fdp_cli.specs.declared.serving.ServeEnd.{ServeEnd}
 use Rattle.fdp_cli.specs.declared.serving.ServeEnd.TheVariants as ends
 
--- the entries of one command were added: they complete this command, once
+-- no write is going in queue 1
+abbrev pub IsIdle : BookSeen → Type 0
+IsIdle b = (state_in b).going 1 ≡ None
+
+-- a write of so many blocks is going in queue 1, with this ticket and so many of its pages placed
+pub record IsPlacing (b : BookSeen) (ticket : Ticket) (pages placed : ℕ) : Type 0 where
+  pub going : Going
+  pub ticket_is : IsTicketOf (state_in b) ticket going
+  pub queue_is : ticket.queue ≡ 1
+  pub write : is_write going.command ≡ true
+  pub pages_are : blocks_written going.command ≡ pages
+  pub placed_are : going.placed ≡ placed
+
+-- the entries that place so many pages of a going write were added, and no other
+pub record PlacesSome {F : Type 0} (state : F → FlashState) (old new : Seen F) (ticket next : Ticket) (pages placed : ℕ) : Type 0 where
+  pub from : IsPlacing old.book ticket pages 0
+  pub to : IsTicketOf (state_in new.book) next (record from.going { placed = placed })
+  pub same : next ≡ ticket
+  pub es : List Entry
+  pub grown : Grows state old new es
+  pub silent : completed 1 es ≡ []
+  pub spent : new.book.spent ≡ old.book.spent + placed
+  pub spare : new.book.spare + placed ≡ old.book.spare
+  pub well : new.failed ≡ false
+
+-- the entries that end a going write were added: they complete its command, once
+pub record EndsWrite {F : Type 0} (state : F → FlashState) (old new : Seen F) (ticket : Ticket) (pages : ℕ) : Type 0 where
+  pub from : IsPlacing old.book ticket pages 0
+  pub es : List Entry
+  pub grown : Grows state old new es
+  pub completes : completed 1 es ≡ (from.going.number, from.going.command) ∷ []
+  pub steps : new.book.spent ≤ old.book.spent + pages + 1
+  pub idle : IsIdle new.book
+
+-- all pages of a going write were placed, or it ended before
+abbrev pub PlacesAll : {F : Type 0} → (F → FlashState) → Seen F → Seen F → Ticket → ℕ → Option Ticket → Type 0
+PlacesAll state old new ticket pages (Some next) = PlacesSome state old new ticket next pages pages
+PlacesAll state old new ticket pages None = EndsWrite state old new ticket pages
+
+-- the entries of one command were added: they complete this command, once. It takes at most 66 steps: the first, one for each
+-- of at most 64 blocks, and the last
 pub record ServesOne {F : Type 0} (state : F → FlashState) (old new : Seen F) (number : ℕ) (command : Command) : Type 0 where
   pub es : List Entry
   pub grown : Grows state old new es
   pub completes : completed 1 es ≡ (number, command) ∷ []
-  pub steps : new.spent ≤ old.spent + 3
-  pub idle : IsIdleBelow (state_of new.entries) (number + 1)
-
--- the entries that end a going write were added: they complete its command, once
-pub record EndsWrite {F : Type 0} (state : F → FlashState) (old new : Seen F) (g : Going) : Type 0 where
-  pub es : List Entry
-  pub grown : Grows state old new es
-  pub completes : completed 1 es ≡ (g.number, g.command) ∷ []
-  pub steps : new.spent ≤ old.spent + 2
-  pub idle : IsIdleBelow (state_of new.entries) (g.number + 1)
+  pub steps : new.book.spent ≤ old.book.spent + 66
+  pub idle : IsIdle new.book
 
 -- the first commands of a trace were completed, in order, each once, and nothing else
 pub record ServesFirst {F : Type 0} (state : F → FlashState) (old new : Seen F) (trace : List Command) (count : ℕ) (failed : Bool) : Type 0 where
   pub es : List Entry
   pub grown : Grows state old new es
   pub completes : completed 1 es ≡ numbered (take count trace)
-  pub steps : new.spent ≤ old.spent + 3 * count
+  pub steps : new.book.spent ≤ old.book.spent + 66 * count
   pub well : new.failed ≡ failed
 
 -- the whole trace was served; or a flash call failed or memory was wanting, and the first commands of it were

@@ -1,28 +1,53 @@
 ghost use Rattle.std.specs.Prelude.{◌≡◌, Ok, Err, MatchResult};
-ghost use Rattle.fdp_cli.specs.Asked.{asked_of, begins_with_dash};
+ghost use Rattle.std.specs.List.{list_any};
+ghost use Rattle.fdp_cli.specs.Asked.{asked_of, begins_with_dash, is_word};
 
 use crate::fault::Fault;
 
-/// The name of the trace that the words ask for: they are `run fixed blank TRACE`.
-pub fn asked(words: &[String]) -> Result<&str, Fault>
-    ensures { MatchResult result (λ name. asked_of words.now ≡ Ok name.now) (λ fault. asked_of words.now ≡ Err fault) }
-{
-    let [run, configuration, image, trace] = words else {
-        return Err(Fault::Usage);
-    };
-    if is_option(run) || is_option(configuration) || is_option(image) || is_option(trace) {
-        return Err(Fault::Usage);
-    }
-    if run.as_str() != "run" {
-        return Err(Fault::Usage);
-    }
-    if configuration.as_str() != "fixed" || image.as_str() != "blank" {
-        return Err(Fault::NotBuilt);
-    }
-    Ok(trace.as_str())
+/// A run has at most so many traces behind the first.
+const MOST_MORE: usize = 15;
+
+/// The names of the texts that a run reads.
+#[derive(Clone, Copy, Debug)]
+pub struct Texts<'a> {
+    pub config: &'a str,
+    pub trace: &'a str,
 }
 
-fn is_option(word: &String) -> bool
+/// The texts that the words ask for: they are `run CONFIG blank TRACE`.
+pub fn asked(words: &[String]) -> Result<Texts<'_>, Fault>
+    ensures { MatchResult result
+        (λ texts. asked_of words.now ≡ Ok (record { config = texts.config.now; trace = texts.trace.now }))
+        (λ fault. asked_of words.now ≡ Err fault) }
+{
+    let [run, config, image, trace, more @ ..] = words else {
+        return Err(Fault::Usage);
+    };
+    if !is_word(run, "run") || more.len() > MOST_MORE || has_option(words) {
+        return Err(Fault::Usage);
+    }
+    if !is_word(image, "blank") || !more.is_empty() {
+        return Err(Fault::NotBuilt);
+    }
+    Ok(Texts {
+        config: config.as_str(),
+        trace: trace.as_str(),
+    })
+}
+
+fn is_word(word: &String, text: &str) -> bool
+    ensures { result ≡ is_word word.now text.now }
+{
+    word.as_str() == text
+}
+
+fn has_option(words: &[String]) -> bool
+    ensures { result ≡ list_any begins_with_dash words.now }
+{
+    words.iter().any(|word| begins_with_dash(word))
+}
+
+fn begins_with_dash(word: &String) -> bool
     ensures { result ≡ begins_with_dash word.now }
 {
     let bytes = word.as_bytes();

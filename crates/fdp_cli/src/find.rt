@@ -1,13 +1,17 @@
-ghost use Rattle.std.specs.Prelude.{◌≡◌, ◌≤◌, ◌∷◌, [], All, Ok, Err, IfOk, IsTrue, MatchResult, length};
+ghost use Rattle.std.specs.Prelude.{◌≡◌, ◌≤◌, All, Ok, IfOk, MatchResult, length};
 ghost use Rattle.std.specs.List.{list_all};
-ghost use Rattle.fdp_base.specs.FixedDrive.{IsServed};
+ghost use Rattle.fdp_base.specs.declared.config.DriveConfig.{DriveConfig};
+ghost use Rattle.fdp_base.specs.Config.{IsValidConfig};
 ghost use Rattle.fdp_io.specs.Bench.{SameTexts};
 ghost use Rattle.fdp_cli.specs.Asked.{asked_of};
-ghost use Rattle.fdp_cli.specs.Found.{Finds, IsFaultOf, Lacks, commands_of, is_one_block, is_served};
+ghost use Rattle.fdp_cli.specs.Configured.{ReadsConfig};
+ghost use Rattle.fdp_cli.specs.Found.{ConfigLacks, Finds, IsFaultOf, Lacks, Reads, TraceLacks, commands_of};
+ghost use Rattle.fdp_cli.specs.Servable.{IsServable, is_served};
 
 use crate::asked::asked;
 use crate::fault::Fault;
-use fdp_base::{Command, Payload};
+use fdp_base::{Command, DriveConfig};
+use fdp_config::{NoConfig, TEXT_LIMIT, read_config};
 use fdp_io::{Bench, TextRead};
 use fdp_trace::{TraceFault, read_trace};
 use std::alloc::Global;
@@ -15,20 +19,64 @@ use std::alloc::Global;
 /// A trace has at most so many bytes.
 const MOST_BYTES: u64 = 16_777_216;
 
-/// The commands that the words ask for.
-pub fn find<B: Bench>(alloc: Global, words: &[String], bench: &mut B) -> Result<Vec<Command>, Fault>
+/// A configuration, and the commands of a trace.
+#[derive(Debug, Drop)]
+pub struct Found {
+    pub config: DriveConfig,
+    pub trace: Vec<Command>,
+}
+
+/// The configuration and the commands that the words ask for.
+pub fn find<B: Bench>(alloc: Global, words: &[String], bench: &mut B) -> Result<Found, Fault>
     ensures texts { SameTexts (B.state bench.old) (B.state bench.new) }
     ensures faults { (B.state bench.old).faults ≤ (B.state bench.new).faults }
     ensures answer { MatchResult result
-        (λ commands. Finds (B.state bench.old) words.now commands.items)
+        (λ found. Finds (B.state bench.old) words.now found.config found.trace.items)
         (λ fault. Lacks (B.state bench.old) (B.state bench.new) words.now fault) }
-    ensures served { IfOk result (λ commands. All IsServed commands.items) }
-    ensures few { IfOk result (λ commands. length commands.items ≤ 8192) }
+    ensures served { IfOk result (λ found. All (IsServable found.config) found.trace.items) }
+    ensures few { IfOk result (λ found. length found.trace.items ≤ 8192) }
 {
-    let name = match asked(words) {
-        Ok(name) => name,
+    let texts = match asked(words) {
+        Ok(texts) => texts,
         Err(fault) => return Err(fault),
     };
+    let config = find_config(alloc, texts.config, bench)?;
+    let trace = find_trace(alloc, texts.trace, bench)?;
+    Ok(Found { config, trace })
+}
+
+/// The configuration of this name.
+fn find_config<B: Bench>(alloc: Global, name: &str, bench: &mut B) -> Result<DriveConfig, Fault>
+    ensures texts { SameTexts (B.state bench.old) (B.state bench.new) }
+    ensures faults { (B.state bench.old).faults ≤ (B.state bench.new).faults }
+    ensures answer { MatchResult result
+        (λ c. ReadsConfig (B.state bench.old) name.now c)
+        (λ fault. ConfigLacks (B.state bench.old) (B.state bench.new) name.now fault) }
+    ensures valid { IfOk result IsValidConfig }
+{
+    let mut text = Vec::new(alloc);
+    match bench.read_text(name, &mut text, TEXT_LIMIT) {
+        TextRead::Done => match read_config(alloc, text.as_slice()) {
+            Ok(config) => Ok(config),
+            Err(fault) => Err(Fault::from(fault)),
+        },
+        TextRead::Missing => Err(Fault::Config(NoConfig::Absent)),
+        TextRead::TooLong => Err(Fault::Config(NoConfig::TooLong)),
+        TextRead::Failed => Err(Fault::Source),
+        TextRead::NoMemory => Err(Fault::NoMemory),
+    }
+}
+
+/// The commands of the trace of this name. Their grammar makes them well formed on a drive of any configuration.
+fn find_trace<B: Bench>(alloc: Global, name: &str, bench: &mut B) -> Result<Vec<Command>, Fault>
+    ensures texts { SameTexts (B.state bench.old) (B.state bench.new) }
+    ensures faults { (B.state bench.old).faults ≤ (B.state bench.new).faults }
+    ensures answer { MatchResult result
+        (λ commands. Reads (B.state bench.old) name.now (Ok commands.items))
+        (λ fault. TraceLacks (B.state bench.old) (B.state bench.new) name.now fault) }
+    ensures served { IfOk result (λ commands. (c : DriveConfig) → All (IsServable c) commands.items) }
+    ensures few { IfOk result (λ commands. length commands.items ≤ 8192) }
+{
     let mut text = Vec::new(alloc);
     match bench.read_text(name, &mut text, MOST_BYTES) {
         TextRead::Done => read_commands(alloc, text.as_slice()),
@@ -39,12 +87,12 @@ pub fn find<B: Bench>(alloc: Global, words: &[String], bench: &mut B) -> Result<
     }
 }
 
-/// The commands of a text, all of them such as the fixed drive serves.
+/// The commands of a text, all of them such as are served.
 fn read_commands(alloc: Global, text: &[u8]) -> Result<Vec<Command>, Fault>
     ensures answer { MatchResult result
         (λ commands. commands_of text.now ≡ Ok commands.items)
         (λ fault. IsFaultOf fault (commands_of text.now)) }
-    ensures served { IfOk result (λ commands. All IsServed commands.items) }
+    ensures served { IfOk result (λ commands. (c : DriveConfig) → All (IsServable c) commands.items) }
     ensures few { IfOk result (λ commands. length commands.items ≤ 8192) }
 {
     match read_trace(alloc, text) {
@@ -63,35 +111,27 @@ fn read_commands(alloc: Global, text: &[u8]) -> Result<Vec<Command>, Fault>
 fn all_served(commands: &[Command]) -> bool
     ensures { result ≡ list_all is_served commands.now }
 {
-    for command in commands {
-        if !is_served(command) {
-            return false;
-        }
-    }
-    true
+    commands.iter().all(|command| is_served(command))
 }
 
+/// Whether a command is a write or a read.
 fn is_served(command: &Command) -> bool
     ensures { result ≡ is_served command.now }
 {
     match command {
-        Command::Write {
-            nsid,
-            count,
-            dtype,
-            payload,
-            ..
-        } => *nsid == 1 && *count == 1 && *dtype == 0 && is_one_block(payload),
-        Command::Read { nsid, count, .. } => *nsid == 1 && *count == 1,
-        _ => false,
-    }
-}
-
-fn is_one_block(payload: &Payload) -> bool
-    ensures { result ≡ is_one_block payload.now }
-{
-    match payload {
-        Payload::Pattern(_seed) => true,
-        Payload::Bytes(bytes) => bytes.as_slice().len() == 512,
+        Command::Write { .. } => true,
+        Command::Read { .. } => true,
+        Command::Zero { .. } => false,
+        Command::Dealloc { .. } => false,
+        Command::Flush { .. } => false,
+        Command::Delete { .. } => false,
+        Command::Status { .. } => false,
+        Command::Update { .. } => false,
+        Command::Log { .. } => false,
+        Command::SetFdp { .. } => false,
+        Command::GetFdp { .. } => false,
+        Command::SetEvents { .. } => false,
+        Command::Create { .. } => false,
+        Command::Other { .. } => false,
     }
 }

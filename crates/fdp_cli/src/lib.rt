@@ -6,7 +6,6 @@ mod fault;
 mod find;
 mod print;
 mod serving;
-mod sums;
 mod top;
 
 pub use fault::Fault;

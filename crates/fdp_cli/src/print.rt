@@ -1,13 +1,14 @@
 ghost use Rattle.std.specs.Prelude.{◌≡◌, ◌≤◌, ◌^◌, ◌*◌, ◌++◌, ◌∷◌, [], MatchResult, OnOk, codes, decimal};
 ghost use Rattle.fdp_base.specs.Output.{completion_of, stats_line};
-ghost use Rattle.fdp_base.specs.FixedDrive.{output_of};
-ghost use Rattle.fdp_base.specs.Totals.{host_blocks, media_blocks};
-ghost use Rattle.fdp_cli.specs.Printing.{HoldsFirst, Prints};
+ghost use Rattle.fdp_base.specs.Config.{IsValidConfig};
+ghost use Rattle.fdp_base.specs.History.{fresh, totals_of};
+ghost use Rattle.fdp_base.specs.RunOutput.{totals_line};
+ghost use Rattle.fdp_cli.specs.OutputText.{printed_text};
+ghost use Rattle.fdp_cli.specs.Printing.{AreSmall, HoldsFirst, Prints};
 ghost use Rattle.fdp_io.specs.Sink.{HoldsFront};
 ghost use Rattle.fdp_base.specs.Text.{line};
 
-use crate::sums::{host_blocks, media_blocks};
-use fdp_base::Entry;
+use fdp_base::{DriveConfig, Entry, Totals};
 use fdp_io::{Sink, SinkFailed, write_all};
 use fdp_trace::{print_completion, push_decimal};
 use std::alloc::{AllocError, Global};
@@ -23,13 +24,20 @@ pub enum Cut {
     NoMemory,
 }
 
-/// Prints the completions of queue 1 and the statistics of a record, in pieces.
-pub fn print_output<K: Sink>(alloc: Global, entries: &[Entry], sink: &mut K) -> Result<(), Cut>
-    requires host { host_blocks entries.now ≤ 2 ^ 40 }
-    requires media { media_blocks entries.now ≤ 2 ^ 40 }
+/// Prints the completions of queue 1 and the sums of a history, in pieces.
+pub fn print_output<K: Sink>(
+    alloc: Global,
+    config: &DriveConfig,
+    entries: &[Entry],
+    totals: Totals,
+    sink: &mut K,
+) -> Result<(), Cut>
+    requires config { IsValidConfig config.now }
+    requires totals { totals ≡ totals_of (fresh config.now) entries.now }
+    requires small { AreSmall totals }
     ensures told { (K.state sink.new).told ≡ (K.state sink.old).told }
     ensures faults { (K.state sink.old).faults ≤ (K.state sink.new).faults }
-    ensures ends { Prints (K.state sink.old) (K.state sink.new) (output_of entries.now) result }
+    ensures ends { Prints (K.state sink.old) (K.state sink.new) (printed_text config.now entries.now) result }
 {
     let mut text = Vec::new(alloc);
     if push_queue(1, &mut text).is_err() {
@@ -43,9 +51,7 @@ pub fn print_output<K: Sink>(alloc: Global, entries: &[Entry], sink: &mut K) -> 
             return Err(Cut::Sink);
         }
     }
-    let host = 512 * host_blocks(entries);
-    let media = 512 * media_blocks(entries);
-    if push_stats(host, media, 0, &mut text).is_err() {
+    if push_totals(config, totals, &mut text).is_err() {
         return Err(Cut::NoMemory);
     }
     if write_all(sink, &text).is_err() {
@@ -100,6 +106,22 @@ fn push_entry(entry: &Entry, into: &mut Vec<u8>) -> Result<(), AllocError>
         }
         _ => Ok(()),
     }
+}
+
+/// Appends the line of the sums, in bytes.
+fn push_totals(config: &DriveConfig, totals: Totals, into: &mut Vec<u8>) -> Result<(), AllocError>
+    requires config { IsValidConfig config.now }
+    requires small { AreSmall totals }
+    ensures { OnOk result (into.new.items ≡ into.old.items ++ totals_line config.now totals) }
+{
+    let block = u64::from(config.block);
+    let unit = block * u64::from(config.unit_pages);
+    push_stats(
+        block * totals.host_blocks,
+        block * totals.media_blocks,
+        unit * totals.erases,
+        into,
+    )
 }
 
 /// Appends the line of the statistics, in bytes.

@@ -1,8 +1,7 @@
-ghost use Rattle.std.specs.Prelude.{◌≡◌, ◌+◌, ◌*◌, ◌≤◌, ◌<◌, ◌^◌, false, true, All, Some, IfOk, MatchResult, length};
-ghost use Rattle.fdp_base.specs.FixedDrive.{Going, IsServed, state_of};
-ghost use Rattle.fdp_core.specs.Idle.{IsIdleBelow};
-ghost use Rattle.fdp_core.specs.Seen.{IsTicketOf};
-ghost use Rattle.fdp_cli.specs.Serving.{EndsWrite, Serves, ServesOne};
+ghost use Rattle.std.specs.Prelude.{◌≡◌, ◌+◌, ◌*◌, ◌≤◌, ◌<◌, ◌^◌, false, All, MatchResult, length};
+ghost use Rattle.fdp_base.specs.Totals.{blocks_written};
+ghost use Rattle.fdp_cli.specs.Servable.{IsServable};
+ghost use Rattle.fdp_cli.specs.Serving.{EndsWrite, IsIdle, IsPlacing, PlacesAll, Serves, ServesOne};
 
 use fdp_base::Command;
 use fdp_core::{Begun, Group, Placed, Room, Ticket};
@@ -26,10 +25,10 @@ pub fn serve<F: Flash>(
     trace: &[Command],
 ) -> Result<ServeEnd, AllocError>
     requires sound { group.old.failed ≡ false }
-    requires served { All IsServed trace.now }
+    requires servable { All (IsServable group.old.book.config) trace.now }
     requires number { length trace.now ≤ 8192 }
-    requires steps { group.old.spent + 3 * length trace.now ≤ 2 ^ 30 }
-    requires idle { IsIdleBelow (state_of group.old.entries) 0 }
+    requires steps { group.old.book.spent + 66 * length trace.now ≤ 2 ^ 30 }
+    requires idle { IsIdle group.old.book }
     ensures { Serves F.state group.old group.new trace.now result }
 {
     for (number, command) in trace.iter().enumerate() {
@@ -48,33 +47,77 @@ fn serve_one<F: Flash>(
     command: &Command,
 ) -> Result<(), AllocError>
     requires sound { group.old.failed ≡ false }
-    requires served { IsServed command.now }
-    requires steps { group.old.spent + 3 ≤ 2 ^ 30 }
-    requires idle { IsIdleBelow (state_of group.old.entries) number }
+    requires servable { IsServable group.old.book.config command.now }
+    requires steps { group.old.book.spent + 66 ≤ 2 ^ 30 }
+    requires idle { IsIdle group.old.book }
     ensures { MatchResult result
         (λ _. ServesOne F.state group.old group.new number command.now)
-        (λ _. group.new ≡ record group.old { spare = group.new.spare }) }
+        (λ _. group.new ≡ record group.old { book = record group.old.book { spare = group.new.book.spare } }) }
 {
-    group.reserve(3)?;
-    let room = Room::new(alloc, command)?;
-    let command = command.copied()?;
-    match group.start(1, number, command, room) {
+    let steps = u32::from(group.config().blocks_per_command) + 2;
+    group.reserve(steps)?;
+    let room = Room::new(alloc, command, group.config())?;
+    let begun = command.copied()?;
+    match group.start(1, number, begun, room) {
         Begun::Ended(done) => drop(done),
-        Begun::Going(ticket) => end_write(group, ticket),
+        Begun::Going(ticket) => end_write(group, ticket, blocks_written(command)),
     }
     Ok(())
 }
 
-/// Places and commits a write.
-fn end_write<F: Flash>(group: &mut Group<F>, ticket: Ticket)
-    requires ticket { IsTicketOf (state_of group.old.entries) ticket false }
-    requires spare { 2 ≤ group.old.spare }
+/// Places the pages of a write, and commits it.
+fn end_write<F: Flash>(group: &mut Group<F>, ticket: Ticket, pages: u32)
+    requires placing { IsPlacing group.old.book ticket pages 0 }
+    requires some { 0 < pages }
+    requires spare { pages + 1 ≤ group.old.book.spare }
     requires sound { group.old.failed ≡ false }
-    ensures { (g : Going) → (state_of group.old.entries).going ≡ Some g → EndsWrite F.state group.old group.new g }
+    ensures { EndsWrite F.state group.old group.new ticket pages }
 {
-    match group.place(ticket) {
-        Placed::Ready(ticket) => drop(group.commit(ticket)),
-        Placed::Ended(done) => drop(done),
-        Placed::More(_ticket) => unreachable!(),
+    if let Some(ticket) = place_all(group, ticket, pages) {
+        drop(group.commit(ticket));
+    }
+}
+
+/// Places the pages of a write one after another, until all are placed or it ends.
+fn place_all<F: Flash>(group: &mut Group<F>, ticket: Ticket, pages: u32) -> Option<Ticket>
+    requires placing { IsPlacing group.old.book ticket pages 0 }
+    requires some { 0 < pages }
+    requires spare { pages + 1 ≤ group.old.book.spare }
+    requires sound { group.old.failed ≡ false }
+    ensures { PlacesAll F.state group.old group.new ticket pages result }
+{
+    let mut ticket = ticket;
+    for _ in 0..pages {
+        match group.place(ticket) {
+            Placed::More(next) => ticket = next,
+            Placed::Ready(next) => return Some(next),
+            Placed::Ended(done) => {
+                drop(done);
+                return None;
+            }
+        }
+    }
+    unreachable!()
+}
+
+/// How many blocks a write carries.
+fn blocks_written(command: &Command) -> u32
+    ensures { result ≡ blocks_written command.now }
+{
+    match command {
+        Command::Write { count, .. } => *count,
+        Command::Read { .. } => 0,
+        Command::Zero { .. } => 0,
+        Command::Dealloc { .. } => 0,
+        Command::Flush { .. } => 0,
+        Command::Delete { .. } => 0,
+        Command::Status { .. } => 0,
+        Command::Update { .. } => 0,
+        Command::Log { .. } => 0,
+        Command::SetFdp { .. } => 0,
+        Command::GetFdp { .. } => 0,
+        Command::SetEvents { .. } => 0,
+        Command::Create { .. } => 0,
+        Command::Other { .. } => 0,
     }
 }

@@ -1,22 +1,24 @@
 ghost use Rattle.std.specs.Prelude.{◌≤◌, All, length};
-ghost use Rattle.fdp_base.specs.FixedDrive.{IsServed};
+ghost use Rattle.fdp_base.specs.Config.{IsValidConfig};
 ghost use Rattle.fdp_io.specs.Bench.{SameTexts};
+ghost use Rattle.fdp_cli.specs.Servable.{IsServable};
 ghost use Rattle.fdp_cli.specs.Top.{Answers, Refuses, Runs};
 
 use crate::fault::{Fault, push_fault};
 use crate::find::find;
 use crate::print::{Cut, print_output};
 use crate::serving::{ServeEnd, serve};
-use fdp_base::{Command, Geometry};
+use fdp_base::{Command, DriveConfig};
 use fdp_core::Group;
 use fdp_flash::{FlashMem, Plan};
 use fdp_io::{Bench, Sink, write_all};
 use std::alloc::Global;
 
-/// Serves the trace that the words ask for on a fixed drive, prints the output and answers the status of the run:
+/// Serves the trace that the words ask for on a blank drive of the configuration that they name, prints the output and
+/// answers the status of the run:
 ///
 /// - 0: the trace was served, and the sink took the whole output.
-/// - 1, 3, 6, 10: what [`Fault`] says; the sink took the line of the fault.
+/// - 1, 2, 3, 6, 10: what [`Fault`] says; the sink took the line of the fault.
 /// - 7: memory was wanting.
 /// - 8: a write of the sink failed.
 pub fn drive_top<B: Bench, K: Sink>(
@@ -29,7 +31,7 @@ pub fn drive_top<B: Bench, K: Sink>(
     ensures answers { Answers (B.state bench.old) (B.state bench.new) words.now (K.state sink.old) (K.state sink.new) result }
 {
     match find(alloc, words, bench) {
-        Ok(trace) => run(alloc, trace.as_slice(), sink),
+        Ok(found) => run(alloc, &found.config, found.trace.as_slice(), sink),
         Err(fault) => refuse(alloc, fault, sink),
     }
 }
@@ -39,7 +41,7 @@ fn refuse<K: Sink>(alloc: Global, fault: Fault, sink: &mut K) -> u8
     ensures { Refuses (K.state sink.old) (K.state sink.new) fault result }
 {
     let mut text = Vec::new(alloc);
-    if push_fault(fault, &mut text).is_err() {
+    if push_fault(alloc, &fault, &mut text).is_err() {
         return 7;
     }
     match write_all(sink, &text) {
@@ -49,23 +51,26 @@ fn refuse<K: Sink>(alloc: Global, fault: Fault, sink: &mut K) -> u8
 }
 
 /// Serves a trace on a blank drive, and prints the output.
-fn run<K: Sink>(alloc: Global, trace: &[Command], sink: &mut K) -> u8
-    requires served { All IsServed trace.now }
+fn run<K: Sink>(alloc: Global, config: &DriveConfig, trace: &[Command], sink: &mut K) -> u8
+    requires valid { IsValidConfig config.now }
+    requires servable { All (IsServable config.now) trace.now }
     requires few { length trace.now ≤ 8192 }
-    ensures { Runs (K.state sink.old) (K.state sink.new) trace.now result }
+    ensures { Runs (K.state sink.old) (K.state sink.new) config.now trace.now result }
 {
-    let Ok(flash) = FlashMem::new(alloc, Geometry::FIXED, Plan::empty(alloc)) else {
+    let Ok(flash) = FlashMem::new(alloc, config.geometry(), Plan::empty(alloc)) else {
         return 7;
     };
-    let Ok(mut group) = Group::fixed(alloc, flash) else {
+    let Ok(mut group) = Group::fresh(alloc, flash, config) else {
         return 7;
     };
     match serve(alloc, &mut group, trace) {
-        Ok(ServeEnd::Whole) => match print_output(alloc, group.entries(), sink) {
-            Ok(()) => 0,
-            Err(Cut::Sink) => 8,
-            Err(Cut::NoMemory) => 7,
-        },
+        Ok(ServeEnd::Whole) => {
+            match print_output(alloc, config, group.entries(), group.totals(), sink) {
+                Ok(()) => 0,
+                Err(Cut::Sink) => 8,
+                Err(Cut::NoMemory) => 7,
+            }
+        }
         Ok(ServeEnd::Broken) => unreachable!(),
         Err(_error) => 7,
     }

@@ -1,6 +1,10 @@
+use Rattle.std.proofs.Common.{ap, sym, ◌∙◌}
+use Rattle.std.specs.List.{list_all}
+use Rattle.fdp_cli.specs.Servable.{is_served}
+use Rattle.fdp_cli.proofs.Formed.{servable_trace}
 use Rattle.fdp_cli.proofs.find.read_commands.Goals as goal
 
-pub returns-then-all_served-clause-few : goal.returns-then-all_served-clause-few
-returns-then-all_served-clause-few c =
+pub returns-then-all_served-clause-served : goal.returns-then-all_served-clause-served
+returns-then-all_served-clause-served c config =
     let said = (c.in-Ok.ensures.commands c.in-Ok.commands.items).1 c.in-Ok.ensures.answer in
-    said.1.0
+    servable_trace config c.args.text.now c.in-Ok.commands.items said (ap (list_all is_served) (sym c.as_slice.ensures.value) ∙ sym c.all_served.ensures ∙ c.if-all_served.true)

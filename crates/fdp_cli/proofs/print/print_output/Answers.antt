@@ -1,20 +1,21 @@
-use Rattle.std.proofs.Common.{◌*◌, ◌++◌, ◌∷◌, [], codes, ap, sym, ◌∙◌, append_assoc, flat_map, decimal, arith}
-use Rattle.fdp_base.specs.FixedDrive.{output_of}
-use Rattle.fdp_base.specs.Output.{completion_of, stats_line}
+use Rattle.std.proofs.Common.{◌++◌, ◌∷◌, [], codes, ap, sym, ◌∙◌, append_assoc, flat_map, decimal, arith}
+use Rattle.fdp_base.specs.declared.entry.Totals.{Totals}
+use Rattle.fdp_base.specs.Output.{completion_of}
+use Rattle.fdp_base.specs.RunOutput.{totals_line}
 use Rattle.fdp_base.specs.Text.{line}
-use Rattle.fdp_base.specs.Totals.{host_blocks, media_blocks}
+use Rattle.fdp_cli.specs.OutputText.{printed_text}
 use Rattle.fdp_cli.proofs.Printed.{done_of, failed_of, last_entry, next_entry, printing_failed, printing_more, printing_none, printing_some, printing_whole, printing_written, pushed_of}
 use Rattle.fdp_cli.proofs.print.print_output.Goals as goal
 
 pub loop-entry-init : goal.loop-entry-init
 loop-entry-init g c =
     let es = c.args.entries.now in
-    let stats = stats_line (512 * host_blocks es) (512 * media_blocks es) 0 in
+    let sums = totals_line c.args.config.now c.args.totals in
     let lines = flat_map (completion_of 1) es in
     let first = pushed_of _ (sym c.is_err.ensures.value ∙ c.if-is_err.false) c.push_queue.ensures in
     let queue = line (codes "queue" ∷ decimal 1 ∷ []) in
-    printing_none (g.K.Sink.state c.args.sink.now) c.push_queue.new.into.items (lines ++ stats) (output_of es)
-    (ap (λ xs. xs ++ (lines ++ stats)) (first ∙ ap (λ xs. xs ++ queue) c.new-text.ensures.items) ∙ sym (append_assoc queue lines stats))
+    printing_none (g.K.Sink.state c.args.sink.now) c.push_queue.new.into.items (lines ++ sums) (printed_text c.args.config.now es)
+    (ap (λ xs. xs ++ (lines ++ sums)) (first ∙ ap (λ xs. xs ++ queue) c.new-text.ensures.items) ∙ sym (append_assoc queue lines sums) ∙ ap (λ (t : Totals). (queue ++ lines) ++ totals_line c.args.config.now t) c.requires.totals)
 
 pub returns-then-is_err-2-clause-ends : goal.returns-then-is_err-2-clause-ends
 returns-then-is_err-2-clause-ends g c = printing_some _ _ _ _ _ c.loop-entry.invariant
@@ -22,17 +23,17 @@ returns-then-is_err-2-clause-ends g c = printing_some _ _ _ _ _ c.loop-entry.inv
 pub returns-then-is_err-3-clause-ends : goal.returns-then-is_err-3-clause-ends
 returns-then-is_err-3-clause-ends g c =
     let es = c.args.entries.now in
-    let stats = stats_line (512 * host_blocks es) (512 * media_blocks es) 0 in
+    let sums = totals_line c.args.config.now c.args.totals in
     let pushed = pushed_of _ (sym c.is_err-in-loop-entry.ensures.value ∙ c.if-is_err-2.false) c.push_entry.ensures in
-    let more = printing_more _ _ _ _ _ _ _ _ c.loop-entry.invariant (next_entry es c.loop-entry.entry-index _ stats (omega arith) c.entry-item.is) pushed in
+    let more = printing_more _ _ _ _ _ _ _ _ c.loop-entry.invariant (next_entry es c.loop-entry.entry-index _ sums (omega arith) c.entry-item.is) pushed in
     printing_failed _ _ _ _ _ _ more (failed_of _ _ _ (sym c.is_err-in-loop-entry-2.ensures.value ∙ c.if-is_err-3.true) c.write_piece.ensures.ends)
 
 pub loop-entry-preserved : goal.loop-entry-preserved
 loop-entry-preserved g c =
     let es = c.args.entries.now in
-    let stats = stats_line (512 * host_blocks es) (512 * media_blocks es) 0 in
+    let sums = totals_line c.args.config.now c.args.totals in
     let pushed = pushed_of _ (sym c.is_err-in-loop-entry.ensures.value ∙ c.if-is_err-2.false) c.push_entry.ensures in
-    let more = printing_more _ _ _ _ _ _ _ _ c.loop-entry.invariant (next_entry es c.loop-entry.entry-index _ stats (omega arith) c.entry-item.is) pushed in
+    let more = printing_more _ _ _ _ _ _ _ _ c.loop-entry.invariant (next_entry es c.loop-entry.entry-index _ sums (omega arith) c.entry-item.is) pushed in
     printing_written _ _ _ _ _ _ _ more c.write_piece.ensures.told c.write_piece.ensures.faults (done_of _ _ _ (sym c.is_err-in-loop-entry-2.ensures.value ∙ c.if-is_err-3.false) c.write_piece.ensures.ends)
 
 pub returns-then-is_err-4-clause-ends : goal.returns-then-is_err-4-clause-ends
@@ -41,15 +42,15 @@ returns-then-is_err-4-clause-ends g c = printing_some _ _ _ _ _ c.loop-entry.inv
 pub returns-then-is_err-5-clause-ends : goal.returns-then-is_err-5-clause-ends
 returns-then-is_err-5-clause-ends g c =
     let es = c.args.entries.now in
-    let stats = stats_line (512 * host_blocks es) (512 * media_blocks es) 0 in
-    let pushed = pushed_of _ (sym c.is_err-2.ensures.value ∙ c.if-is_err-4.false) c.push_stats.ensures in
-    let more = printing_more _ _ _ _ _ _ _ _ c.loop-entry.invariant (last_entry es c.loop-entry.entry-index stats (omega arith)) (c.deref.ensures.value ∙ pushed ∙ ap (λ line. c.loop-entry.text.items ++ line) (ap (λ h. stats_line (512 * h) (512 * c.media_blocks-media.result) 0) c.host_blocks-host.ensures ∙ ap (λ m. stats_line (512 * host_blocks es) (512 * m) 0) c.media_blocks-media.ensures)) in
+    let sums = totals_line c.args.config.now c.args.totals in
+    let pushed = pushed_of _ (sym c.is_err-2.ensures.value ∙ c.if-is_err-4.false) c.push_totals.ensures in
+    let more = printing_more _ _ _ _ _ _ _ _ c.loop-entry.invariant (last_entry es c.loop-entry.entry-index sums (omega arith)) (c.deref.ensures.value ∙ pushed) in
     printing_failed _ _ _ _ _ _ more (failed_of _ _ _ (sym c.is_err-3.ensures.value ∙ c.if-is_err-5.true) c.write_all.ensures.ends)
 
 pub returns-clause-ends : goal.returns-clause-ends
 returns-clause-ends g c =
     let es = c.args.entries.now in
-    let stats = stats_line (512 * host_blocks es) (512 * media_blocks es) 0 in
-    let pushed = pushed_of _ (sym c.is_err-2.ensures.value ∙ c.if-is_err-4.false) c.push_stats.ensures in
-    let more = printing_more _ _ _ _ _ _ _ _ c.loop-entry.invariant (last_entry es c.loop-entry.entry-index stats (omega arith)) (c.deref.ensures.value ∙ pushed ∙ ap (λ line. c.loop-entry.text.items ++ line) (ap (λ h. stats_line (512 * h) (512 * c.media_blocks-media.result) 0) c.host_blocks-host.ensures ∙ ap (λ m. stats_line (512 * host_blocks es) (512 * m) 0) c.media_blocks-media.ensures)) in
+    let sums = totals_line c.args.config.now c.args.totals in
+    let pushed = pushed_of _ (sym c.is_err-2.ensures.value ∙ c.if-is_err-4.false) c.push_totals.ensures in
+    let more = printing_more _ _ _ _ _ _ _ _ c.loop-entry.invariant (last_entry es c.loop-entry.entry-index sums (omega arith)) (c.deref.ensures.value ∙ pushed) in
     printing_whole _ _ (g.K.Sink.state c.write_all.new.sink) _ _ more (done_of _ _ _ (sym c.is_err-3.ensures.value ∙ c.if-is_err-5.false) c.write_all.ensures.ends)

@@ -1,12 +1,12 @@
-use Rattle.std.proofs.Common.{◌*◌, ◌++◌, drop, flat_map}
-use Rattle.fdp_base.specs.FixedDrive.{output_of}
-use Rattle.fdp_base.specs.Output.{completion_of, stats_line}
-use Rattle.fdp_base.specs.Totals.{host_blocks, media_blocks}
+use Rattle.std.proofs.Common.{◌++◌, drop, flat_map}
+use Rattle.fdp_base.specs.Output.{completion_of}
+use Rattle.fdp_base.specs.RunOutput.{totals_line}
+use Rattle.fdp_cli.specs.OutputText.{printed_text}
 use Rattle.fdp_cli.proofs.Printed.{IsPrinting}
 use Rattle.fdp_cli.proofs.print.print_output.Given as goal
 
 abbrev pub invariant-loop-entry : goal.invariant-loop-entry
 invariant-loop-entry g l =
     IsPrinting (g.K.Sink.state l.initial.sink) (g.K.Sink.state l.sink) l.text.items
-    (flat_map (completion_of 1) (drop l.entry-index l.entries) ++ stats_line (512 * host_blocks l.entries) (512 * media_blocks l.entries) 0)
-    (output_of l.entries)
+    (flat_map (completion_of 1) (drop l.entry-index l.entries) ++ totals_line l.config l.totals)
+    (printed_text l.config l.entries)

@@ -1,36 +1,47 @@
-use Rattle.std.proofs.Common.{length, refl, ap, inl, inr, arith}
+use Rattle.std.proofs.Common.{All, ap, inl, inr, refl, subst, sym}
+use Rattle.fdp_base.specs.declared.config.DriveConfig.{DriveConfig}
 use Rattle.fdp_core.specs.Seen.{Seen}
-use Rattle.fdp_core.proofs.Idle.{idle_fresh}
-use Rattle.fdp_cli.proofs.Shown.{printed_front, printed_some, recorded, served_whole, small_host_sum, small_media_sum}
+use Rattle.fdp_flash.specs.FlashMem.{state_of}
+use Rattle.fdp_cli.specs.Servable.{IsServable}
+use Rattle.fdp_cli.proofs.Shown.{begun_blank, idle_fresh, printed_front, printed_some, recorded, served_small, served_whole}
 use Rattle.fdp_cli.proofs.top.run.Goals as goal
 
+pub fresh-requires-clause-blank : goal.fresh-requires-clause-blank
+fresh-requires-clause-blank g c told = (begun_blank c.args.config.now c.geometry.result c.empty.result c.in-Ok.flash c.geometry.ensures.value c.in-Ok.ensures.begins).cells_are
+
+pub serve-requires-clause-servable : goal.serve-requires-clause-servable
+serve-requires-clause-servable g c =
+    subst (λ (x : DriveConfig). All (IsServable x) c.args.trace.now) (sym (ap (λ (s : Seen _). s.book.config) c.in-Ok-fresh.ensures)) c.requires.servable
+
 pub serve-requires-clause-idle : goal.serve-requires-clause-idle
-serve-requires-clause-idle g c = idle_fresh _ (ap (λ (s : Seen _). s.entries) c.in-Ok-fixed.ensures)
+serve-requires-clause-idle g c = idle_fresh c.args.config.now c.in-Ok.flash c.in-Ok-fresh.group c.in-Ok-fresh.ensures
 
-pub print_output-requires-clause-host : goal.print_output-requires-clause-host
-print_output-requires-clause-host g c =
+pub print_output-requires-clause-small : goal.print_output-requires-clause-small
+print_output-requires-clause-small g c =
     let served = served_whole _ _ _ _ _ c.in-Ok-Whole.field-0-is c.in-Ok-Whole.ensures in
-    small_host_sum _ _ _ _ (length c.args.trace.now) c.entries.ensures.legal c.entries.ensures.entries c.entries.ensures.few (omega (arith, served.steps, ap (λ (s : Seen _). s.spent) c.in-Ok-fixed.ensures)) c.requires.few
-
-pub print_output-requires-clause-media : goal.print_output-requires-clause-media
-print_output-requires-clause-media g c =
-    let served = served_whole _ _ _ _ _ c.in-Ok-Whole.field-0-is c.in-Ok-Whole.ensures in
-    small_media_sum _ _ (length c.args.trace.now) c.entries.ensures.few (omega (arith, served.steps, ap (λ (s : Seen _). s.spent) c.in-Ok-fixed.ensures)) c.requires.few
+    served_small _ c.args.config.now c.in-Ok.flash c.in-Ok-fresh.group c.serve.new.group c.args.trace.now c.entries.result.now c.totals.result
+    c.in-Ok-fresh.ensures served c.entries.ensures.entries c.entries.ensures.few c.requires.few c.entries.ensures.legal c.totals.ensures
 
 pub returns-in-Ok-print_output : goal.returns-in-Ok-print_output
 returns-in-Ok-print_output g c =
-    let record_is = recorded c.empty.result c.in-Ok.flash c.in-Ok-fixed.group c.serve.new.group c.args.trace.now c.in-Ok-Whole.field-0 c.entries.result.now
-    c.in-Ok.ensures.begins c.empty.ensures c.in-Ok-fixed.ensures c.in-Ok-Whole.field-0-is c.in-Ok-Whole.ensures c.entries.ensures.entries c.entries.ensures.few c.requires.few in
+    let begins = begun_blank c.args.config.now c.geometry.result c.empty.result c.in-Ok.flash c.geometry.ensures.value c.in-Ok.ensures.begins in
+    let served = served_whole _ _ _ _ _ c.in-Ok-Whole.field-0-is c.in-Ok-Whole.ensures in
+    let record_is = recorded c.args.config.now c.empty.result c.in-Ok.flash c.in-Ok-fresh.group c.serve.new.group c.args.trace.now c.entries.result.now
+    begins c.empty.ensures c.in-Ok-fresh.ensures served c.entries.ensures.entries c.entries.ensures.few c.requires.few in
     inl (refl, (c.entries.result.now, record_is, c.in-Ok-print_output.ensures.ends))
 
 pub returns-in-Err-Sink : goal.returns-in-Err-Sink
 returns-in-Err-Sink g c =
-    let record_is = recorded c.empty.result c.in-Ok.flash c.in-Ok-fixed.group c.serve.new.group c.args.trace.now c.in-Ok-Whole.field-0 c.entries.result.now
-    c.in-Ok.ensures.begins c.empty.ensures c.in-Ok-fixed.ensures c.in-Ok-Whole.field-0-is c.in-Ok-Whole.ensures c.entries.ensures.entries c.entries.ensures.few c.requires.few in
+    let begins = begun_blank c.args.config.now c.geometry.result c.empty.result c.in-Ok.flash c.geometry.ensures.value c.in-Ok.ensures.begins in
+    let served = served_whole _ _ _ _ _ c.in-Ok-Whole.field-0-is c.in-Ok-Whole.ensures in
+    let record_is = recorded c.args.config.now c.empty.result c.in-Ok.flash c.in-Ok-fresh.group c.serve.new.group c.args.trace.now c.entries.result.now
+    begins c.empty.ensures c.in-Ok-fresh.ensures served c.entries.ensures.entries c.entries.ensures.few c.requires.few in
     inr (inl (refl, (c.entries.result.now, record_is, printed_front _ _ _ _ c.in-Err-Sink.field-0-is c.in-Err-Sink.ensures.ends)))
 
 pub returns-in-Ok-Whole : goal.returns-in-Ok-Whole
 returns-in-Ok-Whole g c =
-    let record_is = recorded c.empty.result c.in-Ok.flash c.in-Ok-fixed.group c.serve.new.group c.args.trace.now c.in-Ok-Whole.field-0 c.entries.result.now
-    c.in-Ok.ensures.begins c.empty.ensures c.in-Ok-fixed.ensures c.in-Ok-Whole.field-0-is c.in-Ok-Whole.ensures c.entries.ensures.entries c.entries.ensures.few c.requires.few in
+    let begins = begun_blank c.args.config.now c.geometry.result c.empty.result c.in-Ok.flash c.geometry.ensures.value c.in-Ok.ensures.begins in
+    let served = served_whole _ _ _ _ _ c.in-Ok-Whole.field-0-is c.in-Ok-Whole.ensures in
+    let record_is = recorded c.args.config.now c.empty.result c.in-Ok.flash c.in-Ok-fresh.group c.serve.new.group c.args.trace.now c.entries.result.now
+    begins c.empty.ensures c.in-Ok-fresh.ensures served c.entries.ensures.entries c.entries.ensures.few c.requires.few in
     inr (inr (inl (refl, (c.entries.result.now, record_is, printed_some _ _ _ _ c.in-Err-NoMemory.field-0-is c.in-Err-NoMemory.ensures.ends))))
