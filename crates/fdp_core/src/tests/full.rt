@@ -18,7 +18,12 @@ fn fill(
     for turn in 0..24u32 {
         let unit = first + turn / 2;
         let page = turn % 2 * 4;
-        let line = format!(in alloc; "{start} p{unit}.{page} p{unit}.{} p{unit}.{} p{unit}.{} ok", page + 1, page + 2, page + 3)?;
+        let line = format!(in alloc;
+            "{start} p{unit}.{page} p{unit}.{} p{unit}.{} p{unit}.{} ok",
+            page + 1,
+            page + 2,
+            page + 3
+        )?;
         play_line(rt, alloc, game, &line)?;
     }
     let line = format!(in alloc; "{start} 0/81")?;
@@ -50,7 +55,12 @@ fn each_unit_of_two_groups_is_used_once(rt: HostRuntime) -> Result<(), Fail> {
     for unit in 1..12u32 {
         for half in 0..2u32 {
             let page = half * 4;
-            let line = format!(in alloc; "write 4 4 5 pid 0 -> s0.2+ p{unit}.{page} p{unit}.{} p{unit}.{} p{unit}.{} ok", page + 1, page + 2, page + 3)?;
+            let line = format!(in alloc;
+                "write 4 4 5 pid 0 -> s0.2+ p{unit}.{page} p{unit}.{} p{unit}.{} p{unit}.{} ok",
+                page + 1,
+                page + 2,
+                page + 3
+            )?;
             play_line(&rt, alloc, &mut game, &line)?;
         }
     }

@@ -84,7 +84,11 @@ fn sixteen_writes_go_on_at_once(rt: HostRuntime) -> Result<(), Fail> {
     let alloc = rt.alloc();
     let mut game = game_on(alloc, sixteen_queues(alloc)?)?;
     for queue in 1..17u32 {
-        let line = format!(in alloc; "q{queue} start write {} 4 {} -> s0.0+", 4 * queue, 100 * queue)?;
+        let line = format!(in alloc;
+            "q{queue} start write {} 4 {} -> s0.0+",
+            4 * queue,
+            100 * queue
+        )?;
         play_line(&rt, alloc, &mut game, &line)?;
     }
     for index in 0..4u32 {
@@ -100,7 +104,13 @@ fn sixteen_writes_go_on_at_once(rt: HostRuntime) -> Result<(), Fail> {
     }
     for queue in 1..17u32 {
         let seed = 100 * queue;
-        let line = format!(in alloc; "read {} 4 -> {seed},{},{},{}", 4 * queue, seed + 1, seed + 2, seed + 3)?;
+        let line = format!(in alloc;
+            "read {} 4 -> {seed},{},{},{}",
+            4 * queue,
+            seed + 1,
+            seed + 2,
+            seed + 3
+        )?;
         play_line(&rt, alloc, &mut game, &line)?;
     }
     Ok(())

@@ -65,12 +65,7 @@ pub fn play_line(rt: &impl Abort, alloc: Global, game: &mut Game, line: &str) ->
     Ok(())
 }
 
-fn play_words(
-    rt: &impl Abort,
-    alloc: Global,
-    game: &mut Game,
-    words: &[&str],
-) -> Result<(), Fail> {
+fn play_words(rt: &impl Abort, alloc: Global, game: &mut Game, words: &[&str]) -> Result<(), Fail> {
     let [first, rest @ ..] = words else {
         return Err(Fail::new(format_args!("no words")));
     };

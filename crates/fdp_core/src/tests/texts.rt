@@ -21,7 +21,10 @@ fn word_of(alloc: Global, entry: &Entry, block: u32) -> Result<String, AllocErro
     match entry {
         Entry::Host { reply, .. } => reply_text(alloc, reply, block),
         Entry::Started {
-            rg, ruh, pid_valid, ..
+            rg,
+            ruh,
+            pid_valid,
+            ..
         } => {
             let sign = if *pid_valid { '+' } else { '-' };
             format!(in alloc; "s{rg}.{ruh}{sign}")
