@@ -12,7 +12,7 @@ use Rattle.fdp_base.specs.CommandKinds.{IsWellFormed, Write, is_write, write_of}
 use Rattle.fdp_base.specs.PlainState.{PlainState}
 use Rattle.fdp_base.specs.Point.{Point}
 use Rattle.fdp_base.specs.Refusal.{Check, checks_of, first_that_holds, is_present, refusal_of}
-use Rattle.fdp_base.specs.Room.{handles_in_force, namespace_ids, size_of}
+use Rattle.fdp_base.specs.Room.{handles_in_force, handles_of, namespace_ids, size_of}
 use Rattle.fdp_base.specs.Totals.{blocks_written}
 
 -- none of these checks holds
@@ -83,6 +83,14 @@ accepted-feature c p group enable index e =
     let past : nat_le (length c.fdp) index ≡ false = (or_parts _ _ held.0).1 in
     (leb-false (length c.fdp) index past, held.1.0)
 
+-- Set Features for events names a placement handle of a namespace
+pub accepted-events : (c : DriveConfig) (p : Point) (nsid handle : ℕ) (enable : Bool) (types : List ℕ) → refusal_of c p (commands.SetEvents nsid handle enable types) ≡ None → handle < length (handles_of p.state nsid)
+unfolding checks_of
+accepted-events c p nsid handle enable types e =
+    let held = passes c p (commands.SetEvents nsid handle enable types) e in
+    let past : nat_le (length (handles_of p.state nsid)) handle ≡ false = (or_parts _ _ held.1.1.0).0 in
+    leb-false (length (handles_of p.state nsid)) handle past
+
 -- no element passes
 none-passes : (test : ℕ → Bool) (xs : List ℕ) → list_any test xs ≡ false → All (λ x. test x ≡ false) xs
 none-passes test [] e = All-nil (λ x. test x ≡ false)
@@ -95,6 +103,9 @@ pub record IsAcceptedCreate (c : DriveConfig) (s : PlainState) (size : ℕ) (lis
   pub number : length list ≤ 16
   pub free : list_all (is_present s) namespace_ids ≡ false
 
+some-blocks : (size : ℕ) → (size == 0) ≡ false → 1 ≤ size
+some-blocks size empty = let nonzero : size ≡ 0 → ⊥ = eqb-false size 0 empty in omega (arith, nonzero)
+
 pub accepted-create : (c : DriveConfig) (p : Point) (size : ℕ) (given : Bool) (list : List ℕ) → refusal_of c p (commands.Create size given list) ≡ None → IsAcceptedCreate c p.state size list
 unfolding checks_of
 accepted-create c p size given list e =
@@ -102,9 +113,8 @@ accepted-create c p size given list e =
     let empty : (size == 0) ≡ false = (or_parts _ _ held.0).0 in
     let known : list_any (nat_le (handles_in_force c p.state)) list ≡ false = (or_parts _ _ (or_parts _ _ held.1.0).0).0 in
     let many : nat_lt 16 (length list) ≡ false = (or_parts _ _ held.1.0).1 in
-    let nonzero : size ≡ 0 → ⊥ = eqb-false size 0 empty in
     record {
-      size_is = omega (arith, nonzero);
+      size_is = some-blocks size empty;
       handles = none-passes (nat_le (handles_in_force c p.state)) list known;
       number = ltb-false 16 (length list) many;
       free = held.1.1.0;

@@ -104,7 +104,7 @@ effect-rest c s queue (commands.Other admin opcode flags feature) = record { pos
 -- ---- a completed command
 
 -- the writes that are going after a command
-fewer-going : (s : PlainState) (queue : ℕ) (b : Bool) (i : ℕ) (g : Going) → (if b then with_at s.going queue None else s.going) i ≡ Some g → s.going i ≡ Some g
+pub fewer-going : (s : PlainState) (queue : ℕ) (b : Bool) (i : ℕ) (g : Going) → (if b then with_at s.going queue None else s.going) i ≡ Some g → s.going i ≡ Some g
 fewer-going s queue true i g e = with_at-each s.going queue None (λ k o. o ≡ Some g → s.going k ≡ Some g) (λ none. absurd cc) (λ k ne some. some) i e
 fewer-going s queue false i g e = e
 

@@ -15,6 +15,7 @@ use Rattle.fdp_base.specs.PlainState.{Namespace, PlainState}
 use Rattle.fdp_base.specs.Sites.{trail_of}
 use Rattle.fdp_history.specs.Orderly.{IsOrderly, IsOrderlyCopy}
 use Rattle.fdp_history.specs.OrderlyState.{IsOrderlyNamespace, IsOrderlyState}
+use Rattle.fdp_history.specs.Standing.{IsStanding}
 use Rattle.fdp_history.specs.Summed.{IsSummed}
 use Rattle.fdp_history.proofs.References.{no_reference-orderly}
 use Rattle.fdp_history.proofs.Spaces.{in_force-within}
@@ -90,3 +91,8 @@ orderly-fresh c valid = record {
 pub summed-fresh : (c : DriveConfig) → IsSummed (point_of c (fresh c) [])
 unfolding point_of totals_of fresh
 summed-fresh c = record { host_blocks = omega arith; media_blocks = omega arith; erases = omega arith }
+
+-- no block is there at the beginning, and no write is going
+pub standing-fresh : (c : DriveConfig) → IsStanding c (point_of c (fresh c) [])
+unfolding point_of state_of first_state fresh
+standing-fresh c = record { blocks = λ nsid lba b e. absurd cc; writes = λ queue index g spot going site. absurd cc }

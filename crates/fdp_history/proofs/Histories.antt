@@ -11,9 +11,11 @@ use Rattle.fdp_base.specs.Point.{Point}
 use Rattle.fdp_base.specs.Step.{Follows}
 use Rattle.fdp_base.proofs.Pushes.{point_of-push}
 use Rattle.fdp_history.specs.Orderly.{IsOrderly}
+use Rattle.fdp_history.specs.Standing.{IsStanding}
 use Rattle.fdp_history.specs.Summed.{IsSummed}
-use Rattle.fdp_history.proofs.Fresh.{orderly-fresh, summed-fresh}
+use Rattle.fdp_history.proofs.Fresh.{orderly-fresh, standing-fresh, summed-fresh}
 use Rattle.fdp_history.proofs.Points.{orderly-next}
+use Rattle.fdp_history.proofs.Standing.{standing-next}
 use Rattle.fdp_history.proofs.Sums.{summed-next}
 
 module _ (P : Point → Type 0) (told : Bool) (c : DriveConfig) (f : Found) (keeps : (p : Point) (e : Entry) → P p → Follows told c p e → P (next c p e)) where
@@ -36,3 +38,8 @@ orderly-legal told c es valid legal = holds-legal (IsOrderly c) told c (fresh c)
 pub summed-legal : (told : Bool) (c : DriveConfig) (es : List Entry) → IsValidConfig c → IsLegal told c (fresh c) es → IsSummed (point_of c (fresh c) es)
 summed-legal told c es valid legal =
     (holds-legal (λ p. IsOrderly c p × IsSummed p) told c (fresh c) (λ p e h step. (orderly-next told c p e valid h.0 step, summed-next told c p e valid h.0 h.1 step)) (orderly-fresh c valid, summed-fresh c) es legal).1
+
+-- each block stands in its group
+pub standing-legal : (told : Bool) (c : DriveConfig) (es : List Entry) → IsValidConfig c → IsLegal told c (fresh c) es → IsStanding c (point_of c (fresh c) es)
+standing-legal told c es valid legal =
+    (holds-legal (λ p. IsOrderly c p × IsStanding c p) told c (fresh c) (λ p e h step. (orderly-next told c p e valid h.0 step, standing-next told c p e h.0 h.1 step)) (orderly-fresh c valid, standing-fresh c) es legal).1

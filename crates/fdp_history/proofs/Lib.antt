@@ -13,5 +13,11 @@ pub mod States
 pub mod Trails
 pub mod Points
 pub mod Fresh
-pub mod Histories
 pub mod Sums
+pub mod Written
+pub mod Groups
+pub mod StandingWrites
+pub mod StandingPages
+pub mod Standing
+pub mod Histories
+pub mod Bounds

@@ -37,7 +37,7 @@ going_with-is c s queue ticket g h low high e same =
 -- ---- the going writes
 
 -- a write after a page was placed: with one page more where it has the ticket
-read-placed : (s : PlainState) (ticket queue : ℕ) (g : Going) → placed_going s ticket queue ≡ Some g → (x : Going) × (s.going queue ≡ Some x) × (((x.ticket ≡ ticket) × (g ≡ one_more_placed x)) ⊎ (g ≡ x))
+pub read-placed : (s : PlainState) (ticket queue : ℕ) (g : Going) → placed_going s ticket queue ≡ Some g → (x : Going) × (s.going queue ≡ Some x) × (((x.ticket ≡ ticket) × (g ≡ one_more_placed x)) ⊎ (g ≡ x))
 read-placed s ticket queue g e =
     let P : Bool → Type 0 = λ b. holds_ticket s ticket queue ≡ b → cond b (option_map one_more_placed (s.going queue)) (s.going queue) ≡ Some g → (x : Going) × (s.going queue ≡ Some x) × (((x.ticket ≡ ticket) × (g ≡ one_more_placed x)) ⊎ (g ≡ x)) in
     elim (holds_ticket s ticket queue) as P [

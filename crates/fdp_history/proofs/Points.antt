@@ -1,12 +1,13 @@
 -- What each entry that may follow leaves of what stands.
-use Rattle.std.proofs.Common.{◌≡◌, ℕ, ◌+◌, Bool, true, false, ap, sym, ◌∙◌}
-use Rattle.std.specs.Prelude.{IsFalse}
+use Rattle.std.proofs.Common.{eq-eqb, refl, ◌≡◌, ℕ, ◌+◌, Bool, true, false, ap, sym, ◌∙◌}
+use Rattle.std.specs.Prelude.{IsFalse, IsTrue, None}
 use Rattle.fdp_base.specs.declared.command.Command.{Command}
 use Rattle.fdp_base.specs.declared.config.DriveConfig.{DriveConfig}
 use Rattle.fdp_base.specs.declared.entry.Entry.{Entry}
 use Rattle.fdp_base.specs.declared.entry.Entry.TheVariants as entries
 use Rattle.fdp_base.specs.declared.entry.Reply.{Reply}
-use Rattle.fdp_base.specs.Change.{after}
+use Rattle.fdp_base.specs.Change.{after, changed_by}
+use Rattle.fdp_base.specs.CommandKinds.{is_write}
 use Rattle.fdp_base.specs.Config.{IsValidConfig}
 use Rattle.fdp_base.specs.Next.{next}
 use Rattle.fdp_base.specs.Point.{Point}
@@ -41,3 +42,8 @@ orderly-ended c p queue number command reply moment h unmade = record {
   sites = λ t i spot e. site-later c p.state.position t i spot (h.sites t i spot e);
   copies = h.copies;
 }
+
+-- after the end of a write none is going in its queue
+pub ended-idle : (c : DriveConfig) (p : Point) (queue number : ℕ) (command : Command) (reply : Reply) (moment : ℕ) → IsTrue (is_write command) → (next c p (entries.Host queue number command reply moment)).state.going queue ≡ None
+unfolding next after changed_by
+ended-idle c p queue number command reply moment write = rw (write, eq-eqb queue queue refl) refl

@@ -113,7 +113,7 @@ none-is None e = refl
 none-is (Some x) e = absurd cc
 
 -- the lowest free identifier is one of sixteen, and no namespace has it
-free-is : (s : PlainState) → list_all (is_present s) namespace_ids ≡ false → (nsid : ℕ) × (lowest_free s ≡ Some nsid) × (s.namespaces nsid ≡ None) × IsWithin 1 16 nsid
+pub free-is : (s : PlainState) → list_all (is_present s) namespace_ids ≡ false → (nsid : ℕ) × (lowest_free s ≡ Some nsid) × (s.namespaces nsid ≡ None) × IsWithin 1 16 nsid
 unfolding namespace_ids
 free-is s some =
     let found = find-absent s.namespaces 1 16 some in

@@ -34,7 +34,7 @@ birth-bound c s h nsid =
     elim (s.namespaces nsid) as P [ None ↦ λ _. omega arith | Some n ↦ λ e. (h.namespaces nsid n e).birth ] refl
 
 -- a write that is going after one was let go: that one, or one that was going before
-read-started : (s : PlainState) (queue i : ℕ) (new g : Going) → with_at s.going queue (Some new) i ≡ Some g → ((i ≡ queue) × (new ≡ g)) ⊎ (s.going i ≡ Some g)
+pub read-started : (s : PlainState) (queue i : ℕ) (new g : Going) → with_at s.going queue (Some new) i ≡ Some g → ((i ≡ queue) × (new ≡ g)) ⊎ (s.going i ≡ Some g)
 read-started s queue i new g e = with_at-each s.going queue (Some new) (λ k o. o ≡ Some g → ((k ≡ queue) × (new ≡ g)) ⊎ (s.going k ≡ Some g)) (λ some. inl (refl, cc)) (λ k ne some. inr some) i e
 
 started-going : (c : DriveConfig) (p : Point) (queue number : ℕ) (command : Command) (rg ruh : ℕ) (pid_valid : Bool) → IsValidConfig c → IsStarted c p queue command rg ruh pid_valid → IsOrderlyState c p.state → IsOrderlyGoing c (later p.state) queue (started c p.state number command rg ruh pid_valid)

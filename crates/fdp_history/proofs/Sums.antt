@@ -1,5 +1,6 @@
 -- What each entry that may follow adds to the sums.
 use Rattle.std.proofs.Common.{◌≡◌, ℕ, ◌≤◌, Bool, true, false, cond, refl, ap, arith}
+use Rattle.std.specs.Prelude.{IsFalse}
 use Rattle.fdp_base.specs.declared.command.Command.{Command}
 use Rattle.fdp_base.specs.declared.command.Command.TheVariants as commands
 use Rattle.fdp_base.specs.declared.config.DriveConfig.{DriveConfig}
@@ -69,4 +70,15 @@ summed-next told c p e valid h sums step =
       host_blocks = omega (arith, sums.host_blocks, one.host);
       media_blocks = omega (arith, sums.media_blocks, one.media);
       erases = omega (arith, sums.erases, one.erased);
+    }
+
+-- so does the end of a command whose change was not made
+pub summed-ended : (c : DriveConfig) (p : Point) (queue number : ℕ) (command : Command) (reply : Reply) (moment : ℕ) → IsSummed p → IsFalse reply.applied → IsSummed (next c p (entries.Host queue number command reply moment))
+unfolding next
+summed-ended c p queue number command reply moment sums unmade =
+    let none : host_blocks_of (entries.Host queue number command reply moment) ≡ 0 = ap (λ (b : Bool). cond b (blocks_written command) 0) unmade in
+    record {
+      host_blocks = omega (arith, sums.host_blocks, none);
+      media_blocks = omega (arith, sums.media_blocks);
+      erases = omega (arith, sums.erases);
     }

@@ -27,11 +27,11 @@ site-later c position ticket index spot h = record { ticket_is = (h.ticket_is.0,
 
 -- ---- a pass
 
-all-last_run : (P : Copy → Type 0) (xs : List Copy) → All P xs → All P (last_run xs)
+pub all-last_run : (P : Copy → Type 0) (xs : List Copy) → All P xs → All P (last_run xs)
 all-last_run P [] h = All-nil P
 all-last_run P (x ∷ xs) h = elim (ascends (x ∷ xs)) as (λ b. All P (cond b (x ∷ xs) (last_run xs))) [ true ↦ h | false ↦ all-last_run P xs (All-tail P x xs h) ]
 
-find-all : (P : Copy → Type 0) (test : Copy → Bool) (xs : List Copy) (x : Copy) → All P xs → find test xs ≡ Some x → P x × (test x ≡ true)
+pub find-all : (P : Copy → Type 0) (test : Copy → Bool) (xs : List Copy) (x : Copy) → All P xs → find test xs ≡ Some x → P x × (test x ≡ true)
 find-all P test [] x h e = absurd cc
 find-all P test (y ∷ ys) x h e =
     let Q : Bool → Type 0 = λ b. test y ≡ b → cond b (Some y) (find test ys) ≡ Some x → P x × (test x ≡ true) in
@@ -41,7 +41,7 @@ find-all P test (y ∷ ys) x h e =
     ] refl e
 
 -- a page moves to its copy, or stays
-moved-page : (c : DriveConfig) (rg : ℕ) (pass : List Copy) (spot : Spot) → All (IsOrderlyCopy c rg) pass → IsPage c spot → IsPage c (moved_by pass spot)
+pub moved-page : (c : DriveConfig) (rg : ℕ) (pass : List Copy) (spot : Spot) → All (IsOrderlyCopy c rg) pass → IsPage c spot → IsPage c (moved_by pass spot)
 moved-page c rg pass spot copies page =
     let P : Option Copy → Type 0 = λ o. find (λ (x : Copy). is_spot x.from spot) pass ≡ o → IsPage c (option_map_or (λ (x : Copy). x.to) o spot) in
     elim (find (λ (x : Copy). is_spot x.from spot) pass) as P [
@@ -50,12 +50,12 @@ moved-page c rg pass spot copies page =
     ] refl
 
 -- what stood at a page before it moved
-was-before : (f : Spot → Spot) (o : Option Spot) (spot : Spot) → option_map f o ≡ Some spot → (old : Spot) × (o ≡ Some old) × (f old ≡ spot)
+pub was-before : (f : Spot → Spot) (o : Option Spot) (spot : Spot) → option_map f o ≡ Some spot → (old : Spot) × (o ≡ Some old) × (f old ≡ spot)
 was-before f None spot e = absurd cc
 was-before f (Some old) spot e = (old, refl, cc)
 
 -- what stands outside of a unit stood there before
-stood-before : (unit : ℕ) (o : Option Spot) (spot : Spot) → option_and_then (outside unit) o ≡ Some spot → o ≡ Some spot
+pub stood-before : (unit : ℕ) (o : Option Spot) (spot : Spot) → option_and_then (outside unit) o ≡ Some spot → o ≡ Some spot
 stood-before unit None spot e = e
 stood-before unit (Some old) spot e = (elim (old.unit == unit) as (λ b. cond b None (Some old) ≡ Some spot → Some old ≡ Some spot) [ true ↦ λ none. absurd cc | false ↦ λ some. some ]) e
 

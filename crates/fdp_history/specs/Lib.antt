@@ -1,3 +1,4 @@
-pub mod Orderly
 pub mod OrderlyState
+pub mod Orderly
 pub mod Summed
+pub mod Standing

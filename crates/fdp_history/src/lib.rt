@@ -3,4 +3,7 @@
 
 mod laws;
 
-pub use laws::{fresh_histories_are_summed, legal_histories_are_orderly};
+pub use laws::{
+    blocks_stand_in_their_groups, fresh_histories_are_summed, legal_histories_are_orderly,
+    steps_keep_order, unmade_changes_keep_order,
+};
