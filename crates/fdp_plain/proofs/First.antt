@@ -10,7 +10,7 @@ use Rattle.fdp_base.specs.Point.{Point}
 use Rattle.fdp_tables.specs.declared.state.Kept.{Kept}
 use Rattle.fdp_tables.specs.Fresh.{IsFresh}
 use Rattle.fdp_tables.specs.State.{plain_of}
-use Rattle.fdp_plain.specs.Standing.{IsStanding}
+use Rattle.fdp_plain.specs.Telling.{TellsHistory}
 
 none_of_none : (es : List Entry) → length es ≡ 0 → es ≡ []
 none_of_none [] e = refl
@@ -26,9 +26,9 @@ first_going : (c : DriveConfig) (k : Kept) → IsFresh c k → (queue : ℕ) →
 unfolding point_of state_of first_state
 first_going c k h queue = ap (λ (p : Point). p.state.going queue) h.point
 
-pub first_standing : (c : DriveConfig) (k : Kept) → IsValidConfig c → IsFresh c k → IsStanding k
+pub first_history : (c : DriveConfig) (k : Kept) → IsValidConfig c → IsFresh c k → TellsHistory k
 unfolding IsLegalAfter
-first_standing c k valid h =
+first_history c k valid h =
     let config = sym h.config in
     let entries = sym (first_entries c k h) in
     record {

@@ -10,9 +10,9 @@ use Rattle.fdp_tables.specs.State.{plain_of, point_kept}
 use Rattle.fdp_plain.specs.declared.refused.Refused.{Refused}
 use Rattle.fdp_plain.specs.declared.refused.Refused.TheVariants as refusals
 use Rattle.fdp_plain.specs.Refusing.{IsCause, IsIllegalIn, IsRuleNumber}
-use Rattle.fdp_plain.specs.Standing.{IsStanding}
+use Rattle.fdp_plain.specs.Telling.{TellsHistory}
 
-module _ (k : Kept) (h : IsStanding k) (e : Entry) where
+module _ (k : Kept) (h : TellsHistory k) (e : Entry) where
   pub step_of : Follows true k.config (point_kept k) e → IsStep true k.config (fresh k.config) k.entries.items e
   step_of f = subst (λ (p : Point). Follows true k.config p e) h.point f
 

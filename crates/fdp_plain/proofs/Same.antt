@@ -19,7 +19,7 @@ use Rattle.fdp_tables.specs.declared.state.Kept.{Kept}
 use Rattle.fdp_tables.specs.State.{copies_at, copy_of, plain_of, point_kept, row, site_at}
 use Rattle.fdp_plain.specs.Reserved.{IsSame}
 use Rattle.fdp_plain.specs.Rows.{HasRows}
-use Rattle.fdp_plain.specs.Standing.{IsStanding}
+use Rattle.fdp_plain.specs.Telling.{TellsHistory}
 
 -- a page stands where it stood by the same rows, configuration and entries
 pub same_site : (k m : Kept) → m.sites.items ≡ k.sites.items → m.config ≡ k.config → m.entries.items ≡ k.entries.items → (name : PageName) → site_at m name ≡ site_at k name
@@ -95,14 +95,14 @@ module _ (k m : Kept) (h : IsSame k m) where
       subst HasRows (sym h.rest) there
 
   -- the tables still say what stands after the entries
-  pub same_standing : IsStanding k → IsStanding m
-  same_standing standing =
+  pub same_history : TellsHistory k → TellsHistory m
+  same_history history =
       let config = same_config in
       let entries = h.entries in
-      let point = standing.point in
+      let point = history.point in
       record {
-        config = rw config standing.config;
-        rows = same_rows_there standing.rows;
-        point = same_point ∙ standing.point ∙ sym (ap (λ (c : DriveConfig). point_of c (fresh c) m.entries.items) config ∙ ap (point_of k.config (fresh k.config)) entries);
-        legal = rw (config, entries) standing.legal;
+        config = rw config history.config;
+        rows = same_rows_there history.rows;
+        point = same_point ∙ history.point ∙ sym (ap (λ (c : DriveConfig). point_of c (fresh c) m.entries.items) config ∙ ap (point_of k.config (fresh k.config)) entries);
+        legal = rw (config, entries) history.legal;
       }

@@ -16,7 +16,7 @@ use Rattle.fdp_history.specs.Summed.{IsSummed}
 use Rattle.fdp_history.proofs.Histories.{orderly-legal, summed-legal}
 use Rattle.fdp_history.proofs.Starting.{birth-bound}
 use Rattle.fdp_plain.specs.Rows.{HasRows}
-use Rattle.fdp_plain.specs.Standing.{IsStanding}
+use Rattle.fdp_plain.specs.Telling.{TellsHistory}
 
 -- at most sixteen handles, each below sixteen
 record AreFew (handles : List ℕ) : Type 0 where
@@ -76,9 +76,9 @@ sound_of k valid rows h sums =
     }
 
 -- what stands is orderly
-pub standing_orderly : (k : Kept) → IsStanding k → IsOrderly k.config (point_kept k)
-standing_orderly k h = subst (IsOrderly k.config) (sym h.point) (orderly-legal true k.config k.entries.items h.config h.legal)
+pub history_orderly : (k : Kept) → TellsHistory k → IsOrderly k.config (point_kept k)
+history_orderly k h = subst (IsOrderly k.config) (sym h.point) (orderly-legal true k.config k.entries.items h.config h.legal)
 
 -- the tables of a plain drive are sound
-pub standing_sound : (k : Kept) → IsStanding k → IsSound k
-standing_sound k h = sound_of k h.config h.rows (standing_orderly k h) (subst IsSummed (sym h.point) (summed-legal true k.config k.entries.items h.config h.legal))
+pub history_sound : (k : Kept) → TellsHistory k → IsSound k
+history_sound k h = sound_of k h.config h.rows (history_orderly k h) (subst IsSummed (sym h.point) (summed-legal true k.config k.entries.items h.config h.legal))

@@ -23,7 +23,7 @@ use Rattle.fdp_tables.specs.State.{copies_at, plain_of, point_kept, site_at}
 use Rattle.fdp_plain.specs.Longer.{IsLonger, IsTraced}
 use Rattle.fdp_plain.specs.Prepared.{pages_of}
 use Rattle.fdp_plain.specs.Rows.{HasRows}
-use Rattle.fdp_plain.specs.Standing.{IsStanding}
+use Rattle.fdp_plain.specs.Telling.{TellsHistory}
 use Rattle.fdp_plain.proofs.Fitting.{with_change}
 use Rattle.fdp_plain.proofs.Rows.{places_from}
 use Rattle.fdp_plain.proofs.Same.{same_site}
@@ -32,13 +32,13 @@ use Rattle.fdp_plain.proofs.Same.{same_site}
 class_of-more : (p : Event → Bool) (old new : List Event) → latest (filter p (old ++ new)) ≡ latest (latest (filter p old) ++ filter p new)
 class_of-more p old new = ap latest (filter-append p old new) ∙ latest-append (filter p old) (filter p new)
 
-point-trail : (k : Kept) → IsStanding k → (point_kept k).trail ≡ trail_of k.config k.entries.items
+point-trail : (k : Kept) → TellsHistory k → (point_kept k).trail ≡ trail_of k.config k.entries.items
 unfolding point_of
 point-trail k h = ap (λ (p : Point). p.trail) h.point
 
 -- an entry whose change was made in a, whose trace in b, and which was counted and kept in m
 module _ (k a b m : Kept) (e : Entry) (events : List Event)
-    (standing : IsStanding k)
+    (history : TellsHistory k)
     (follows : Follows true k.config (point_kept k) e)
     (changed : plain_of a ≡ changed_by k.config (plain_of k) e)
     (rest : a ≡ with_change k a)
@@ -88,7 +88,7 @@ module _ (k a b m : Kept) (e : Entry) (events : List Event)
   site_is (found spot) =
       ap (λ (c : DriveConfig). (trail_of c m.entries.items).site (found spot)) config_is
       ∙ ap (λ (es : List Entry). (trail_of k.config es).site (found spot)) entries_are
-      ∙ ap (λ (t : Trail). t.site (found spot)) (trail_of-push k.config k.entries.items e ∙ ap (λ (t : Trail). traced_by k.config t e) (sym (point-trail k standing)))
+      ∙ ap (λ (t : Trail). t.site (found spot)) (trail_of-push k.config k.entries.items e ∙ ap (λ (t : Trail). traced_by k.config t e) (sym (point-trail k history)))
 
   copies_are : copies_at m ≡ (traced_by k.config (point_kept k).trail e).copies
   copies_are = ap copies_at longer.rest ∙ traced.copies ∙ ap (λ (t : Trail). t.copies) traced_is
@@ -138,14 +138,14 @@ module _ (k a b m : Kept) (e : Entry) (events : List Event)
   sites_are =
       ap (λ (x : Kept). length x.sites.items) longer.rest
       ∙ traced.site_rows
-      ∙ ap (λ (n : ℕ). n + 1) (as_many_sites ∙ standing.rows.sites ∙ sym count_is)
+      ∙ ap (λ (n : ℕ). n + 1) (as_many_sites ∙ history.rows.sites ∙ sym count_is)
 
   going_is : (plain_of m).going ≡ (changed_by k.config (plain_of k) e).going
   unfolding after
   going_is = ap (λ (s : PlainState). s.going) state_is
 
   pages_are : (queue : ℕ) (g : Going) → (plain_of m).going queue ≡ Some g → places_of m g.ticket ≡ Some (blocks_written g.command)
-  pages_are = places_from k.config k m e standing.rows going_is
+  pages_are = places_from k.config k m e history.rows going_is
       (λ ticket below.
       ap (λ (x : Kept). places_of x ticket) longer.rest
       ∙ traced.earlier ticket (subst (λ (n : ℕ). ticket < n) (sym as_many_sites) below)
@@ -154,7 +154,7 @@ module _ (k a b m : Kept) (e : Entry) (events : List Event)
 
   rows_are : HasRows m
   rows_are =
-      let old = standing.rows in
+      let old = history.rows in
       let config = config_is in
       let traced_rest = traced.rest in
       let longer_rest = longer.rest in
@@ -175,17 +175,17 @@ module _ (k a b m : Kept) (e : Entry) (events : List Event)
   longer_is : point_kept m ≡ point_of k.config (fresh k.config) (k.entries.items ++ e ∷ [])
   longer_is =
       point_is
-      ∙ ap (λ (p : Point). next k.config p e) standing.point
+      ∙ ap (λ (p : Point). next k.config p e) history.point
       ∙ sym (point_of-push k.config (fresh k.config) k.entries.items e)
 
-  pub taken : IsStanding m
+  pub taken : TellsHistory m
   taken =
       let config = sym config_is in
       let entries = sym entries_are in
-      let step : IsStep true k.config (fresh k.config) k.entries.items e = subst (λ (p : Point). Follows true k.config p e) standing.point follows in
-      let legal : IsLegal true k.config (fresh k.config) (k.entries.items ++ e ∷ []) = legal-push true k.config (fresh k.config) k.entries.items e standing.legal step in
+      let step : IsStep true k.config (fresh k.config) k.entries.items e = subst (λ (p : Point). Follows true k.config p e) history.point follows in
+      let legal : IsLegal true k.config (fresh k.config) (k.entries.items ++ e ∷ []) = legal-push true k.config (fresh k.config) k.entries.items e history.legal step in
       record {
-        config = subst IsValidConfig config standing.config;
+        config = subst IsValidConfig config history.config;
         rows = rows_are;
         point =
             longer_is

@@ -8,7 +8,7 @@ ghost use Rattle.fdp_tables.specs.State.{plain_of, point_kept};
 ghost use Rattle.fdp_plain.specs.Longer.{IsLonger, IsTraced};
 ghost use Rattle.fdp_plain.specs.Prepared.{IsPrepared};
 ghost use Rattle.fdp_plain.specs.Reserved.{HasSpare};
-ghost use Rattle.fdp_plain.specs.Standing.{IsStanding};
+ghost use Rattle.fdp_plain.specs.Telling.{TellsHistory};
 
 use crate::prepare::Prepared;
 use fdp_base::{Entry, Event, Spot};
@@ -16,12 +16,12 @@ use fdp_tables::Kept;
 
 /// Takes an entry that may follow, with the events that it makes. All that needs memory was made, so it cannot fail.
 pub(crate) fn commit(kept: &mut Kept, prepared: Prepared, events: &[Event])
-    requires standing { IsStanding kept.old }
+    requires history { TellsHistory kept.old }
     requires follows { Follows true kept.old.config (point_kept kept.old) prepared.entry }
     requires prepared { IsPrepared kept.old prepared }
     requires spare { HasSpare kept.old prepared.entry (length events.now) }
     requires events { events.now ≡ kept_of_entry kept.old.config (plain_of kept.old) prepared.entry }
-    ensures standing { IsStanding kept.new }
+    ensures history { TellsHistory kept.new }
     ensures config { kept.new.config ≡ kept.old.config }
     ensures entries { kept.new.entries.items ≡ kept.old.entries.items ++ prepared.entry ∷ [] }
 {

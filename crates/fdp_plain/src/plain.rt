@@ -16,13 +16,13 @@ pub struct Plain {
 
 impl Model for Plain {
     ghost use Rattle.fdp_plain.specs.Run.{Run};
-    ghost use Rattle.fdp_plain.specs.Standing.{IsStanding};
+    ghost use Rattle.fdp_plain.specs.Telling.{TellsHistory};
 
     ghost Value = { Run };
 
     ghost view = { λ plain. record { config = plain.kept.config; entries = plain.kept.entries.items } };
 
-    ghost invariant = { λ plain. IsStanding plain.kept };
+    ghost invariant = { λ plain. TellsHistory plain.kept };
 }
 
 impl Plain {

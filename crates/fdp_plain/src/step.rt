@@ -2,7 +2,7 @@ ghost use Rattle.std.specs.Prelude.{◌≡◌, ◌∷◌, ◌++◌, [], true, On
 ghost use Rattle.fdp_base.specs.Step.{Follows};
 ghost use Rattle.fdp_tables.specs.State.{plain_of, point_kept};
 ghost use Rattle.fdp_plain.specs.Refusing.{IsIllegalIn};
-ghost use Rattle.fdp_plain.specs.Standing.{IsStanding};
+ghost use Rattle.fdp_plain.specs.Telling.{TellsHistory};
 
 use crate::commit::commit;
 use crate::prepare::{kept_events, prepare};
@@ -14,9 +14,9 @@ use std::alloc::{AllocError, Global};
 
 /// Takes an entry that may follow. All that needs memory is made before anything changes.
 pub(crate) fn take_step(kept: &mut Kept, alloc: Global, entry: &Entry) -> Result<(), AllocError>
-    requires standing { IsStanding kept.old }
+    requires history { TellsHistory kept.old }
     requires follows { Follows true kept.old.config (point_kept kept.old) entry.now }
-    ensures standing { IsStanding kept.new }
+    ensures history { TellsHistory kept.new }
     ensures config { kept.new.config ≡ kept.old.config }
     ensures taken { OnOk result (kept.new.entries.items ≡ kept.old.entries.items ++ entry.now ∷ []) }
     ensures failed { OnErr result (kept.new.entries.items ≡ kept.old.entries.items) }

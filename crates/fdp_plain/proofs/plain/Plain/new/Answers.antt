@@ -3,11 +3,11 @@ use Rattle.fdp_base.specs.declared.config.DriveConfig.{DriveConfig}
 use Rattle.fdp_base.specs.declared.entry.Entry.{Entry}
 use Rattle.std.proofs.Common.{List}
 use Rattle.fdp_plain.specs.Run.{Run}
-use Rattle.fdp_plain.proofs.First.{first_entries, first_standing}
+use Rattle.fdp_plain.proofs.First.{first_entries, first_history}
 use Rattle.fdp_plain.proofs.plain.Plain.new.Goals as goal
 
 pub invariant_of-result : goal.invariant_of-result
-invariant_of-result c = first_standing c.args.config.now c.in_ok-fresh.field-0 c.requires c.in_ok-fresh.ensures
+invariant_of-result c = first_history c.args.config.now c.in_ok-fresh.field-0 c.requires c.in_ok-fresh.ensures
 
 pub returns : goal.returns
 returns c =

@@ -3,11 +3,11 @@ use Rattle.std.proofs.lemmas.Bool.{false≢true}
 use Rattle.fdp_base.specs.Step.{Follows}
 use Rattle.fdp_tables.specs.State.{point_kept}
 use Rattle.fdp_plain.proofs.Refusing.{cause_of}
-use Rattle.fdp_plain.proofs.Sound.{standing_sound}
+use Rattle.fdp_plain.proofs.Sound.{history_sound}
 use Rattle.fdp_plain.proofs.plain.Plain.take.Goals as goal
 
 pub judge-requires : goal.judge-requires
-judge-requires c = standing_sound c.self.inside.kept c.self.invariant
+judge-requires c = history_sound c.self.inside.kept c.self.invariant
 
 pub returns-else-branch-clause-cause : goal.returns-else-branch-clause-cause
 returns-else-branch-clause-cause c =

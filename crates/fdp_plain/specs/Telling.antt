@@ -7,8 +7,8 @@ use Rattle.fdp_tables.specs.declared.state.Kept.{Kept}
 use Rattle.fdp_tables.specs.State.{point_kept}
 use Rattle.fdp_plain.specs.Rows.{HasRows}
 
--- the entries are a legal history of a fresh drive, and the tables say what stands after them
-pub record IsStanding (k : Kept) : Type 0 where
+-- the entries are a legal history of a fresh drive, and the tables tell what stands after them
+pub record TellsHistory (k : Kept) : Type 0 where
   pub config : IsValidConfig k.config
   pub rows : HasRows k
   pub point : point_kept k ≡ point_of k.config (fresh k.config) k.entries.items
