@@ -1,5 +1,7 @@
 //! Tables that are played over a flash in memory. `tests/play.rt` says how a line of them reads. The expected answers come from
 //! the rules of the drive.
+ghost use Rattle.fdp_base.specs.Config.{IsValidConfig};
+
 mod commands;
 mod drives;
 mod failures;
