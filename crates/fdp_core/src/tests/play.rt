@@ -106,7 +106,9 @@ fn start(
 {
     let number = u16::try_from(game.group.entries().len())?;
     ready(rt, &mut game.group)?;
-    assert!(rt; 1 <= queue && queue <= game.group.config().queues);
+    let queues = game.group.config().queues;
+    assert!(rt; 1 <= queue);
+    assert!(rt; queue <= queues);
     assert!(rt; game.group.is_free(queue, number));
     let room = Room::new(alloc, &command, game.group.config())?;
     match game.group.start(queue, number, command, room) {
