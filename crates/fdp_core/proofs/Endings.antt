@@ -1,5 +1,5 @@
 -- A flight that ends.
-use Rattle.std.proofs.Common.{◌≡◌, ℕ, ◌<◌, Bool, true, false, List, length, slice_set, Option, Some, None, sym, ◌∙◌, ap, subst, arith, cond}
+use Rattle.std.proofs.Common.{◌≡◌, ℕ, Bool, true, List, slice_set, Option, Some, None, sym, ◌∙◌, ap, cond}
 use Rattle.std.specs.Prelude.{option_map}
 use Rattle.fdp_base.specs.declared.command.Command.{Command}
 use Rattle.fdp_base.specs.CommandKinds.{is_write}

@@ -1,10 +1,9 @@
 -- The flight of a ticket.
-use Rattle.std.proofs.Common.{◌≡◌, ◌≢◌, ℕ, zero, suc, ◌+◌, ◌<◌, ◌≤◌, Bool, true, false, IsTrue, List, [], ◌∷◌, length, slice_get, slice_index_or, Option, Some, None, refl, sym, ◌∙◌, ap, subst, arith}
+use Rattle.std.proofs.Common.{◌≡◌, ℕ, zero, suc, ◌+◌, ◌<◌, ◌≤◌, List, [], ◌∷◌, length, slice_index_or, Option, Some, None, refl, sym, ◌∙◌, ap, subst, arith}
 use Rattle.std.specs.Prelude.{IfSome, option_map}
 use Rattle.fdp_base.specs.CommandKinds.{Write, write_of}
 use Rattle.fdp_base.specs.PlainState.{Going, PlainState}
 use Rattle.fdp_base.specs.Room.{size_of}
-use Rattle.fdp_base.specs.Sites.{is_there}
 use Rattle.fdp_spaces.specs.SpaceTable.{SpaceTable}
 use Rattle.fdp_handles.specs.HandleTable.{HandleTable}
 use Rattle.fdp_map.specs.MapTable.{MapTable}
@@ -15,7 +14,7 @@ use Rattle.fdp_core.specs.declared.ticket.Ticket.{Ticket}
 use Rattle.fdp_core.specs.Book.{BookSeen, state_in}
 use Rattle.fdp_core.specs.BookSteps.{IsFlying}
 use Rattle.fdp_core.specs.Flown.{IsFlightAt}
-use Rattle.fdp_core.specs.Held.{AreFlightsOf, IsHeld, flight_in, going_of}
+use Rattle.fdp_core.specs.Held.{IsHeld, flight_in, going_of}
 use Rattle.fdp_core.specs.Tickets.{IsTicketOf}
 
 -- the flight in a queue, by its place in the list

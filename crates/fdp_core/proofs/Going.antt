@@ -61,11 +61,12 @@ module _ (b : BookSeen) (setting : Setting) (sums : Sums) (spaces : SpaceTable) 
 
   -- whether a number is free, by the flight
   pub free-flown : (queue number : ℕ) (f : Flight) → flight_in flights queue ≡ Some f → IsTrue (not (f.number == number)) ↔ IsFree (state_in b) queue number
-  free-flown queue number f is =
-      (λ other g going same.
-      let equal : f.number ≡ number = ap (λ (x : Going). x.number) (one-flown queue f g is going) ∙ same in
-      false≢true (sym (ap not (eq-eqb f.number number equal)) ∙ other),
-      λ free. ap not (ne_eqb f.number number (free (going_of f) (going-flown queue f is))))
+  free-flown queue number f is = (
+    λ other g going same.
+        let equal : f.number ≡ number = ap (λ (x : Going). x.number) (one-flown queue f g is going) ∙ same in
+        false≢true (sym (ap not (eq-eqb f.number number equal)) ∙ other),
+    λ free. ap not (ne_eqb f.number number (free (going_of f) (going-flown queue f is))),
+  )
 
   pub free-none : (queue number : ℕ) → flight_in flights queue ≡ None → IsFree (state_in b) queue number
   free-none queue number is = λ g going same. none-going queue g is going

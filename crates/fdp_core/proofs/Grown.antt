@@ -1,15 +1,13 @@
 -- What stays of the tables after an entry that may place a page, and changes no namespace, no block and no setting.
-use Rattle.std.proofs.Common.{◌≡◌, ◌≢◌, ℕ, ◌+◌, ◌<◌, Bool, true, false, List, Option, Some, None, slice_get, refl, sym, ◌∙◌, ap, subst, length}
-use Rattle.std.specs.Prelude.{◌==◌, IsTrue, IsFalse, option_map}
+use Rattle.std.proofs.Common.{◌≡◌, ◌≢◌, ℕ, ◌+◌, Bool, List, Option, Some, None, slice_get, refl, sym, ◌∙◌, ap, subst}
+use Rattle.std.specs.Prelude.{IsTrue}
 use Rattle.std.specs.Option.{option_map_or}
 use Rattle.fdp_base.specs.declared.config.DriveConfig.{DriveConfig}
 use Rattle.fdp_base.specs.declared.entry.Spot.{Spot}
-use Rattle.fdp_base.specs.CommandKinds.{Write, write_of}
 use Rattle.fdp_base.specs.Pattern.{payload_block}
 use Rattle.fdp_base.specs.Placement.{geometry_of}
-use Rattle.fdp_base.specs.PlainState.{Block, Namespace, PageName, PageName.written, PlainState}
+use Rattle.fdp_base.specs.PlainState.{Block, Namespace, PageName, PageName.written}
 use Rattle.fdp_base.specs.Point.{Point}
-use Rattle.fdp_base.specs.Room.{size_of}
 use Rattle.fdp_base.specs.Sites.{is_there}
 use Rattle.fdp_base.specs.Spare.{data_spare}
 use Rattle.fdp_flash.specs.declared.cell.Cell.{Cell}
@@ -20,7 +18,7 @@ use Rattle.fdp_map.specs.MapTable.{MapTable, mapped_at}
 use Rattle.fdp_spaces.specs.SpaceTable.{SpaceTable}
 use Rattle.fdp_core.specs.declared.book.Setting.{Setting}
 use Rattle.fdp_core.specs.declared.flight.Flight.{Flight}
-use Rattle.fdp_core.specs.Held.{AreSpacesOf, HasAllUnits, IsFlightOf, IsMapOf, IsMappedAs, IsPlaceOf, IsPlacedPage, IsSettingOf, going_of}
+use Rattle.fdp_core.specs.Held.{AreSpacesOf, HasAllUnits, IsFlightOf, IsMapOf, IsMappedAs, IsPlacedPage, IsSettingOf, going_of}
 use Rattle.fdp_core.proofs.Alike.{on_target-alike, there-alike}
 
 -- but for blocks, references and going writes, all is as it was; but for one page, which was blank, the sites and the whole

@@ -1,5 +1,5 @@
 -- What a handle that is shut leaves.
-use Rattle.std.proofs.Common.{◌≡◌, ◌≢◌, ◌⊎◌, ⊎_elim, ℕ, ◌+◌, ◌<◌, Bool, true, false, List, [], ◌∷◌, ◌++◌, length, Option, Some, None, refl, sym, ◌∙◌, ap, subst, arith, append_assoc, eq-eqb, ne_eqb}
+use Rattle.std.proofs.Common.{◌≡◌, ◌≢◌, ⊎_elim, ℕ, ◌+◌, List, [], ◌∷◌, ◌++◌, Option, Some, None, refl, sym, ◌∙◌, ap, arith, append_assoc, eq-eqb, ne_eqb}
 use Rattle.std.specs.Prelude.{IsFalse}
 use Rattle.std.proofs.lemmas.Bool.{cases_eq}
 use Rattle.fdp_base.proofs.Pushes.{point_of-push}
@@ -20,7 +20,7 @@ use Rattle.fdp_base.specs.Step.{IsQueue}
 use Rattle.fdp_flash.specs.declared.cell.Cell.{Cell}
 use Rattle.fdp_handles.specs.HandleTable.{HandleTable, reference_at}
 use Rattle.fdp_history.proofs.Parts.{orderly-later}
-use Rattle.fdp_history.proofs.References.{AreOrderlyReferences, own-references, references-changed, shut-orderly}
+use Rattle.fdp_history.proofs.References.{own-references, references-changed, shut-orderly}
 use Rattle.fdp_history.proofs.StandingWrites.{standing-still}
 use Rattle.fdp_history.proofs.Trails.{site-later}
 use Rattle.fdp_history.specs.Orderly.{IsOrderly}
@@ -34,7 +34,7 @@ use Rattle.fdp_core.specs.Held.{AreHandlesOf, IsHeld, flights_after}
 use Rattle.fdp_core.specs.Pages.{cells_of}
 use Rattle.fdp_core.proofs.Alike.{used-push}
 use Rattle.fdp_core.proofs.Grown.{IsGrown, all_units-grown, map-grown, setting-grown, spaces-grown}
-use Rattle.fdp_core.proofs.HeldAt.{IsHeldAt, held-at}
+use Rattle.fdp_core.proofs.HeldAt.{held-at}
 use Rattle.fdp_core.proofs.HeldEnded.{held_unapplied}
 use Rattle.fdp_core.proofs.HeldSums.{are_sums-push}
 use Rattle.fdp_core.proofs.Lasting.{blocks-written, flights-lasting, units-lasting, unwritten}

@@ -1,10 +1,8 @@
 -- What stays of the tables after an entry that places no page.
-use Rattle.std.proofs.Common.{◌≡◌, ◌≢◌, ℕ, ◌+◌, ◌-◌, ◌<◌, ◌≤◌, Bool, true, false, List, [], ◌∷◌, ◌++◌, length, slice_get, slice_set, Option, Some, None, refl, sym, ◌∙◌, ap, subst, arith}
-use Rattle.std.specs.Prelude.{option_map}
+use Rattle.std.proofs.Common.{◌≡◌, ◌≢◌, ℕ, ◌-◌, ◌<◌, List, length, slice_set, Option, Some, None, refl, sym, ◌∙◌, ap, subst}
 use Rattle.std.proofs.Math.ListN.{length-set}
 use Rattle.fdp_base.specs.declared.config.DriveConfig.{DriveConfig}
 use Rattle.fdp_base.specs.declared.entry.Entry.{Entry}
-use Rattle.fdp_base.specs.declared.entry.Spot.{Spot}
 use Rattle.fdp_base.specs.Numbers.{with_at}
 use Rattle.fdp_base.specs.Placement.{geometry_of}
 use Rattle.fdp_base.specs.PlainState.{Block, Going, PageName, PageName.found, PageName.written, PlainState, Reference}
@@ -14,7 +12,7 @@ use Rattle.fdp_flash.specs.Cells.{IsBlankFrom}
 use Rattle.fdp_map.specs.declared.mapped.Mapped.{Mapped}
 use Rattle.fdp_map.specs.MapTable.{MapTable, mapped_at}
 use Rattle.fdp_core.specs.declared.flight.Flight.{Flight}
-use Rattle.fdp_core.specs.Held.{AreFlightsOf, AreUnitsOf, IsFlightOf, IsMapOf, IsMappedAs, IsUnused, flight_in, going_of}
+use Rattle.fdp_core.specs.Held.{AreFlightsOf, AreUnitsOf, IsFlightOf, IsMapOf, IsMappedAs, IsUnused}
 use Rattle.fdp_core.specs.UsedOnce.{is_used}
 use Rattle.fdp_core.proofs.Flights.{flown-set, going-set}
 use Rattle.fdp_core.proofs.Grown.{IsGrown, flight-grown}

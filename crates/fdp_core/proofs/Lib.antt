@@ -28,8 +28,10 @@ pub mod GroupPlacing
 pub mod GroupPlaced
 pub mod GroupFresh
 pub mod Grown
+pub mod UsedMore
 pub mod UnitsMore
 pub mod PlacedPages
+pub mod PlacedFor
 pub mod HeldPlaced
 pub mod PlaceSteps
 pub mod Verdicts
@@ -37,3 +39,7 @@ pub mod Lasting
 pub mod HeldShut
 pub mod Endings
 pub mod Going
+pub mod PutPages
+pub mod Committed
+pub mod HeldCommitted
+pub mod Committing

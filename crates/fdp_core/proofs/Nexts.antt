@@ -1,7 +1,6 @@
 -- The next page of a going write.
-use Rattle.std.proofs.Common.{◌≡◌, ◌≢◌, ℕ, ◌+◌, ◌<◌, ◌≤◌, Bool, true, false, IsTrue, IsFalse, List, length, Option, Some, None, refl, sym, ◌∙◌, ap, subst, arith}
+use Rattle.std.proofs.Common.{◌≡◌, ℕ, ◌<◌, IsTrue, List, length, Option, Some, None, refl, sym, ◌∙◌, ap, subst}
 use Rattle.std.specs.Prelude.{option_map}
-use Rattle.fdp_base.specs.declared.entry.Entry.TheVariants as entries
 use Rattle.fdp_base.specs.declared.entry.Spot.{Spot}
 use Rattle.fdp_base.specs.CommandKinds.{Write, write_of}
 use Rattle.fdp_base.specs.PlainState.{Going, PlainState}
@@ -13,8 +12,7 @@ use Rattle.fdp_base.specs.declared.spare.DataSpare.{DataSpare}
 use Rattle.fdp_core.specs.declared.extent.Extent.{Extent}
 use Rattle.fdp_core.specs.declared.flight.Flight.{Flight}
 use Rattle.fdp_core.specs.declared.ticket.Ticket.{Ticket}
-use Rattle.fdp_core.specs.Book.{BookSeen, point_in, state_in}
-use Rattle.fdp_core.specs.BookSteps.{IsWaiting}
+use Rattle.fdp_core.specs.Book.{BookSeen, state_in}
 use Rattle.fdp_core.specs.Extent.{extent}
 use Rattle.fdp_core.specs.Flown.{IsFlightAt, IsNextOf}
 use Rattle.fdp_core.specs.Held.{going_of}

@@ -1,27 +1,23 @@
 -- What is known where the next page of a going write is placed.
-use Rattle.std.proofs.Common.{◌≡◌, ℕ, ◌+◌, ◌*◌, ◌-◌, ◌<◌, ◌≤◌, Bool, true, false, List, [], ◌∷◌, ◌++◌, length, slice_index, slice_index_or, slice_set, Option, Some, None, refl, sym, ◌∙◌, ap, subst, arith, cond, eq-eqb}
+use Rattle.std.proofs.Common.{◌≡◌, ℕ, ◌+◌, ◌*◌, ◌-◌, ◌<◌, Bool, List, [], ◌∷◌, length, slice_index, slice_index_or, slice_set, Option, Some, None, refl, sym, ◌∙◌, ap, subst, arith, cond, eq-eqb}
 use Rattle.std.specs.Prelude.{◌==◌, option_map}
 use Rattle.std.specs.Option.{option_map_or}
-use Rattle.fdp_base.proofs.Pushes.{state_of-push}
-use Rattle.fdp_base.specs.declared.entry.Entry.{Entry}
 use Rattle.fdp_base.specs.declared.entry.Entry.TheVariants as entries
 use Rattle.fdp_base.specs.declared.entry.Spot.{Spot}
 use Rattle.fdp_base.specs.Change.{one_more_placed}
-use Rattle.fdp_base.specs.PlainState.{Going, PlainState, Reference}
-use Rattle.fdp_base.specs.Step.{Follows}
+use Rattle.fdp_base.specs.PlainState.{Going}
 use Rattle.fdp_base.specs.Totals.{blocks_written}
-use Rattle.fdp_handles.specs.HandleTable.{HandleTable, reference_at}
+use Rattle.fdp_handles.specs.HandleTable.{HandleTable}
 use Rattle.fdp_map.specs.MapTable.{MapTable}
 use Rattle.fdp_spaces.specs.SpaceTable.{SpaceTable}
 use Rattle.fdp_core.specs.declared.book.Setting.{Setting}
 use Rattle.fdp_core.specs.declared.book.Sums.{Sums}
 use Rattle.fdp_core.specs.declared.flight.Flight.{Flight}
 use Rattle.fdp_core.specs.declared.ticket.Ticket.{Ticket}
-use Rattle.fdp_core.specs.Book.{BookSeen, IsLonger, point_in, state_in}
+use Rattle.fdp_core.specs.Book.{BookSeen, IsLonger, state_in}
 use Rattle.fdp_core.specs.BookSteps.{IsFlying, IsWaiting, Places}
 use Rattle.fdp_core.specs.Flown.{IsFlightAt, IsPageMore, IsUnfinished}
 use Rattle.fdp_core.specs.Held.{IsHeld, flight_in, going_of}
-use Rattle.fdp_core.specs.Logged.{IsLogged, Logged}
 use Rattle.fdp_core.specs.Tickets.{IsNextSpot, IsTicketOf, next_spot}
 use Rattle.fdp_core.proofs.Flights.{flight_in-set}
 use Rattle.fdp_core.proofs.Flown.{flight_in-index}
@@ -57,15 +53,18 @@ placing b now setting sums spaces handles map flights ticket spot x h same waiti
     let is : IsTicketOf (state_in b) ticket (going_of f) = found.2 in
     let one : waiting.going ≡ going_of f = one-going (state_in b) ticket waiting.going (going_of f) waiting.ticket_is is in
     let asked : length f.pages.items < blocks_written f.room.command = subst (λ (g : Going). g.placed < blocks_written g.command) one waiting.asked in
-    let orderly = h.orderly.state.writes ticket.queue (going_of f) is.going_is in
-    (f, record {
-      there = found.1;
-      next = next (going_of f) is;
-      ticket_is = is;
-      asked = asked;
-      within = omega (arith, orderly.queue_is.1, h.flights_are.rows);
-      unfinished = record { flight = f; flight_is = refl; write = orderly.write; left = asked; few = omega (arith, orderly.count.1, h.config.ranges.blocks_per_command.1) };
-    }, one-going (state_in b) ticket (going_of x) (going_of f) at.going is)
+    let orderly = h.orderly.state.writes ticket.queue (going_of f) is.going_is in (
+      f,
+      record {
+        there = found.1;
+        next = next (going_of f) is;
+        ticket_is = is;
+        asked = asked;
+        within = omega (arith, orderly.queue_is.1, h.flights_are.rows);
+        unfinished = record { flight = f; flight_is = refl; write = orderly.write; left = asked; few = omega (arith, orderly.count.1, h.config.ranges.blocks_per_command.1) };
+      },
+      one-going (state_in b) ticket (going_of x) (going_of f) at.going is,
+    )
 
 -- ---- the unit of the next page
 

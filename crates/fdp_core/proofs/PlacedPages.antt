@@ -1,5 +1,5 @@
 -- The pages of a going write, with one more that is placed.
-use Rattle.std.proofs.Common.{◌≡◌, ◌≢◌, ⊎_elim, ℕ, ◌+◌, ◌<◌, Bool, true, false, List, [], ◌∷◌, ◌++◌, length, slice_get, slice_set, Option, Some, None, refl, sym, ◌∙◌, ap, subst, arith}
+use Rattle.std.proofs.Common.{◌≡◌, ◌≢◌, ⊎_elim, ℕ, ◌+◌, List, length, slice_get, Some, sym, ◌∙◌, ap, subst}
 use Rattle.std.specs.Prelude.{IsTrue}
 use Rattle.fdp_base.specs.declared.config.DriveConfig.{DriveConfig}
 use Rattle.fdp_base.specs.declared.entry.Spot.{Spot}
@@ -13,14 +13,13 @@ use Rattle.fdp_base.specs.Point.{Point}
 use Rattle.fdp_base.specs.Sites.{is_there}
 use Rattle.fdp_base.specs.Spare.{data_spare}
 use Rattle.fdp_base.specs.Step.{IsOnTarget, IsPage}
-use Rattle.fdp_flash.proofs.Lists.{append_cases, slice_get-set_same}
+use Rattle.fdp_flash.proofs.Lists.{append_cases}
 use Rattle.fdp_flash.specs.declared.cell.Cell.{Cell}
 use Rattle.fdp_flash.specs.declared.cell.Cell.TheVariants.{Whole}
 use Rattle.fdp_flash.specs.Layout.{page_number}
 use Rattle.fdp_core.specs.declared.flight.Flight.{Flight}
 use Rattle.fdp_core.specs.Flown.{IsPageMore}
 use Rattle.fdp_core.specs.Held.{IsFlightOf, IsPlacedPage, going_of}
-use Rattle.fdp_core.specs.Pages.{next_page}
 use Rattle.fdp_core.proofs.Alike.{on_target-alike}
 use Rattle.fdp_core.proofs.Grown.{IsGrown, page-grown}
 

@@ -1,15 +1,13 @@
 -- The units that were not used, and where the next page of a handle goes.
-use Rattle.std.proofs.Common.{◌≡◌, ◌≢◌, ℕ, zero, suc, ◌+◌, ◌-◌, ◌*◌, ◌/◌, ◌%◌, ◌<◌, ◌≤◌, Bool, true, false, IsTrue, IsFalse, List, [], ◌∷◌, length, slice_get, slice_index, slice_index_or, Option, Some, None, refl, sym, ◌∙◌, ap, subst, arith}
+use Rattle.std.proofs.Common.{◌≡◌, ℕ, zero, suc, ◌+◌, ◌-◌, ◌*◌, ◌/◌, ◌%◌, ◌<◌, ◌≤◌, IsTrue, List, [], ◌∷◌, length, slice_index, slice_index_or, Option, None, refl, sym, ◌∙◌, ap, subst, arith}
 use Rattle.std.proofs.lemmas.Nat.{div-add-mod', div-mul-add, mod_below, row_fits}
-use Rattle.std.specs.Prelude.{IfSome, MatchOption, option_map}
+use Rattle.std.specs.Prelude.{MatchOption}
 use Rattle.std.specs.Option.{option_map_or}
 use Rattle.fdp_base.specs.declared.config.DriveConfig.{DriveConfig}
 use Rattle.fdp_base.specs.declared.entry.Spot.{Spot}
-use Rattle.fdp_base.specs.PlainState.{PlainState, Reference}
-use Rattle.fdp_base.specs.Placement.{geometry_of}
+use Rattle.fdp_base.specs.PlainState.{PlainState}
 use Rattle.fdp_base.specs.Sites.{group_of}
-use Rattle.fdp_base.specs.Step.{IsDataUnit, IsNextPage, IsUnreferenced}
-use Rattle.fdp_flash.specs.Cells.{IsBlankFrom}
+use Rattle.fdp_base.specs.Step.{IsUnreferenced}
 use Rattle.fdp_spaces.specs.SpaceTable.{SpaceTable}
 use Rattle.fdp_handles.specs.HandleTable.{HandleTable}
 use Rattle.fdp_map.specs.MapTable.{MapTable}
@@ -19,8 +17,6 @@ use Rattle.fdp_core.specs.declared.flight.Flight.{Flight}
 use Rattle.fdp_core.specs.Book.{BookSeen, state_in}
 use Rattle.fdp_core.specs.Flown.{HasNoPlace, IsNextOf, IsPlaceFor}
 use Rattle.fdp_core.specs.Held.{IsHeld}
-use Rattle.fdp_core.specs.Pages.{cells_of}
-use Rattle.fdp_core.specs.Tickets.{next_spot}
 use Rattle.fdp_core.specs.UsedOnce.{is_used}
 
 -- the units of a group are data units

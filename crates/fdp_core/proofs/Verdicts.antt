@@ -1,12 +1,12 @@
 -- How a write whose pages are placed may end.
-use Rattle.std.proofs.Common.{◌≡◌, ℕ, ◌<◌, Bool, true, false, IsTrue, IsFalse, length, slice_get, Option, Some, None, refl, sym, ◌∙◌, ap, subst, arith}
+use Rattle.std.proofs.Common.{◌≡◌, ℕ, Bool, false, IsTrue, IsFalse, length, Option, Some, None, refl, sym, ◌∙◌, ap, subst, arith}
 use Rattle.std.specs.Prelude.{IsSome, option_map}
 use Rattle.std.specs.Option.{option_map_or}
 use Rattle.fdp_flash.proofs.Lists.{slice_get_there}
 use Rattle.fdp_base.specs.declared.config.DriveConfig.{DriveConfig}
 use Rattle.fdp_base.specs.declared.entry.Spot.{Spot}
 use Rattle.fdp_base.specs.CommandKinds.{Write, write_of}
-use Rattle.fdp_base.specs.PlainState.{Going, PageName.written, PlainState}
+use Rattle.fdp_base.specs.PlainState.{Going, PlainState}
 use Rattle.fdp_base.specs.Room.{is_over_budget}
 use Rattle.fdp_base.specs.Sites.{is_there}
 use Rattle.fdp_base.specs.Step.{MaySucceed, exceeds_budget}
@@ -19,7 +19,6 @@ use Rattle.fdp_core.specs.BookSteps.{IsReady}
 use Rattle.fdp_core.specs.Extent.{extent}
 use Rattle.fdp_core.specs.Flown.{IsFlightAt}
 use Rattle.fdp_core.specs.Held.{going_of}
-use Rattle.fdp_core.specs.Tickets.{IsTicketOf}
 use Rattle.fdp_core.proofs.Nexts.{one-going}
 
 -- a going write exceeds its budget where its blocks do

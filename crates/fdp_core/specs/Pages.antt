@@ -1,5 +1,5 @@
 -- The pages of data that a history programs.
-use Rattle.std.specs.Prelude.{ℕ, ◌+◌, List, [], ◌∷◌, Option, option_and_then, option_map, replicate, slice_set}
+use Rattle.std.specs.Prelude.{◌+◌, List, [], ◌∷◌, Option, option_and_then, option_map, replicate, slice_set}
 use Rattle.std.specs.Option.{option_map_or}
 use Rattle.fdp_base.specs.declared.config.DriveConfig.{DriveConfig}
 use Rattle.fdp_base.specs.declared.entry.Entry.{Entry}

@@ -1,11 +1,11 @@
 -- Tickets of going writes, and where their next pages go.
-use Rattle.std.specs.Prelude.{◌≡◌, ℕ, ◌+◌, ◌*◌, ◌-◌, Bool, IsFalse, Some, None, Option, slice_index, option_map}
+use Rattle.std.specs.Prelude.{◌≡◌, ℕ, ◌+◌, ◌*◌, ◌-◌, Bool, IsFalse, Some, None, slice_index, option_map}
 use Rattle.std.specs.Option.{option_map_or}
 use Rattle.fdp_base.specs.declared.entry.Entry.TheVariants as entries
 use Rattle.fdp_base.specs.declared.entry.Spot.{Spot}
 use Rattle.fdp_base.specs.CommandKinds.{Write, write_of}
 use Rattle.fdp_base.specs.Placement.{geometry_of}
-use Rattle.fdp_base.specs.PlainState.{Going, PlainState, Reference}
+use Rattle.fdp_base.specs.PlainState.{Going, PlainState}
 use Rattle.fdp_base.specs.Sites.{is_there}
 use Rattle.fdp_base.specs.Spare.{data_spare}
 use Rattle.fdp_base.specs.Step.{Follows}

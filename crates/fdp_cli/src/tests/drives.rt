@@ -30,7 +30,8 @@ fn a_block_reads_as_it_was_written(rt: HostRuntime) -> Result<(), Fail> {
 #[test]
 fn the_last_address_is_written(rt: HostRuntime) -> Result<(), Fail> {
     let trace = b"write 1 51 1 1\nwrite 1 52 1 1\nread 1 0 5\n";
-    let output = b"queue 1\n0 write 0/00 00000000\n1 write 0/80 00000000\n2 read 0/02 00000000\nstats 512 512 0\n";
+    let output =
+        b"queue 1\n0 write 0/00 00000000\n1 write 0/80 00000000\n2 read 0/02 00000000\nstats 512 512 0\n";
     assert!(rt; serves(rt.alloc(), trace, 0, output)?);
     Ok(())
 }
@@ -38,7 +39,8 @@ fn the_last_address_is_written(rt: HostRuntime) -> Result<(), Fail> {
 #[test]
 fn blocks_are_read_together(rt: HostRuntime) -> Result<(), Fail> {
     let trace = b"write 1 0 4 9\nread 1 1 4\n";
-    let output = b"queue 1\n0 write 0/00 00000000\n1 read 0/00 00000000\n  0000000a\n  0000000b\n  0000000c\n  00000000\nstats 2048 2048 0\n";
+    let output =
+        b"queue 1\n0 write 0/00 00000000\n1 read 0/00 00000000\n  0000000a\n  0000000b\n  0000000c\n  00000000\nstats 2048 2048 0\n";
     assert!(rt; serves(rt.alloc(), trace, 0, output)?);
     Ok(())
 }

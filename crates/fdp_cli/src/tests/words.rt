@@ -53,6 +53,13 @@ fn texts_may_be_absent(rt: HostRuntime) -> Result<(), Fail> {
     let absent = b"fault 3 trace 1 absent\n";
     assert!(rt; asks(alloc, &["run", "c", "blank", ""], 3, absent)?);
     assert!(rt; asks(alloc, &["run", "c", "blank", "u"], 3, absent)?);
-    assert!(rt; asks(alloc, &["run", "", "blank", "t"], 2, b"fault 2 config absent\n")?);
+    assert!(rt;
+        asks(
+            alloc,
+            &["run", "", "blank", "t"],
+            2,
+            b"fault 2 config absent\n"
+        )?
+    );
     Ok(())
 }

@@ -1,4 +1,4 @@
-use Rattle.std.proofs.Common.{◌≡◌, ap}
+use Rattle.std.proofs.Common.{ap}
 use Rattle.fdp_base.specs.declared.entry.Reply.{Reply}
 use Rattle.fdp_core.specs.Book.{BookSeen}
 use Rattle.fdp_core.proofs.Endings.{left-without, orderly-flight}

@@ -1,4 +1,4 @@
-use Rattle.std.proofs.Common.{◌≡◌, ap, arith, sym}
+use Rattle.std.proofs.Common.{ap, arith}
 use Rattle.fdp_base.specs.declared.entry.Reply.{Reply}
 use Rattle.fdp_handles.specs.HandleTable.{HandleTable}
 use Rattle.fdp_core.specs.Book.{BookSeen}

@@ -1,5 +1,4 @@
 use Rattle.std.proofs.Common.{◌≡◌, ◌∙◌, ◌<◌, Some, ap, arith, length, subst, sym}
-use Rattle.fdp_core.specs.declared.flight.Flight.{Flight}
 use Rattle.fdp_core.specs.Book.{BookSeen}
 use Rattle.fdp_core.specs.BookSteps.{IsFlying}
 use Rattle.fdp_core.specs.Flown.{IsFlightAt}

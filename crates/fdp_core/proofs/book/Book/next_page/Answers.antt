@@ -1,14 +1,6 @@
-use Rattle.std.proofs.Common.{◌≡◌, ◌∙◌, ◌<◌, IsTrue, Some, ap, arith, length, subst, sym}
-use Rattle.std.specs.Prelude.{option_map}
-use Rattle.fdp_base.specs.CommandKinds.{Write, write_of}
-use Rattle.fdp_base.specs.PlainState.{Going}
-use Rattle.fdp_base.specs.Sites.{is_there}
-use Rattle.fdp_base.specs.Totals.{blocks_written}
+use Rattle.std.proofs.Common.{◌∙◌, sym}
 use Rattle.fdp_core.specs.declared.flight.Flight.{Flight}
-use Rattle.fdp_core.specs.Book.{state_in}
-use Rattle.fdp_core.specs.Held.{going_of}
-use Rattle.fdp_core.specs.Tickets.{ComesTo}
-use Rattle.fdp_core.proofs.Nexts.{next-at, one-going}
+use Rattle.fdp_core.proofs.Nexts.{next-at}
 use Rattle.fdp_core.proofs.book.Book.next_page.Goals as goal
 
 pub returns-in-Some : goal.returns-in-Some

@@ -1,6 +1,4 @@
-use Rattle.std.proofs.Common.{◌≡◌, ◌∙◌, ◌+◌, ◌<◌, ℕ, List, Option, Some, None, ap, arith, length, refl, slice_set, subst, sym, [], ◌∷◌, ◌++◌}
-use Rattle.std.specs.Prelude.{◌==◌}
-use Rattle.fdp_base.specs.declared.entry.Entry.{Entry}
+use Rattle.std.proofs.Common.{◌≡◌, ◌∙◌, ◌+◌, ℕ, List, Option, Some, ap, length, refl, slice_set, subst, sym, [], ◌∷◌, ◌++◌}
 use Rattle.fdp_base.specs.declared.entry.Entry.TheVariants as entries
 use Rattle.fdp_base.specs.PlainState.{Going, Reference}
 use Rattle.fdp_base.specs.Step.{Follows}

@@ -1,4 +1,4 @@
-use Rattle.std.proofs.Common.{◌≡◌, ◌∙◌, ◌+◌, ◌*◌, ◌<◌, ◌≤◌, ℕ, None, Some, ap, arith, length, slice_index, slice_index_or, subst, sym}
+use Rattle.std.proofs.Common.{◌≡◌, ◌∙◌, ◌+◌, ◌*◌, ◌<◌, ℕ, None, Some, ap, arith, slice_index, subst, sym}
 use Rattle.fdp_base.specs.declared.entry.Spot.{Spot}
 use Rattle.fdp_core.specs.Book.{BookSeen}
 use Rattle.fdp_core.proofs.Units.{IsUnusedFor, index-within, none-next, unused-next}
