@@ -45,10 +45,10 @@ const DRIVE_S: &[u8] = b"\
     namespaces = [{ blocks = 52, handles = [0] }]\n\
 ";
 
-/// A run of a trace on a drive, in which no call fails.
-fn run_of<'a>(config: &'a [u8], trace: &'a [u8]) -> Run<'a> {
+/// A run in which no call fails.
+fn run_of<'a>(words: &'a [&'a str], config: &'a [u8], trace: &'a [u8]) -> Run<'a> {
     Run {
-        words: &RUN,
+        words,
         config,
         trace,
         bench_fails: None,
@@ -87,5 +87,5 @@ fn ends(alloc: Global, run: &Run, status: u8, output: &[u8]) -> Result<bool, All
 
 /// Whether a trace on drive S ends with a status and an output.
 fn serves(alloc: Global, trace: &[u8], status: u8, output: &[u8]) -> Result<bool, AllocError> {
-    ends(alloc, &run_of(DRIVE_S, trace), status, output)
+    ends(alloc, &run_of(&RUN, DRIVE_S, trace), status, output)
 }

@@ -12,31 +12,30 @@ const FIRST_OUTPUT: &[u8] =
 fn failed_calls_are_told(rt: HostRuntime) -> Result<(), Fail> {
     let alloc = rt.alloc();
     let source = b"fault 6 source\n";
-    let mut run = run_of(DRIVE_S, FIRST);
+    let mut run = run_of(&RUN, DRIVE_S, FIRST);
     run.bench_fails = Some(1);
     assert!(rt; ends(alloc, &run, 6, source)?);
     run.bench_fails = Some(2);
     assert!(rt; ends(alloc, &run, 6, source)?);
     run.bench_fails = Some(3);
     assert!(rt; ends(alloc, &run, 0, FIRST_OUTPUT)?);
-    run.bench_fails = Some(2);
-    run.config = b"";
-    assert!(rt; ends(alloc, &run, 2, b"fault 2 config missing block\n")?);
     run.sink_fails = Some(1);
     assert!(rt; ends(alloc, &run, 8, b"")?);
+    let mut faulty = run_of(&RUN, b"", FIRST);
+    faulty.bench_fails = Some(2);
+    assert!(rt; ends(alloc, &faulty, 2, b"fault 2 config missing block\n")?);
     Ok(())
 }
 
 #[test]
 fn a_sink_may_be_full(rt: HostRuntime) -> Result<(), Fail> {
     let alloc = rt.alloc();
-    let mut run = run_of(DRIVE_S, FIRST);
+    let mut run = run_of(&RUN, DRIVE_S, FIRST);
     run.room = 10;
     assert!(rt; ends(alloc, &run, 8, b"queue 1\n0 ")?);
     run.sink_fails = Some(1);
     assert!(rt; ends(alloc, &run, 8, b"")?);
-    let mut refused = run_of(DRIVE_S, FIRST);
-    refused.words = &["run"];
+    let mut refused = run_of(&["run"], DRIVE_S, FIRST);
     refused.room = 5;
     assert!(rt; ends(alloc, &refused, 8, b"fault")?);
     Ok(())
@@ -47,7 +46,7 @@ fn a_sink_may_be_full(rt: HostRuntime) -> Result<(), Fail> {
 fn each_write_of_the_sink_fails_in_turn(rt: HostRuntime) -> Result<(), Fail> {
     let alloc = rt.alloc();
     let (text, output) = reads(alloc, 6_000)?;
-    let mut run = run_of(DRIVE_S, &text);
+    let mut run = run_of(&RUN, DRIVE_S, &text);
     for pieces in 0..4 {
         run.sink_fails = Some(pieces + 1);
         let (status, bytes) = outcome(alloc, &run)?;

@@ -51,7 +51,7 @@ fn a_group_is_filled_to_its_budget(rt: HostRuntime) -> Result<(), Fail> {
     let mut trace = Vec::new(alloc);
     let mut output = Vec::new(alloc);
     output.extend_from_slice(b"queue 1\n")?;
-    for number in 0..20 {
+    for number in 0..20u32 {
         let lba = 4 * number;
         trace.extend_from_slice(format!(in alloc; "write 1 {lba} 4 0 pid 0x8000\n")?.as_bytes())?;
         output.extend_from_slice(format!(in alloc; "{number} write 0/00 00000000\n")?.as_bytes())?;
@@ -59,7 +59,7 @@ fn a_group_is_filled_to_its_budget(rt: HostRuntime) -> Result<(), Fail> {
     trace.extend_from_slice(b"write 1 80 1 5 pid 0x8000\nwrite 1 0 1 6 pid 0x8000\n")?;
     output.extend_from_slice(b"20 write 0/81 00000000\n21 write 0/00 00000000\n")?;
     output.extend_from_slice(b"stats 41472 41472 0\n")?;
-    assert!(rt; ends(alloc, &run_of(DRIVE_T, &trace), 0, &output)?);
+    assert!(rt; ends(alloc, &run_of(&RUN, DRIVE_T, &trace), 0, &output)?);
     Ok(())
 }
 

@@ -3,9 +3,7 @@ use super::*;
 
 /// Whether words, on a bench with drive S and an empty trace, end with a status and an output.
 fn asks(alloc: Global, words: &[&str], status: u8, output: &[u8]) -> Result<bool, AllocError> {
-    let mut run = run_of(DRIVE_S, b"");
-    run.words = words;
-    ends(alloc, &run, status, output)
+    ends(alloc, &run_of(words, DRIVE_S, b""), status, output)
 }
 
 #[test]
