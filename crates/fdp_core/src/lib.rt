@@ -12,8 +12,6 @@ mod media;
 mod next_page;
 mod room;
 mod stage;
-#[cfg(test)]
-mod tests;
 mod ticket;
 
 pub use answer::{Begun, Placed};
