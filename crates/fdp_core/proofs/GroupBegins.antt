@@ -1,5 +1,5 @@
 -- How a group begins a command: it refuses it, reads for it, or lets it go.
-use Rattle.std.proofs.Common.{◌≡◌, ℕ, ◌+◌, ◌*◌, ◌≤◌, Bool, true, false, IsTrue, List, [], ◌∷◌, ◌++◌, length, refl, ap, sym, ◌∙◌, subst, inl, inr, Some, None}
+use Rattle.std.proofs.Common.{◌≡◌, ℕ, Bool, true, false, List, [], ◌∷◌, ◌++◌, refl, ap, sym, ◌∙◌, subst, inl, Some, None}
 use Rattle.std.proofs.lemmas.Bool.{false≢true}
 use Rattle.fdp_base.specs.declared.command.Command.{Command}
 use Rattle.fdp_base.specs.declared.command.Command.TheVariants as commands
@@ -9,8 +9,7 @@ use Rattle.fdp_base.specs.declared.status.Status.{Status}
 use Rattle.fdp_base.specs.declared.status.TheConstants.Status as statuses
 use Rattle.fdp_base.specs.Answer.{bare}
 use Rattle.fdp_base.specs.Change.{after, changed_by, is_media_error}
-use Rattle.fdp_base.specs.CommandKinds.{IsWellFormed, is_write}
-use Rattle.fdp_base.specs.History.{fresh, point_of}
+use Rattle.fdp_base.specs.CommandKinds.{IsWellFormed}
 use Rattle.fdp_base.specs.Refusal.{refusal_of}
 use Rattle.fdp_base.specs.Step.{Follows, IsQueue}
 use Rattle.fdp_flash.specs.FlashState.{FlashState}
@@ -22,11 +21,11 @@ use Rattle.fdp_core.specs.Answers.{EndsAtOnce, Starts}
 use Rattle.fdp_core.specs.Book.{BookSeen, point_in, state_in}
 use Rattle.fdp_core.specs.BookSteps as book
 use Rattle.fdp_core.specs.Media.{IsReadFrom}
-use Rattle.fdp_core.specs.ReadSteps.{HasBlocks, HasFault, Reads, blocks_from}
+use Rattle.fdp_core.specs.ReadSteps.{Reads}
 use Rattle.fdp_core.specs.Room.{read_reply}
-use Rattle.fdp_core.specs.Seen.{HoldsHistory, Matches, Seen}
+use Rattle.fdp_core.specs.Seen.{Matches, Seen}
 use Rattle.fdp_core.specs.Sound.{IsSound}
-use Rattle.fdp_core.specs.Steps.{Completes, IsFree, MayBegin}
+use Rattle.fdp_core.specs.Steps.{Completes, IsFree}
 use Rattle.fdp_core.proofs.GroupAdds.{EndsSo, adds, completes, ends-well, matches-quiet}
 use Rattle.fdp_core.proofs.GroupEnded.{sound-ended}
 use Rattle.fdp_core.proofs.GroupHost.{media-ended, new-moment, read-follows, refused-fine, refused-follows, unread-follows}

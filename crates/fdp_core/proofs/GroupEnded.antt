@@ -1,5 +1,5 @@
 -- The end of a going write: what it leaves, and what contracts say of it.
-use Rattle.std.proofs.Common.{◌≡◌, ◌⊎◌, ℕ, Bool, true, false, List, [], ◌∷◌, ◌++◌, refl, ap, sym, ◌∙◌, subst, inl, inr, Some}
+use Rattle.std.proofs.Common.{◌≡◌, ℕ, Bool, false, List, [], ◌∷◌, ◌++◌, refl, ap, subst, inl, inr, Some}
 use Rattle.fdp_base.specs.declared.command.Command.{Command}
 use Rattle.fdp_base.specs.declared.config.DriveConfig.{DriveConfig}
 use Rattle.fdp_base.specs.declared.entry.Entry.{Entry}
@@ -8,9 +8,9 @@ use Rattle.fdp_base.specs.declared.entry.Reply.{Reply}
 use Rattle.fdp_base.specs.Change.{is_media_error}
 use Rattle.fdp_base.specs.declared.status.TheConstants.Status as statuses
 use Rattle.fdp_base.specs.Answer.{bare}
-use Rattle.fdp_base.specs.History.{fresh, point_of, state_of}
+use Rattle.fdp_base.specs.History.{fresh, point_of}
 use Rattle.fdp_base.specs.PlainState.{Going}
-use Rattle.fdp_base.specs.Step.{IsEnd, IsGoing}
+use Rattle.fdp_base.specs.Step.{IsEnd}
 use Rattle.fdp_flash.specs.FlashState.{FlashState}
 use Rattle.fdp_history.specs.OrderlyState.{IsOrderlyGoing}
 use Rattle.fdp_core.specs.declared.ticket.Done.{Done}

@@ -1,22 +1,21 @@
 -- Which answers may follow: refusals, reads, and the ends of writes.
-use Rattle.std.proofs.Common.{◌≡◌, ◌⊎◌, ℕ, ◌*◌, ◌<◌, ◌≤◌, Bool, true, false, cond, ◌||◌, IsTrue, List, [], ◌∷◌, length, refl, ap, sym, ◌∙◌, subst, inl, inr, arith, Some, None, Option, MatchBool}
-use Rattle.std.specs.Prelude.{Contains, nat_lt}
+use Rattle.std.proofs.Common.{◌≡◌, ℕ, ◌≤◌, Bool, true, false, cond, ◌||◌, IsTrue, List, [], ◌∷◌, length, refl, ap, sym, ◌∙◌, inl, inr, arith, Some, None, Option, MatchBool}
+use Rattle.std.specs.Prelude.{nat_lt}
 use Rattle.std.proofs.lemmas.Bool.{false≢true, ltb-false}
 use Rattle.fdp_base.specs.declared.command.Command.{Command}
 use Rattle.fdp_base.specs.declared.command.Command.TheVariants as commands
 use Rattle.fdp_base.specs.declared.config.DriveConfig.{DriveConfig}
-use Rattle.fdp_base.specs.declared.entry.Entry.{Entry}
 use Rattle.fdp_base.specs.declared.entry.Entry.TheVariants as entries
 use Rattle.fdp_base.specs.declared.entry.Reply.{Reply}
 use Rattle.fdp_base.specs.declared.status.Status.{Status}
 use Rattle.fdp_base.specs.declared.status.TheConstants.Status as statuses
 use Rattle.fdp_base.specs.Answer.{IsSuccess, bare, data_of}
 use Rattle.fdp_base.specs.Change.{after, changed_by, is_media_error}
-use Rattle.fdp_base.specs.CommandKinds.{IsWellFormed, is_read, is_write}
+use Rattle.fdp_base.specs.CommandKinds.{IsWellFormed, is_write}
 use Rattle.fdp_base.specs.PlainState.{Going, PlainState}
 use Rattle.fdp_base.specs.Point.{Point}
 use Rattle.fdp_base.specs.Refusal.{Check, checks_of, first_that_holds, is_absent, refusal_of}
-use Rattle.fdp_base.specs.Step.{Follows, IsEnd, IsGoing, IsNewMoment, IsQueue}
+use Rattle.fdp_base.specs.Step.{Follows, IsEnd, IsNewMoment, IsQueue}
 use Rattle.fdp_history.specs.OrderlyState.{IsOrderlyGoing}
 use Rattle.fdp_core.specs.Room.{read_reply}
 use Rattle.fdp_core.specs.Steps.{IsFree}

@@ -1,16 +1,14 @@
 -- What contracts say of a step that places a page, or ends its write.
-use Rattle.std.proofs.Common.{◌≡◌, ◌≢◌, ◌⊎◌, ℕ, ◌+◌, ◌<◌, ◌≤◌, Bool, true, false, IsTrue, List, [], ◌∷◌, ◌++◌, length, take, drop, refl, ap, sym, ◌∙◌, subst, inl, inr, arith, append_assoc, length-append, length-take, length-drop, None, Some}
-use Rattle.std.specs.Prelude.{IsFalse, ◌==◌}
+use Rattle.std.proofs.Common.{◌≡◌, ℕ, ◌+◌, ◌<◌, Bool, true, false, IsTrue, List, [], ◌∷◌, ◌++◌, length, take, drop, refl, ap, sym, ◌∙◌, subst, inl, inr, arith, append_assoc, length-append, length-take, length-drop, Some}
+use Rattle.std.specs.Prelude.{◌==◌}
 use Rattle.std.proofs.lemmas.Bool.{false≢true, eqb-false, eqb-true}
 use Rattle.fdp_base.specs.declared.config.DriveConfig.{DriveConfig}
 use Rattle.fdp_base.specs.declared.entry.Entry.{Entry}
 use Rattle.fdp_base.specs.declared.entry.Entry.TheVariants as entries
 use Rattle.fdp_base.specs.declared.entry.Spot.{Spot}
-use Rattle.fdp_base.specs.declared.payload.Payload.{Payload}
 use Rattle.fdp_base.specs.declared.status.TheConstants.Status as statuses
 use Rattle.fdp_base.specs.Answer.{bare}
-use Rattle.fdp_base.specs.Change.{after, changed_by, one_more_placed}
-use Rattle.fdp_base.specs.Counts.{counted}
+use Rattle.fdp_base.specs.Change.{after, changed_by}
 use Rattle.fdp_base.specs.History.{fresh, point_of}
 use Rattle.fdp_base.specs.Next.{next}
 use Rattle.fdp_base.specs.PlainState.{Going, PlainState}
@@ -26,18 +24,17 @@ use Rattle.fdp_core.specs.declared.answer.Placed.{Placed}
 use Rattle.fdp_core.specs.declared.answer.Placed.TheVariants as placed
 use Rattle.fdp_core.specs.declared.ticket.Done.{Done}
 use Rattle.fdp_core.specs.declared.ticket.Ticket.{Ticket}
-use Rattle.fdp_core.specs.Answers.{EndsAlone, EndsInPlacing, Places, PlacesPage}
+use Rattle.fdp_core.specs.Answers.{EndsInPlacing, Places, PlacesPage}
 use Rattle.fdp_core.specs.Book.{BookSeen, point_in, state_in}
 use Rattle.fdp_core.specs.BookSteps as book
 use Rattle.fdp_core.specs.Media.{IsProgrammedTo}
 use Rattle.fdp_core.specs.Seen.{IsKept, Matches, Seen, counted_more}
 use Rattle.fdp_core.specs.Sound.{IsSound}
 use Rattle.fdp_core.specs.Tickets.{IsNextSpot, IsTicketOf}
-use Rattle.fdp_core.proofs.GroupAdds.{EndsSo, adds, completes}
+use Rattle.fdp_core.proofs.GroupAdds.{adds, completes}
 use Rattle.fdp_core.proofs.GroupEnded.{going-orderly}
 use Rattle.fdp_core.proofs.GroupHost.{end-follows, new-moment}
-use Rattle.fdp_core.proofs.GroupPlacing.{next-there}
-use Rattle.fdp_core.proofs.GroupSound.{sound-as, sound-orderly, sound-push}
+use Rattle.fdp_core.proofs.GroupSound.{sound-as, sound-push}
 
 -- a buffer that was filled has its length
 pub filled-buffer : (len : ℕ) (items xs : List ℕ) → length items ≡ len → length xs ≡ length items → length (take len (xs ++ drop (length xs) items)) ≡ length items

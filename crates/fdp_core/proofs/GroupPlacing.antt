@@ -1,45 +1,41 @@
 -- How a group places the next page of a going write.
-use Rattle.std.proofs.Common.{◌≡◌, ◌⊎◌, ℕ, ◌+◌, ◌*◌, ◌<◌, ◌≤◌, Bool, true, false, IsTrue, List, [], ◌∷◌, ◌++◌, length, refl, ap, sym, ◌∙◌, subst, inl, inr, arith, append_assoc, Some, None, Option}
-use Rattle.std.specs.Prelude.{IsFalse, is_some, option_map, slice_set}
+use Rattle.std.proofs.Common.{◌≡◌, ℕ, ◌+◌, ◌*◌, ◌<◌, ◌≤◌, Bool, true, false, IsTrue, List, [], ◌∷◌, ◌++◌, length, refl, ap, sym, ◌∙◌, subst, inl, arith, Some, None, Option}
+use Rattle.std.specs.Prelude.{is_some, option_map, slice_set}
 use Rattle.std.specs.Option.{option_map_or}
-use Rattle.std.proofs.Math.Bool.{or-false}
 use Rattle.std.proofs.lemmas.Bool.{false≢true}
 use Rattle.std.proofs.lemmas.Nat.{mul-le}
 use Rattle.fdp_base.specs.declared.command.Command.{Command}
 use Rattle.fdp_base.specs.declared.command.Command.TheVariants as commands
 use Rattle.fdp_base.specs.declared.config.DriveConfig.{DriveConfig}
 use Rattle.fdp_base.specs.declared.config.Geometry.{Geometry}
-use Rattle.fdp_base.specs.declared.entry.Entry.{Entry}
 use Rattle.fdp_base.specs.declared.entry.Entry.TheVariants as entries
 use Rattle.fdp_base.specs.declared.entry.Spot.{Spot}
 use Rattle.fdp_base.specs.declared.payload.Payload.{Payload}
 use Rattle.fdp_base.specs.declared.payload.Payload.TheVariants as payloads
 use Rattle.fdp_base.specs.Change.{after, changed_by, going_with}
 use Rattle.fdp_base.specs.CommandKinds.{IsPayloadOf, IsWellFormed, Write, is_write, write_of}
-use Rattle.fdp_base.specs.Geometry.{all_units, data_units}
-use Rattle.fdp_base.specs.History.{fresh, point_of}
+use Rattle.fdp_base.specs.Geometry.{data_units}
 use Rattle.fdp_base.specs.Pattern.{HasBlock, payload_block}
 use Rattle.fdp_base.specs.Placement.{geometry_of}
 use Rattle.fdp_base.specs.PlainState.{Going, PlainState}
 use Rattle.fdp_base.specs.Sites.{is_there}
 use Rattle.fdp_base.specs.Spare.{data_spare}
-use Rattle.fdp_base.specs.Step.{Follows, IsPage, IsPlaced}
+use Rattle.fdp_base.specs.Step.{Follows, IsPlaced}
 use Rattle.fdp_base.specs.Totals.{blocks_written}
 use Rattle.fdp_flash.specs.declared.cell.Cell.{Cell}
 use Rattle.fdp_flash.specs.declared.cell.Cell.TheVariants.{Whole}
 use Rattle.fdp_flash.specs.Cells.{IsBlankFrom}
 use Rattle.fdp_flash.specs.FlashState.{FlashState}
 use Rattle.fdp_flash.specs.Layout.{IsIn, page_number}
-use Rattle.fdp_history.specs.OrderlyState.{IsOrderlyGoing, IsOrderlyState}
+use Rattle.fdp_history.specs.OrderlyState.{IsOrderlyState}
 use Rattle.fdp_history.proofs.Placing.{going_with-is}
-use Rattle.fdp_core.specs.declared.next_page.NextPage.TheVariants as next
 use Rattle.fdp_core.specs.declared.ticket.Ticket.{Ticket}
 use Rattle.fdp_core.specs.Book.{BookSeen, point_in, state_in}
 use Rattle.fdp_core.specs.BookSteps as book
 use Rattle.fdp_core.specs.Media.{IsProgrammedTo}
 use Rattle.fdp_core.specs.Pages.{cells_of, next_page, next_spare, with_page}
 use Rattle.fdp_core.specs.Sound.{IsSound}
-use Rattle.fdp_core.specs.Tickets.{ComesTo, IsNextSpot, IsTicketOf}
+use Rattle.fdp_core.specs.Tickets.{IsNextSpot, IsTicketOf}
 use Rattle.fdp_core.proofs.GroupEnded.{going-orderly}
 use Rattle.fdp_core.proofs.GroupSound.{sound-as, sound-orderly, sound-push}
 

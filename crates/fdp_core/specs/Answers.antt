@@ -1,5 +1,5 @@
 -- What the calls of a group answer, each with its cause.
-use Rattle.std.specs.Prelude.{◌≡◌, ◌⊎◌, ℕ, ◌+◌, ◌<◌, Bool, true, false, IsTrue, IsFalse, [], ◌∷◌, length, None, Some, option_map}
+use Rattle.std.specs.Prelude.{◌≡◌, ◌⊎◌, ℕ, ◌+◌, ◌<◌, true, false, IsTrue, IsFalse, [], ◌∷◌, length, None, Some, option_map}
 use Rattle.fdp_base.specs.declared.command.Command.{Command}
 use Rattle.fdp_base.specs.declared.entry.Entry.TheVariants as entries
 use Rattle.fdp_base.specs.declared.entry.Reply.{Reply}
@@ -17,7 +17,7 @@ use Rattle.fdp_base.specs.Totals.{blocks_written}
 use Rattle.fdp_flash.specs.FlashState.{FlashState}
 use Rattle.fdp_core.specs.declared.ticket.Done.{Done}
 use Rattle.fdp_core.specs.declared.ticket.Ticket.{Ticket}
-use Rattle.fdp_core.specs.Book.{BookSeen, point_in, state_in}
+use Rattle.fdp_core.specs.Book.{point_in, state_in}
 use Rattle.fdp_core.specs.Tickets.{IsTicketOf}
 use Rattle.fdp_core.specs.UsedOnce.{WantsUnit, is_used}
 use Rattle.fdp_core.specs.declared.answer.Begun.{Begun}

@@ -1,6 +1,6 @@
-use Rattle.std.proofs.Common.{◌≡◌, ◌∙◌, ap, sym, subst, Some, None, Option, List}
+use Rattle.std.proofs.Common.{◌≡◌, ◌∙◌, ap, sym, subst, Some, Option, List}
 use Rattle.fdp_core.specs.declared.flight.Flight.{Flight}
-use Rattle.fdp_core.specs.Book.{BookSeen, state_in}
+use Rattle.fdp_core.specs.Book.{BookSeen}
 use Rattle.fdp_core.specs.Held.{flight_in}
 use Rattle.fdp_core.specs.Stages.{IsStage}
 use Rattle.fdp_core.proofs.Going.{flown-write, stage-flown}

@@ -1,8 +1,4 @@
-use Rattle.std.proofs.Common.{refl, sym, subst, inl, inr, ap, false, ◌≡◌}
-use Rattle.std.specs.Prelude.{IsTrue, IsFalse}
-use Rattle.fdp_base.specs.declared.status.Status.{Status}
-use Rattle.fdp_base.specs.declared.status.TheConstants.Status as statuses
-use Rattle.fdp_base.specs.Answer.{bare}
+use Rattle.std.proofs.Common.{refl, sym, subst, false, ◌≡◌}
 use Rattle.fdp_core.specs.Answers.{Commits}
 use Rattle.fdp_core.specs.Book.{state_in}
 use Rattle.fdp_core.specs.Seen.{Seen}

@@ -1,9 +1,7 @@
-use Rattle.std.proofs.Common.{◌≡◌, ◌∙◌, ◌<◌, ap, sym, subst, refl, false, true, length, inl, inr}
+use Rattle.std.proofs.Common.{◌≡◌, sym, subst, refl, false, inl, inr}
 use Rattle.fdp_base.specs.Answer.{bare}
-use Rattle.fdp_base.specs.PlainState.{Going}
-use Rattle.fdp_base.specs.Totals.{blocks_written}
 use Rattle.fdp_core.specs.declared.next_page.NextPage.TheVariants as next
-use Rattle.fdp_core.specs.Answers.{EndsInPlacing, Places}
+use Rattle.fdp_core.specs.Answers.{EndsInPlacing}
 use Rattle.fdp_core.specs.Book.{state_in}
 use Rattle.fdp_core.specs.Seen.{Seen}
 use Rattle.fdp_core.specs.Tickets.{ComesTo, IsTicketOf}

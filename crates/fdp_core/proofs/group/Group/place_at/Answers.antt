@@ -1,11 +1,8 @@
-use Rattle.std.proofs.Common.{◌≡◌, ◌∙◌, ◌<◌, ap, sym, subst, refl, false, true, length, inl, inr, ℕ, List}
-use Rattle.fdp_base.specs.Answer.{bare}
+use Rattle.std.proofs.Common.{◌≡◌, ◌∙◌, ap, sym, subst, refl, false, true, length, ℕ, List}
 use Rattle.fdp_base.specs.Pattern.{HasBlock, payload_block}
-use Rattle.fdp_base.specs.PlainState.{Going}
 use Rattle.fdp_flash.specs.declared.cell.Cell.TheVariants.{Whole}
 use Rattle.fdp_flash.specs.Layout.{page_number}
 use Rattle.fdp_core.specs.Media.{IsProgrammedTo}
-use Rattle.fdp_base.specs.Totals.{blocks_written}
 use Rattle.fdp_core.specs.declared.next_page.NextPage.TheVariants as next
 use Rattle.fdp_core.specs.Answers.{EndsInPlacing, Places}
 use Rattle.fdp_core.specs.Book.{state_in}

@@ -1,5 +1,4 @@
 use Rattle.std.proofs.Common.{◌≡◌, ◌∙◌, ap, sym, subst, false, None, []}
-use Rattle.fdp_base.specs.declared.command.Command.{Command}
 use Rattle.fdp_base.specs.Refusal.{refusal_of}
 use Rattle.fdp_core.specs.Book.{point_in}
 use Rattle.fdp_core.specs.Seen.{Seen}

@@ -1,11 +1,8 @@
-use Rattle.std.proofs.Common.{◌≡◌, ◌∙◌, ap, sym, subst, false, None, refl}
-use Rattle.fdp_base.specs.Refusal.{refusal_of}
+use Rattle.std.proofs.Common.{◌≡◌, ◌∙◌, sym, subst, false, refl}
 use Rattle.fdp_core.specs.Answers.{EndsAtOnce, Starts}
-use Rattle.fdp_core.specs.Book.{BookSeen, point_in}
-use Rattle.fdp_core.specs.Room.{RoomSeen}
 use Rattle.fdp_core.specs.Seen.{Seen}
 use Rattle.fdp_core.specs.Steps.{MayBegin}
-use Rattle.fdp_core.proofs.GroupBegins.{IsRefusal, begins-refused, begins-started, sound-refused, sound-started}
+use Rattle.fdp_core.proofs.GroupBegins.{begins-refused, begins-started, sound-refused, sound-started}
 use Rattle.fdp_core.proofs.group.Group.start.Goals as goal
 
 pub invariant_of-self : goal.invariant_of-self

@@ -1,4 +1,4 @@
-use Rattle.std.proofs.Common.{◌≡◌, ◌+◌, ◌-◌, ◌*◌, ◌++◌, IsTrue, List, ℕ, take, drop, refl, ap, sym, ◌∙◌, subst, length, replicate}
+use Rattle.std.proofs.Common.{◌≡◌, ◌+◌, ◌-◌, ◌*◌, ◌++◌, List, ℕ, refl, ap, sym, ◌∙◌, subst, length}
 use Rattle.std.proofs.lemmas.List.{length-replicate}
 use borrow.Rule.Slice.PartMut.{put_mid}
 use Rattle.fdp_base.specs.declared.config.DriveConfig.{DriveConfig}
