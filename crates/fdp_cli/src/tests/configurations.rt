@@ -4,7 +4,12 @@ use super::*;
 /// Whether a configuration on an empty trace ends with a fault of the configuration.
 fn is_no_config(alloc: Global, config: &[u8], fault: &str) -> Result<bool, AllocError> {
     let line = format!(in alloc; "fault 2 config {fault}\n")?;
-    ends(alloc, &run_of(&RUN, config, b"flush 1\n"), 2, line.as_bytes())
+    ends(
+        alloc,
+        &run_of(&RUN, config, b"flush 1\n"),
+        2,
+        line.as_bytes(),
+    )
 }
 
 /// Drive S with a line in place of the one that begins as it does, or without that.
@@ -44,7 +49,14 @@ fn a_configuration_has_a_limit(rt: HostRuntime) -> Result<(), Fail> {
     let alloc = rt.alloc();
     let mut config = Vec::from_slice(alloc, DRIVE_S)?;
     config.extend_from_slice(&vec![in alloc; b'#'; 65_536 - DRIVE_S.len()]?)?;
-    assert!(rt; ends(alloc, &run_of(&RUN, &config, b""), 0, b"queue 1\nstats 0 0 0\n")?);
+    assert!(rt;
+        ends(
+            alloc,
+            &run_of(&RUN, &config, b""),
+            0,
+            b"queue 1\nstats 0 0 0\n"
+        )?
+    );
     config.push(b'#')?;
     assert!(rt; is_no_config(alloc, &config, "long")?);
     Ok(())
