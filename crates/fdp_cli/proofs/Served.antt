@@ -1,5 +1,5 @@
 -- The steps of one command, joined.
-use Rattle.std.proofs.Common.{◌≡◌, ℕ, suc, ◌+◌, ◌*◌, ◌≤◌, ◌<◌, Bool, true, false, get_or, take, length-take, List, [], ◌∷◌, ◌++◌, length, refl, ap, sym, ◌∙◌, subst, arith, Some, None, inl, inr}
+use Rattle.std.proofs.Common.{◌≡◌, ℕ, suc, ◌+◌, ◌≤◌, ◌<◌, Bool, false, get_or, take, length-take, List, [], ◌∷◌, ◌++◌, length, refl, ap, sym, ◌∙◌, subst, arith, Some, inl, inr}
 use Rattle.std.specs.Prelude.{Option}
 use Rattle.std.specs.List.{enumerate_from}
 use Rattle.std.proofs.lemmas.List.{take_more}
@@ -15,10 +15,10 @@ use Rattle.fdp_flash.specs.FlashState.{FlashState}
 use Rattle.fdp_core.specs.declared.ticket.Done.{Done}
 use Rattle.fdp_core.specs.declared.ticket.Ticket.{Ticket}
 use Rattle.fdp_core.specs.Book.{state_in}
-use Rattle.fdp_core.specs.Answers.{EndsAlone, EndsInPlacing, FailsToPlace, PlacesPage, Starts, Commits}
+use Rattle.fdp_core.specs.Answers.{EndsAlone, EndsInPlacing, PlacesPage, Starts, Commits}
 use Rattle.fdp_core.specs.BookSteps.{IsReady, IsWaiting}
 use Rattle.fdp_core.specs.Seen.{Seen}
-use Rattle.fdp_core.specs.Steps.{Completes, Grows}
+use Rattle.fdp_core.specs.Steps.{Completes}
 use Rattle.fdp_core.specs.Tickets.{IsTicketOf}
 use Rattle.fdp_cli.specs.Serving.{EndsWrite, IsIdle, IsPlacing, PlacesSome, ServesFirst, ServesOne}
 use Rattle.fdp_cli.proofs.Growing.{grows-joined, grows-none, grows-reserved, grows-reserving, grows-step, with_spare}

@@ -1,24 +1,20 @@
 -- A write that was started.
-use Rattle.std.proofs.Common.{◌≡◌, ℕ, ◌+◌, ◌<◌, ◌≤◌, Bool, true, false, cond, ◌||◌, List, [], ◌∷◌, refl, ap, sym, ◌∙◌, arith, None, Some}
+use Rattle.std.proofs.Common.{◌≡◌, ℕ, ◌+◌, ◌≤◌, Bool, true, false, cond, ◌||◌, List, [], ◌∷◌, refl, arith, None, Some}
 use Rattle.std.specs.Prelude.{Option, nat_lt, not, option_map, ◌&&◌, ◌==◌}
 use Rattle.std.proofs.lemmas.Bool.Decides.{nat_tests}
 use Rattle.fdp_base.specs.declared.command.Command.{Command}
 use Rattle.fdp_base.specs.declared.command.Command.TheVariants as commands
 use Rattle.fdp_base.specs.declared.config.DriveConfig.{DriveConfig}
 use Rattle.fdp_base.specs.declared.status.Status.{Status}
-use Rattle.fdp_base.specs.CommandKinds.{IsWellFormed, Write, is_write, write_of}
-use Rattle.fdp_base.specs.PlainState.{Going, PlainState}
+use Rattle.fdp_base.specs.CommandKinds.{Write, is_write, write_of}
 use Rattle.fdp_base.specs.Point.{Point}
 use Rattle.fdp_base.specs.Refusal.{Check, checks_of, first_that_holds, refusal_of}
 use Rattle.fdp_base.specs.Target.{Target}
 use Rattle.fdp_base.specs.Totals.{blocks_written}
 use Rattle.fdp_flash.specs.FlashState.{FlashState}
 use Rattle.fdp_core.specs.declared.ticket.Ticket.{Ticket}
-use Rattle.fdp_core.specs.Book.{BookSeen, state_in}
 use Rattle.fdp_core.specs.Answers.{Starts}
 use Rattle.fdp_core.specs.Seen.{Seen}
-use Rattle.fdp_core.specs.Tickets.{IsTicketOf}
-use Rattle.fdp_cli.specs.Serving.{IsPlacing}
 
 -- a command with a target is a write
 targeted : (f : Write → Target) (command : Command) (target : Target) → option_map f (write_of command) ≡ Some target → is_write command ≡ true

@@ -1,6 +1,5 @@
-use Rattle.std.proofs.Common.{◌≡◌, ◌+◌, ◌<◌, All, true, false, length, sym, subst, arith}
-use Rattle.fdp_base.specs.declared.config.DriveConfig.{DriveConfig}
-use Rattle.fdp_cli.proofs.Served.{first-more, first-none, first-reserved}
+use Rattle.std.proofs.Common.{◌+◌, ◌<◌, true, false, length, sym, arith}
+use Rattle.fdp_cli.proofs.Served.{first-more, first-none}
 use Rattle.fdp_cli.proofs.serving.serve.Goals as goal
 
 pub loop-number-init : goal.loop-number-init

@@ -1,7 +1,6 @@
 use Rattle.std.proofs.Common.{All, ap, inl, inr, refl, subst, sym}
 use Rattle.fdp_base.specs.declared.config.DriveConfig.{DriveConfig}
 use Rattle.fdp_core.specs.Seen.{Seen}
-use Rattle.fdp_flash.specs.FlashMem.{state_of}
 use Rattle.fdp_cli.specs.Servable.{IsServable}
 use Rattle.fdp_cli.proofs.Shown.{begun_blank, idle_fresh, printed_front, printed_some, recorded, served_small, served_whole}
 use Rattle.fdp_cli.proofs.top.run.Goals as goal
