@@ -1,2 +1,17 @@
 //! The plain drive: it takes a list of entries one by one, and refuses each that is no step after those before it.
 #![tactic(auto)]
+
+mod commit;
+mod copied;
+mod plain;
+mod prepare;
+mod refused;
+mod reserve;
+mod step;
+mod take;
+
+pub use plain::Plain;
+pub use refused::Refused;
+
+#[cfg(test)]
+mod tests;

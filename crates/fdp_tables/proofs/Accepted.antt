@@ -19,7 +19,7 @@ none_after : (holds : Bool) (status : Status) (xs : List Check) → first_that_h
 none_after true status xs e = absurd (cc)
 none_after false status xs e = (refl, e)
 
-none_holds : (xs : List Check) → first_that_holds xs ≡ None → NoneHolds xs
+pub none_holds : (xs : List Check) → first_that_holds xs ≡ None → NoneHolds xs
 none_holds [] e = tt
 none_holds (x ∷ xs) e =
     let here = none_after x.holds x.status xs e in

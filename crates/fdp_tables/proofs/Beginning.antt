@@ -29,7 +29,7 @@ pub record IsFirst (o : Option Namespace) : Type 0 where
   pub known : (i : ℕ) → slice_index (option_map_or (λ (x : Namespace). x.handles) o []) i < 16
   pub birth : option_map_or (λ (x : Namespace). x.birth) o 0 ≡ 0
 
-each_known : (n : ℕ) (xs : List ℕ) → n ≤ 16 → All (λ ruh. ruh < n) xs → (i : ℕ) → slice_index xs i < 16
+pub each_known : (n : ℕ) (xs : List ℕ) → n ≤ 16 → All (λ ruh. ruh < n) xs → (i : ℕ) → slice_index xs i < 16
 each_known n [] few h i = omega arith
 each_known n (x ∷ xs) few h zero = omega (arith, h zero 0 (omega arith))
 each_known n (x ∷ xs) few h (suc i) = each_known n xs few (λ k d below. h (suc k) d (omega arith)) i
@@ -51,7 +51,7 @@ few_at [] h i = omega arith
 few_at (x ∷ xs) h zero = (h zero [] (omega arith)).1
 few_at (x ∷ xs) h (suc i) = few_at xs (λ k d below. h (suc k) d (omega arith)) i
 
-few_handles : (c : DriveConfig) → IsValidConfig c → (enabled : Bool) (index : ℕ) → handle_count c enabled index ≤ 16
+pub few_handles : (c : DriveConfig) → IsValidConfig c → (enabled : Bool) (index : ℕ) → handle_count c enabled index ≤ 16
 few_handles c valid true index = few_at c.fdp valid.ranges.handles index
 few_handles c valid false index = omega arith
 

@@ -1,6 +1,7 @@
 pub mod Counted
 pub mod Going
 pub mod Places
+pub mod Rows
 pub mod Reports
 pub mod Rules
 pub mod Sound

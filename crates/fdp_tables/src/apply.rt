@@ -3,6 +3,7 @@ ghost use Rattle.fdp_base.specs.declared.command.Command.{Command};
 ghost use Rattle.fdp_base.specs.declared.entry.Entry.TheVariants as entries;
 ghost use Rattle.fdp_base.specs.Change.{changed_by};
 ghost use Rattle.fdp_tables.specs.Ready.{IsChangeReady, IsStartReady};
+ghost use Rattle.fdp_tables.specs.Rows.{KeepsRows};
 ghost use Rattle.fdp_tables.specs.Sound.{IsSound};
 ghost use Rattle.fdp_tables.specs.State.{plain_of};
 
@@ -28,6 +29,7 @@ impl Kept {
         requires ready { IsChangeReady self.old entry.now made.blocks.items made.space made.going }
         ensures state { plain_of self.new ≡ changed_by self.old.config (plain_of self.old) entry.now }
         ensures rest { self.new ≡ record self.old { enabled = self.new.enabled; index = self.new.index; generation = self.new.generation; reports = self.new.reports; spaces = self.new.spaces; references = self.new.references; going = self.new.going; lost = self.new.lost; worn = self.new.worn; media = self.new.media } }
+        ensures rows { KeepsRows self.old self.new }
     {
         let Made {
             blocks,
@@ -60,6 +62,7 @@ impl Kept {
         requires { queue < length self.old.going.items }
         ensures state { (number : ℕ) (command : Command) (rg ruh : ℕ) (pid_valid : Bool) → IsStartReady self.old queue number command rg ruh pid_valid going → plain_of self.new ≡ changed_by self.old.config (plain_of self.old) (entries.Started queue number command rg ruh pid_valid) }
         ensures rest { self.new ≡ record self.old { going = self.new.going } }
+        ensures rows { KeepsRows self.old self.new }
     {
         if let Some(going) = going {
             self.start(queue, going);

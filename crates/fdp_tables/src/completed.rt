@@ -6,6 +6,7 @@ ghost use Rattle.fdp_base.specs.CommandKinds.{is_write};
 ghost use Rattle.fdp_base.specs.Effect.{effect_of};
 ghost use Rattle.fdp_base.specs.Numbers.{with_at};
 ghost use Rattle.fdp_tables.specs.Ready.{HasSpace, IsAsAsked, IsReady};
+ghost use Rattle.fdp_tables.specs.Rows.{KeepsRows};
 ghost use Rattle.fdp_tables.specs.Sound.{IsSound};
 ghost use Rattle.fdp_tables.specs.State.{plain_of};
 
@@ -31,6 +32,7 @@ impl Kept {
         requires moments { vec_len self.old.media < vec_capacity self.old.media }
         ensures state { plain_of self.new ≡ completed_in self.old.config (plain_of self.old) queue command.now reply.now moment }
         ensures rest { self.new ≡ record self.old { enabled = self.new.enabled; index = self.new.index; generation = self.new.generation; reports = self.new.reports; spaces = self.new.spaces; references = self.new.references; going = self.new.going; media = self.new.media } }
+        ensures rows { KeepsRows self.old self.new }
     {
         self.change_if(reply.applied, queue, command, blocks, space);
         self.end_write(queue, command);
@@ -50,6 +52,7 @@ impl Kept {
         requires effect { applied ≡ true → IsReady self.old queue command.now blocks.items space }
         ensures state { plain_of self.new ≡ (if applied then effect_of self.old.config (plain_of self.old) queue command.now else plain_of self.old) }
         ensures rest { self.new ≡ record self.old { enabled = self.new.enabled; index = self.new.index; generation = self.new.generation; reports = self.new.reports; spaces = self.new.spaces; references = self.new.references } }
+        ensures rows { KeepsRows self.old self.new }
     {
         if applied {
             self.take_effect(queue, command, blocks, space);
@@ -61,6 +64,7 @@ impl Kept {
         requires { queue < length self.old.going.items }
         ensures state { plain_of self.new ≡ record (plain_of self.old) { going = if is_write command.now then with_at (plain_of self.old).going queue None else (plain_of self.old).going } }
         ensures rest { self.new ≡ record self.old { going = self.new.going } }
+        ensures rows { KeepsRows self.old self.new }
     {
         if is_write(command) {
             self.set_going(queue, None);
@@ -72,6 +76,7 @@ impl Kept {
         requires { vec_len self.old.media < vec_capacity self.old.media }
         ensures state { plain_of self.new ≡ record (plain_of self.old) { media = if is_media_error status then moment ∷ (plain_of self.old).media else (plain_of self.old).media } }
         ensures rest { self.new ≡ record self.old { media = self.new.media } }
+        ensures rows { KeepsRows self.old self.new }
     {
         if is_error(status) {
             self.media.push_reserved(moment);
@@ -91,6 +96,7 @@ impl Kept {
         requires ready { IsReady self.old queue command.now blocks.items space }
         ensures state { plain_of self.new ≡ effect_of self.old.config (plain_of self.old) queue command.now }
         ensures rest { self.new ≡ record self.old { enabled = self.new.enabled; index = self.new.index; generation = self.new.generation; reports = self.new.reports; spaces = self.new.spaces; references = self.new.references } }
+        ensures rows { KeepsRows self.old self.new }
     {
         match command {
             Command::Write { nsid, slba, .. } => self.write(*nsid, *slba, blocks),
@@ -125,6 +131,7 @@ impl Kept {
         requires { HasSpace self.old space }
         ensures state { (queue size : ℕ) (given : Bool) (list : List ℕ) → IsAsAsked self.old size given list space → plain_of self.new ≡ effect_of self.old.config (plain_of self.old) queue (commands.Create size given list) }
         ensures rest { self.new ≡ record self.old { spaces = self.new.spaces } }
+        ensures rows { KeepsRows self.old self.new }
     {
         if let Some(space) = space {
             if let Some(nsid) = self.lowest_free() {

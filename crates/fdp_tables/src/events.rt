@@ -17,7 +17,7 @@ impl Kept {
     }
 
     /// The position of the entry that comes next.
-    pub(crate) fn next_position(&self) -> u64
+    pub fn next_position(&self) -> u64
         ensures { result ≡ (plain_of self.now).position + 1 }
     {
         self.entries.len() as u64 + 1

@@ -43,5 +43,7 @@ mod update;
 mod write;
 mod writes;
 
+pub use apply::Made;
+pub use kinds::blocks_written;
 pub use rule::{Rule, falls_under_one_rule};
 pub use state::{Destination, Kept, KeptBlock, KeptGoing, KeptReference, KeptReports, Space};

@@ -5,6 +5,7 @@ ghost use Rattle.fdp_base.specs.Numbers.{with_at};
 ghost use Rattle.fdp_base.specs.PlainState.{PageName.written};
 ghost use Rattle.fdp_base.specs.Sites.{ascends, group_of, last_run, moved_by, outside, traced_by};
 ghost use Rattle.fdp_tables.specs.Places.{HasGroupOf, HasPlaces};
+ghost use Rattle.fdp_tables.specs.Rows.{KeepsPlaces};
 ghost use Rattle.fdp_tables.specs.State.{copies_at, copy_of, point_kept, site_at};
 
 use crate::state::Kept;
@@ -39,6 +40,7 @@ impl Kept {
         ensures sites { (t i : ℕ) → site_at self.new (written t i) ≡ (if ticket == t && index == i then Some spot else site_at self.old (written t i)) }
         ensures rest { self.new ≡ record self.old { sites = self.new.sites } }
         ensures rows { length self.new.sites.items ≡ length self.old.sites.items }
+        ensures places { KeepsPlaces self.old self.new }
     {
         self.sites[ticket as usize][index as usize] = Some(spot);
     }
@@ -48,6 +50,7 @@ impl Kept {
         ensures sites { (t i : ℕ) → site_at self.new (written t i) ≡ option_and_then (outside unit) (site_at self.old (written t i)) }
         ensures rest { self.new ≡ record self.old { sites = self.new.sites } }
         ensures rows { length self.new.sites.items ≡ length self.old.sites.items }
+        ensures places { KeepsPlaces self.old self.new }
     {
         erase_all(&mut self.sites, unit);
     }
@@ -58,6 +61,7 @@ impl Kept {
         ensures sites { (t i : ℕ) → site_at self.new (written t i) ≡ option_map (moved_by (last_run (copies_at self.old rg))) (site_at self.old (written t i)) }
         ensures rest { self.new ≡ record self.old { sites = self.new.sites } }
         ensures rows { length self.new.sites.items ≡ length self.old.sites.items }
+        ensures places { KeepsPlaces self.old self.new }
     {
         let pass = last_run(self.copies[usize::from(rg)].as_slice());
         move_all(&mut self.sites, pass);
@@ -79,6 +83,7 @@ impl Kept {
         ensures copies { copies_at self.new ≡ (traced_by self.old.config (point_kept self.old).trail entry.now).copies }
         ensures rest { self.new ≡ record self.old { sites = self.new.sites; copies = self.new.copies } }
         ensures site_rows { length self.new.sites.items ≡ length self.old.sites.items }
+        ensures places { KeepsPlaces self.old self.new }
         ensures copy_rows { length self.new.copies.items ≡ length self.old.copies.items }
     {
         match entry {
@@ -115,6 +120,7 @@ impl Kept {
         ensures copies { copies_at self.new ≡ with_at (copies_at self.old) rg [] }
         ensures rest { self.new ≡ record self.old { sites = self.new.sites; copies = self.new.copies } }
         ensures site_rows { length self.new.sites.items ≡ length self.old.sites.items }
+        ensures places { KeepsPlaces self.old self.new }
         ensures copy_rows { length self.new.copies.items ≡ length self.old.copies.items }
     {
         self.move_sites(rg);
@@ -128,6 +134,7 @@ impl Kept {
         ensures copies { copies_at self.new ≡ with_at (copies_at self.old) (group_of self.old.config unit) [] }
         ensures rest { self.new ≡ record self.old { sites = self.new.sites; copies = self.new.copies } }
         ensures site_rows { length self.new.sites.items ≡ length self.old.sites.items }
+        ensures places { KeepsPlaces self.old self.new }
         ensures copy_rows { length self.new.copies.items ≡ length self.old.copies.items }
     {
         self.erase_sites(unit);

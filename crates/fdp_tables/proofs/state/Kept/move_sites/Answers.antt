@@ -5,6 +5,7 @@ use Rattle.std.proofs.lemmas.Option.{slice_get_read}
 use Rattle.fdp_base.specs.PlainState.PageName.{written}
 use Rattle.fdp_base.specs.Sites.{last_run, moved_by}
 use Rattle.fdp_tables.specs.State.{copies_at, copy_of, site_at}
+use Rattle.fdp_tables.proofs.Placing.{count_of_rows}
 use Rattle.fdp_tables.proofs.Walks.{row_of_rows}
 use Rattle.fdp_tables.proofs.state.Kept.move_sites.Goals as goal
 
@@ -21,3 +22,7 @@ returns-clause-sites c =
     λ t i.
     row_of_rows vec_items (option_map (moved_by (map copy_of c.last_run-pass.result.now))) k.sites.items c.move_all.new.sites.items t i refl c.move_all.ensures.pages
     ∙ ap (λ p. option_map (moved_by p) (site_at k (written t i))) pass
+
+pub returns-clause-places : goal.returns-clause-places
+returns-clause-places c =
+    λ t. count_of_rows vec_items (option_map (moved_by (map copy_of c.last_run-pass.result.now))) c.args.self.now.sites.items c.move_all.new.sites.items t c.move_all.ensures.pages

@@ -1,0 +1,108 @@
+-- Lists that have other spare room say the same.
+use Rattle.std.proofs.Common.{◌≡◌, ℕ, true, false, not, Global, Vec, List, [], length, Option, None, Some, refl, sym, ◌∙◌, ap, subst, map, reverse}
+use Rattle.std.specs.Prelude.{filter, option_and_then, option_map, slice_get}
+use Rattle.std.specs.Option.{option_map_or}
+use Rattle.std.specs.Vec.{vec_items}
+use Rattle.std.proofs.lemmas.List.{length-map}
+use Rattle.std.proofs.lemmas.Option.{slice_get-map}
+use Rattle.fdp_base.specs.declared.config.DriveConfig.{DriveConfig}
+use Rattle.fdp_base.specs.declared.entry.Entry.{Entry}
+use Rattle.fdp_base.specs.declared.entry.Spot.{Spot}
+use Rattle.fdp_base.specs.declared.event.Event.{Event}
+use Rattle.fdp_base.specs.Events.{is_host_event, latest}
+use Rattle.fdp_base.specs.History.{fresh, point_of}
+use Rattle.fdp_base.specs.PlainState.{PageName, PageName.found, PageName.written, PlainState}
+use Rattle.fdp_base.specs.Point.{Point}
+use Rattle.fdp_base.specs.Sites.{trail_of}
+use Rattle.fdp_base.specs.Step.{Follows}
+use Rattle.fdp_tables.specs.declared.state.Kept.{Kept}
+use Rattle.fdp_tables.specs.State.{copies_at, copy_of, plain_of, point_kept, row, site_at}
+use Rattle.fdp_plain.specs.Reserved.{IsSame}
+use Rattle.fdp_plain.specs.Rows.{HasRows}
+use Rattle.fdp_plain.specs.Standing.{IsStanding}
+
+-- a page stands where it stood by the same rows, configuration and entries
+pub same_site : (k m : Kept) → m.sites.items ≡ k.sites.items → m.config ≡ k.config → m.entries.items ≡ k.entries.items → (name : PageName) → site_at m name ≡ site_at k name
+same_site k m sites config entries (written ticket index) = ap (λ (rows : List (Vec (Option Spot) Global)). option_and_then (λ pages. row pages.items index) (slice_get rows ticket)) sites
+same_site k m sites config entries (found spot) =
+    ap (λ (c : DriveConfig). (trail_of c m.entries.items).site (found spot)) config
+    ∙ ap (λ (es : List Entry). (trail_of k.config es).site (found spot)) entries
+
+-- the copies of a group, by the lists of all groups
+copies_read : {V : Type 0} (read : V → List (Spot × Spot)) (vs : List V) (rg : ℕ) → option_map_or (λ v. map copy_of (read v)) (slice_get vs rg) [] ≡ option_map_or (λ xs. map copy_of xs) (slice_get (map read vs) rg) []
+copies_read read vs rg =
+    elim (slice_get vs rg) as (λ o. option_map_or (λ v. map copy_of (read v)) o [] ≡ option_map_or (λ xs. map copy_of xs) (option_map read o) []) [ None ↦ refl | Some v ↦ refl ]
+    ∙ ap (λ o. option_map_or (λ (xs : List (Spot × Spot)). map copy_of xs) o []) (sym (slice_get-map read vs rg))
+
+-- the copies of each group by the same lists
+pub same_copies : (k m : Kept) → map vec_items m.copies.items ≡ map vec_items k.copies.items → (rg : ℕ) → copies_at m rg ≡ copies_at k rg
+same_copies k m same rg =
+    copies_read vec_items m.copies.items rg
+    ∙ ap (λ (rows : List (List (Spot × Spot))). option_map_or (λ xs. map copy_of xs) (slice_get rows rg) []) same
+    ∙ sym (copies_read vec_items k.copies.items rg)
+
+module _ (k m : Kept) (h : IsSame k m) where
+  same_config : m.config ≡ k.config
+  same_config = ap (λ (x : Kept). x.config) h.rest
+
+  -- the state is that of before
+  pub same_state : plain_of m ≡ plain_of k
+  same_state =
+      ap plain_of h.rest
+      ∙ ap (λ (es : List Entry). let s : PlainState = record (plain_of k) { position = length es; media = reverse m.media.items } in s) h.entries
+      ∙ ap (λ (moments : List ℕ). let s : PlainState = record (plain_of k) { media = reverse moments } in s) h.media
+
+  -- all that stands is that of before
+  pub same_point : point_kept m ≡ point_kept k
+  same_point =
+      let state = same_state in
+      let site : site_at m ≡ site_at k = λ d name. same_site k m h.sites same_config h.entries name d in
+      let copies : copies_at m ≡ copies_at k = λ d rg. same_copies k m h.copies rg d in
+      let hosts : m.host_blocks ≡ k.host_blocks = ap (λ (x : Kept). x.host_blocks) h.rest in
+      let media : m.media_blocks ≡ k.media_blocks = ap (λ (x : Kept). x.media_blocks) h.rest in
+      let erased : m.erases ≡ k.erases = ap (λ (x : Kept). x.erases) h.rest in
+      let count = ap length h.entries in
+      let host_class = ap (λ (es : List Event). latest (filter is_host_event es)) h.events in
+      let other_class = ap (λ (es : List Event). latest (filter (λ x. not (is_host_event x)) es)) h.events in
+      λ d. record {
+        is_opening = false;
+        state = state d;
+        trail = record { site = site d; copies = copies d };
+        totals = record { position = count d; host_blocks = hosts d; media_blocks = media d; erases = erased d };
+        host_events = host_class d;
+        controller_events = other_class d;
+      }
+
+  -- what may follow is what may follow before
+  pub same_follows : (e : Entry) → Follows true k.config (point_kept k) e → Follows true m.config (point_kept m) e
+  same_follows e f =
+      subst (λ (c : DriveConfig). Follows true c (point_kept m) e) (sym same_config) (subst (λ (p : Point). Follows true k.config p e) (sym same_point) f)
+
+  same_rows_there : HasRows k → HasRows m
+  same_rows_there rows =
+      let now : Kept = record k { entries = m.entries; media = m.media; sites = m.sites; copies = m.copies; events = m.events } in
+      let there : HasRows now = record {
+        spaces = rows.spaces;
+        reports = rows.reports;
+        references = rows.references;
+        going = rows.going;
+        lost = rows.lost;
+        worn = rows.worn;
+        sites = rw (h.sites, h.entries) rows.sites;
+        copies = sym (length-map m.copies.items vec_items) ∙ ap length h.copies ∙ length-map k.copies.items vec_items ∙ rows.copies;
+        pages = λ queue g e. ap (λ sites. option_map (λ pages. length pages.items) (slice_get sites g.ticket)) h.sites ∙ rows.pages queue g e;
+      } in
+      subst HasRows (sym h.rest) there
+
+  -- the tables still say what stands after the entries
+  pub same_standing : IsStanding k → IsStanding m
+  same_standing standing =
+      let config = same_config in
+      let entries = h.entries in
+      let point = standing.point in
+      record {
+        config = rw config standing.config;
+        rows = same_rows_there standing.rows;
+        point = same_point ∙ standing.point ∙ sym (ap (λ (c : DriveConfig). point_of c (fresh c) m.entries.items) config ∙ ap (point_of k.config (fresh k.config)) entries);
+        legal = rw (config, entries) standing.legal;
+      }

@@ -1,0 +1,26 @@
+use Rattle.std.proofs.Common.{◌≡◌, None, length, ap, subst, ◌∙◌}
+use Rattle.std.proofs.lemmas.List.{length-replicate}
+use Rattle.fdp_plain.specs.Longer.{IsTraced}
+use Rattle.fdp_plain.specs.Prepared.{pages_of}
+use Rattle.fdp_plain.proofs.Fitting.{counts_there, places_there, same_places}
+use Rattle.fdp_plain.proofs.Sound.{standing_sound}
+use Rattle.fdp_plain.proofs.Taking.{taken}
+use Rattle.fdp_plain.proofs.commit.commit.Goals as goal
+
+pub change-requires-clause-sound : goal.change-requires-clause-sound
+change-requires-clause-sound c = standing_sound c.args.kept.now c.requires.standing
+
+pub trace-requires-clause-places : goal.trace-requires-clause-places
+trace-requires-clause-places c =
+    same_places c.args.kept.now c.change.new.self c.args.prepared.entry c.change.ensures.rest
+    (places_there c.args.kept.now c.args.prepared.entry (standing_sound c.args.kept.now c.requires.standing) c.requires.follows c.requires.spare.copy)
+
+pub lengthen-requires-clause-count : goal.lengthen-requires-clause-count
+lengthen-requires-clause-count c =
+    counts_there c.args.kept.now c.change.new.self c.trace.new.kept (standing_sound c.args.kept.now c.requires.standing) c.change.ensures.rest c.trace.ensures.rest
+
+pub returns-clause-standing : goal.returns-clause-standing
+returns-clause-standing c =
+    let count : length c.args.prepared.pages.items ≡ pages_of c.args.prepared.entry = ap length c.requires.prepared.pages ∙ length-replicate (pages_of c.args.prepared.entry) None in
+    taken c.args.kept.now c.change.new.self c.trace.new.kept c.lengthen.new.kept c.args.prepared.entry c.args.events.now
+    c.requires.standing c.requires.follows c.change.ensures.state c.change.ensures.rest c.change.ensures.rows (subst (IsTraced c.change.new.self c.trace.new.kept c.args.prepared.entry) count c.trace.ensures) c.lengthen.ensures c.requires.events

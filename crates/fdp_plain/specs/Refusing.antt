@@ -1,0 +1,33 @@
+-- Why an entry is not taken.
+use Rattle.std.specs.Prelude.{◌≡◌, ℕ, ◌+◌, true, List, length}
+use Rattle.fdp_base.specs.declared.config.DriveConfig.{DriveConfig}
+use Rattle.fdp_base.specs.declared.entry.Entry.{Entry}
+use Rattle.fdp_base.specs.History.{fresh, state_of}
+use Rattle.fdp_base.specs.PlainState.{PlainState}
+use Rattle.fdp_base.specs.Step.{IsStep}
+use Rattle.fdp_tables.specs.declared.rule.Rule.{Rule}
+use Rattle.fdp_tables.specs.Rules.{FallsUnder, number_of}
+use Rattle.fdp_plain.specs.declared.refused.Refused.{Refused}
+use Rattle.fdp_plain.specs.declared.refused.Refused.TheVariants as refusals
+
+-- the number of the rule under which an entry falls where this state stands
+pub record IsRuleNumber (s : PlainState) (e : Entry) (why : ℕ) : Type 0 where
+  pub rule : Rule
+  pub falls : FallsUnder s e rule
+  pub number : why ≡ number_of rule
+
+-- an entry is no step after these of a fresh drive; its position and the number of its rule
+pub record IsNoStep (c : DriveConfig) (before : List Entry) (e : Entry) (at why : ℕ) : Type 0 where
+  pub no_step : IsStep true c (fresh c) before e → ⊥
+  pub position : at ≡ length before + 1
+  pub rule : IsRuleNumber (state_of c (fresh c) before) e why
+
+-- why an entry was not taken after these: it is no step, or there was no memory
+abbrev pub IsCause : DriveConfig → List Entry → Entry → Refused → Type 0
+IsCause c before e (refusals.Illegal at why) = IsNoStep c before e at why
+IsCause c before e refusals.NoMemory = Unit {0}
+
+-- the position of an entry and the number of its rule, where this state stands
+abbrev pub IsIllegalIn : PlainState → Entry → Refused → Type 0
+IsIllegalIn s e (refusals.Illegal at why) = (at ≡ s.position + 1) × IsRuleNumber s e why
+IsIllegalIn s e refusals.NoMemory = ⊥

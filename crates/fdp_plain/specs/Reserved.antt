@@ -1,0 +1,56 @@
+-- The spare room that an entry takes.
+use Rattle.std.specs.Prelude.{◌≡◌, ℕ, ◌+◌, ◌<◌, ◌≤◌, map}
+use Rattle.std.specs.Vec.{vec_capacity, vec_items, vec_len}
+use Rattle.fdp_base.specs.declared.entry.Entry.{Entry}
+use Rattle.fdp_base.specs.declared.entry.Entry.TheVariants as entries
+use Rattle.fdp_tables.specs.declared.state.Kept.{Kept}
+use Rattle.fdp_tables.specs.Places.{HasCopyRoom, HasGroupOf}
+
+-- the group in which an entry copies a page is there
+abbrev pub HasCopyGroup : Kept → Entry → Type 0
+HasCopyGroup k (entries.Host queue number command reply moment) = Unit {0}
+HasCopyGroup k (entries.Started queue number command rg ruh pid_valid) = Unit {0}
+HasCopyGroup k (entries.Placed ticket index unit page) = Unit {0}
+HasCopyGroup k (entries.Copied old new) = HasGroupOf k old.unit
+HasCopyGroup k (entries.Moved rg blocks) = Unit {0}
+HasCopyGroup k (entries.Erased unit) = Unit {0}
+HasCopyGroup k (entries.Retired unit) = Unit {0}
+HasCopyGroup k (entries.Aside unit) = Unit {0}
+HasCopyGroup k (entries.Shut rg ruh) = Unit {0}
+HasCopyGroup k (entries.Worn rg) = Unit {0}
+HasCopyGroup k entries.Reopened = Unit {0}
+
+-- there is spare room for a copy where an entry makes one
+abbrev pub HasCopySpare : Kept → Entry → Type 0
+HasCopySpare k (entries.Host queue number command reply moment) = Unit {0}
+HasCopySpare k (entries.Started queue number command rg ruh pid_valid) = Unit {0}
+HasCopySpare k (entries.Placed ticket index unit page) = Unit {0}
+HasCopySpare k (entries.Copied old new) = HasCopyRoom k old.unit
+HasCopySpare k (entries.Moved rg blocks) = Unit {0}
+HasCopySpare k (entries.Erased unit) = Unit {0}
+HasCopySpare k (entries.Retired unit) = Unit {0}
+HasCopySpare k (entries.Aside unit) = Unit {0}
+HasCopySpare k (entries.Shut rg ruh) = Unit {0}
+HasCopySpare k (entries.Worn rg) = Unit {0}
+HasCopySpare k entries.Reopened = Unit {0}
+
+-- there is spare room for the moment of an error
+abbrev pub HasMomentSpare : Kept → Type 0
+HasMomentSpare k = vec_len k.media < vec_capacity k.media
+
+-- there is spare room for an entry and for so many events
+pub record HasSpare (k : Kept) (e : Entry) (count : ℕ) : Type 0 where
+  pub entries : vec_len k.entries < vec_capacity k.entries
+  pub events : vec_len k.events + count ≤ vec_capacity k.events
+  pub moment : HasMomentSpare k
+  pub sites : vec_len k.sites < vec_capacity k.sites
+  pub copy : HasCopySpare k e
+
+-- all lists hold the same; only their spare room may be another
+pub record IsSame (old new : Kept) : Type 0 where
+  pub entries : new.entries.items ≡ old.entries.items
+  pub media : new.media.items ≡ old.media.items
+  pub sites : new.sites.items ≡ old.sites.items
+  pub copies : map vec_items new.copies.items ≡ map vec_items old.copies.items
+  pub events : new.events.items ≡ old.events.items
+  pub rest : new ≡ record old { entries = new.entries; media = new.media; sites = new.sites; copies = new.copies; events = new.events }

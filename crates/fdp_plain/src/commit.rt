@@ -1,0 +1,65 @@
+ghost use Rattle.std.specs.Prelude.{◌≡◌, ◌+◌, ◌<◌, ◌≤◌, ◌∷◌, ◌++◌, [], None, length, replicate, true};
+ghost use Rattle.std.specs.Vec.{vec_capacity, vec_len};
+ghost use Rattle.fdp_base.specs.Events.{kept_of_entry};
+ghost use Rattle.fdp_base.specs.Step.{Follows};
+ghost use Rattle.fdp_tables.specs.Counted.{HasCountRoom};
+ghost use Rattle.fdp_tables.specs.Places.{HasPlaces};
+ghost use Rattle.fdp_tables.specs.State.{plain_of, point_kept};
+ghost use Rattle.fdp_plain.specs.Longer.{IsLonger, IsTraced};
+ghost use Rattle.fdp_plain.specs.Prepared.{IsPrepared};
+ghost use Rattle.fdp_plain.specs.Reserved.{HasSpare};
+ghost use Rattle.fdp_plain.specs.Standing.{IsStanding};
+
+use crate::prepare::Prepared;
+use fdp_base::{Entry, Event, Spot};
+use fdp_tables::Kept;
+
+/// Takes an entry that may follow, with the events that it makes. All that needs memory was made, so it cannot fail.
+pub(crate) fn commit(kept: &mut Kept, prepared: Prepared, events: &[Event])
+    requires standing { IsStanding kept.old }
+    requires follows { Follows true kept.old.config (point_kept kept.old) prepared.entry }
+    requires prepared { IsPrepared kept.old prepared }
+    requires spare { HasSpare kept.old prepared.entry (length events.now) }
+    requires events { events.now ≡ kept_of_entry kept.old.config (plain_of kept.old) prepared.entry }
+    ensures standing { IsStanding kept.new }
+    ensures config { kept.new.config ≡ kept.old.config }
+    ensures entries { kept.new.entries.items ≡ kept.old.entries.items ++ prepared.entry ∷ [] }
+{
+    let Prepared { made, pages, entry } = prepared;
+    kept.change(&entry, made);
+    trace(kept, pages, &entry);
+    lengthen(kept, entry, events);
+}
+
+/// The pages that are to be written get their places, and what stands moves as an entry says.
+fn trace(kept: &mut Kept, pages: Vec<Option<Spot>>, entry: &Entry)
+    requires places { HasPlaces kept.old entry.now }
+    requires spare { vec_len kept.old.sites < vec_capacity kept.old.sites }
+    requires blank { pages.items ≡ replicate (length pages.items) None }
+    ensures { IsTraced kept.old kept.new entry.now (length pages.items) }
+{
+    kept.sites.push_reserved(pages);
+    kept.trace(entry);
+}
+
+/// An entry more is counted, its events are kept, and it stands behind the others.
+fn lengthen(kept: &mut Kept, entry: Entry, events: &[Event])
+    requires count { HasCountRoom kept.old }
+    requires entries { vec_len kept.old.entries < vec_capacity kept.old.entries }
+    requires events { vec_len kept.old.events + length events.now ≤ vec_capacity kept.old.events }
+    ensures { IsLonger kept.old kept.new entry events.now }
+{
+    kept.count(&entry);
+    append(&mut kept.events, events);
+    kept.entries.push_reserved(entry);
+}
+
+/// Puts events behind others.
+fn append(kept: &mut Vec<Event>, events: &[Event])
+    requires { vec_len kept.old + length events.now ≤ vec_capacity kept.old }
+    ensures { kept.new.items ≡ kept.old.items ++ events.now }
+{
+    for event in events {
+        kept.push_reserved(*event);
+    }
+}

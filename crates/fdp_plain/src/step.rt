@@ -1,0 +1,39 @@
+ghost use Rattle.std.specs.Prelude.{◌≡◌, ◌∷◌, ◌++◌, [], true, OnErr, OnOk};
+ghost use Rattle.fdp_base.specs.Step.{Follows};
+ghost use Rattle.fdp_tables.specs.State.{plain_of, point_kept};
+ghost use Rattle.fdp_plain.specs.Refusing.{IsIllegalIn};
+ghost use Rattle.fdp_plain.specs.Standing.{IsStanding};
+
+use crate::commit::commit;
+use crate::prepare::{kept_events, prepare};
+use crate::refused::Refused;
+use crate::reserve::reserve;
+use fdp_base::Entry;
+use fdp_tables::Kept;
+use std::alloc::{AllocError, Global};
+
+/// Takes an entry that may follow. All that needs memory is made before anything changes.
+pub(crate) fn take_step(kept: &mut Kept, alloc: Global, entry: &Entry) -> Result<(), AllocError>
+    requires standing { IsStanding kept.old }
+    requires follows { Follows true kept.old.config (point_kept kept.old) entry.now }
+    ensures standing { IsStanding kept.new }
+    ensures config { kept.new.config ≡ kept.old.config }
+    ensures taken { OnOk result (kept.new.entries.items ≡ kept.old.entries.items ++ entry.now ∷ []) }
+    ensures failed { OnErr result (kept.new.entries.items ≡ kept.old.entries.items) }
+{
+    let events = kept_events(kept, alloc, entry)?;
+    reserve(kept, entry, events.len())?;
+    let prepared = prepare(kept, alloc, entry)?;
+    commit(kept, prepared, events.as_slice());
+    Ok(())
+}
+
+/// Why an entry is refused that is no step.
+pub(crate) fn refusal(kept: &Kept, entry: &Entry) -> Refused
+    ensures { IsIllegalIn (plain_of kept.now) entry.now result }
+{
+    Refused::Illegal {
+        at: kept.next_position(),
+        why: kept.rule_of(entry).number(),
+    }
+}
