@@ -1,0 +1,1 @@
+//! Commands of several queues, step by step.
