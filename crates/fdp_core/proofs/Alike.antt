@@ -1,22 +1,21 @@
 -- What stays of the tables after an entry that changes, but for the going writes, nothing that they follow.
 use Rattle.std.proofs.Common.{◌≡◌, ℕ, ◌+◌, ◌-◌, ◌++◌, Bool, true, false, List, [], ◌∷◌, Option, Some, None, slice_get, refl, sym, ◌∙◌, ap, subst}
-use Rattle.std.specs.Prelude.{◌==◌, ◌||◌, IsTrue, IsFalse, option_map}
+use Rattle.std.specs.Prelude.{◌==◌, ◌||◌, IsTrue, option_map}
 use Rattle.std.specs.List.{list_any}
 use Rattle.std.specs.Option.{option_map_or}
 use Rattle.std.proofs.lemmas.List.Folds.{list_any-append}
 use Rattle.fdp_base.specs.declared.config.DriveConfig.{DriveConfig}
 use Rattle.fdp_base.specs.declared.entry.Entry.{Entry}
 use Rattle.fdp_base.specs.declared.entry.Spot.{Spot}
-use Rattle.fdp_base.specs.CommandKinds.{Write, nsid_of, write_of}
+use Rattle.fdp_base.specs.CommandKinds.{nsid_of, write_of}
 use Rattle.fdp_base.specs.Pattern.{payload_block}
 use Rattle.fdp_base.specs.Placement.{geometry_of}
 use Rattle.fdp_base.specs.PlainState.{Block, Going, Namespace, PageName, PlainState, Reference}
 use Rattle.fdp_base.specs.Point.{Point}
-use Rattle.fdp_base.specs.Room.{size_of}
 use Rattle.fdp_base.specs.Sites.{is_there}
 use Rattle.fdp_base.specs.Spare.{data_spare}
 use Rattle.fdp_base.specs.Step.{IsOnTarget, goes_to}
-use Rattle.fdp_base.specs.Target.{Target, target_of}
+use Rattle.fdp_base.specs.Target.{target_of}
 use Rattle.fdp_flash.specs.declared.cell.Cell.{Cell}
 use Rattle.fdp_flash.specs.declared.cell.Cell.TheVariants.{Whole}
 use Rattle.fdp_flash.specs.Cells.{IsBlankFrom}
@@ -27,7 +26,7 @@ use Rattle.fdp_map.specs.MapTable.{MapTable, mapped_at}
 use Rattle.fdp_spaces.specs.SpaceTable.{SpaceTable}
 use Rattle.fdp_core.specs.declared.book.Setting.{Setting}
 use Rattle.fdp_core.specs.declared.flight.Flight.{Flight}
-use Rattle.fdp_core.specs.Held.{AreHandlesOf, AreSpacesOf, AreUnitsOf, HasAllUnits, IsFlightOf, IsMapOf, IsMappedAs, IsPlaceOf, IsPlacedPage, IsSettingOf, IsUnused, going_of}
+use Rattle.fdp_core.specs.Held.{AreHandlesOf, AreSpacesOf, AreUnitsOf, HasAllUnits, IsFlightOf, IsMapOf, IsMappedAs, IsPlacedPage, IsSettingOf, IsUnused, going_of}
 use Rattle.fdp_core.specs.UsedOnce.{is_placed_in, is_used}
 
 -- but for the going writes, all that the tables follow is as it was

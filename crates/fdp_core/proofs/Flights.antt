@@ -1,11 +1,9 @@
 -- A flight that is put into a queue, or taken out of it.
-use Rattle.std.proofs.Common.{◌≡◌, ◌≢◌, ℕ, ◌<◌, Bool, true, false, List, length, set, Option, Some, None, refl, ap, sym, ◌∙◌, arith, cond, slice_get, ⊎_elim, eq-eqb, ne_eqb}
+use Rattle.std.proofs.Common.{◌≡◌, ℕ, ◌<◌, Bool, true, false, List, length, Option, Some, refl, ap, sym, ◌∙◌, cond, slice_get}
 use Rattle.std.specs.Prelude.{◌==◌, option_map, slice_set}
 use Rattle.std.specs.Option.{option_flatten}
-use Rattle.std.proofs.Math.ListN.{length-set}
-use Rattle.std.proofs.lemmas.Bool.{cases_eq}
 use Rattle.fdp_base.specs.Numbers.{with_at}
-use Rattle.fdp_base.specs.PlainState.{Going, PlainState}
+use Rattle.fdp_base.specs.PlainState.{Going}
 use Rattle.fdp_handles.proofs.Rows.{slice_get-set}
 use Rattle.fdp_core.specs.declared.flight.Flight.{Flight}
 use Rattle.fdp_core.specs.Held.{flight_in, going_of}

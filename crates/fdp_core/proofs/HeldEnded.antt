@@ -1,6 +1,6 @@
 -- What the end of a command leaves whose change is not made.
-use Rattle.std.proofs.Common.{◌≡◌, ◌≢◌, ℕ, ◌+◌, ◌<◌, ◌≤◌, Bool, true, false, List, [], ◌∷◌, ◌++◌, length, Option, Some, None, slice_set, refl, sym, ◌∙◌, ap, subst, arith, cond}
-use Rattle.std.specs.Prelude.{IsTrue, IsFalse, if◌then◌else◌, option_map}
+use Rattle.std.proofs.Common.{◌≡◌, ℕ, ◌+◌, ◌<◌, Bool, true, false, List, [], ◌∷◌, ◌++◌, length, Option, Some, None, slice_set, refl, sym, ◌∙◌, ap, subst, arith, cond}
+use Rattle.std.specs.Prelude.{IsFalse, if◌then◌else◌}
 use Rattle.std.proofs.Math.ListN.{length-set}
 use Rattle.fdp_base.specs.declared.command.Command.{Command}
 use Rattle.fdp_base.specs.declared.config.DriveConfig.{DriveConfig}
@@ -10,7 +10,7 @@ use Rattle.fdp_base.specs.declared.entry.Reply.{Reply}
 use Rattle.fdp_base.specs.Change.{after, changed_by, is_media_error}
 use Rattle.fdp_base.specs.CommandKinds.{is_write}
 use Rattle.fdp_base.specs.Effect.{effect_of}
-use Rattle.fdp_base.specs.History.{fresh, point_of, state_of}
+use Rattle.fdp_base.specs.History.{fresh, point_of}
 use Rattle.fdp_base.specs.Next.{next}
 use Rattle.fdp_base.specs.Numbers.{with_at}
 use Rattle.fdp_base.specs.PlainState.{Going, PlainState}
@@ -28,11 +28,11 @@ use Rattle.fdp_spaces.specs.SpaceTable.{SpaceTable}
 use Rattle.fdp_core.specs.declared.book.Setting.{Setting}
 use Rattle.fdp_core.specs.declared.book.Sums.{Sums}
 use Rattle.fdp_core.specs.declared.flight.Flight.{Flight}
-use Rattle.fdp_core.specs.Held.{AreFlightsOf, AreSumsOf, IsFlightOf, IsHeld, flight_in, flights_after, going_of}
+use Rattle.fdp_core.specs.Held.{AreFlightsOf, AreSumsOf, IsFlightOf, IsHeld, flights_after}
 use Rattle.fdp_core.specs.Pages.{cells_of}
 use Rattle.fdp_core.proofs.Alike.{IsAlike, all_units-alike, flight-alike, handles-alike, map-alike, setting-alike, spaces-alike, units-alike, used-push}
 use Rattle.fdp_core.proofs.Flights.{flown-set, going-set}
-use Rattle.fdp_core.proofs.HeldAt.{IsHeldAt, held-at}
+use Rattle.fdp_core.proofs.HeldAt.{held-at}
 use Rattle.fdp_core.proofs.HeldSums.{are_sums-push}
 use Rattle.fdp_core.proofs.Longer.{cells_of-push}
 

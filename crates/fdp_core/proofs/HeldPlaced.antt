@@ -87,7 +87,7 @@ going-placed c s queue g h e q =
     (cases_eq q queue)
 
 -- a command that is a write has what it puts where
-write-is : (o : Option Write) → IsTrue (is_some o) → (w : Write) × (o ≡ Some w)
+pub write-is : (o : Option Write) → IsTrue (is_some o) → (w : Write) × (o ≡ Some w)
 write-is None h = absurd cc
 write-is (Some w) h = (w, refl)
 

@@ -1,6 +1,5 @@
 -- What the Started entry of a write leaves of the tables: a flight more.
-use Rattle.std.proofs.Common.{◌≡◌, ℕ, ◌+◌, ◌<◌, ◌≤◌, Bool, true, List, [], ◌∷◌, ◌++◌, length, Option, Some, None, slice_get, slice_set, refl, sym, ◌∙◌, ap, subst, arith}
-use Rattle.std.specs.Prelude.{option_map}
+use Rattle.std.proofs.Common.{◌≡◌, ℕ, ◌<◌, Bool, true, List, [], ◌∷◌, ◌++◌, length, Option, Some, None, slice_get, slice_set, refl, sym, ◌∙◌, ap, subst, arith}
 use Rattle.std.proofs.Math.ListN.{length-set}
 use Rattle.fdp_base.specs.declared.command.Command.{Command}
 use Rattle.fdp_base.specs.declared.config.DriveConfig.{DriveConfig}
@@ -11,7 +10,7 @@ use Rattle.fdp_base.specs.Change.{after, changed_by, started}
 use Rattle.fdp_base.specs.History.{fresh, point_of}
 use Rattle.fdp_base.specs.Next.{next}
 use Rattle.fdp_base.specs.Numbers.{with_at}
-use Rattle.fdp_base.specs.PlainState.{Going, PlainState}
+use Rattle.fdp_base.specs.PlainState.{Going}
 use Rattle.fdp_base.specs.Point.{Point}
 use Rattle.fdp_base.specs.Sites.{traced_by}
 use Rattle.fdp_base.specs.Step.{Follows, IsOnTarget, IsStarted}
@@ -29,7 +28,7 @@ use Rattle.fdp_core.specs.Held.{AreFlightsOf, IsFlightOf, IsHeld, IsPlacedPage, 
 use Rattle.fdp_core.specs.Pages.{cells_of}
 use Rattle.fdp_core.proofs.Alike.{IsAlike, all_units-alike, flight-alike, handles-alike, map-alike, on_target-alike, setting-alike, spaces-alike, units-alike, used-push}
 use Rattle.fdp_core.proofs.Flights.{flown-set, going-set}
-use Rattle.fdp_core.proofs.HeldAt.{IsHeldAt, held-at}
+use Rattle.fdp_core.proofs.HeldAt.{held-at}
 use Rattle.fdp_core.proofs.HeldSums.{are_sums-push}
 use Rattle.fdp_core.proofs.Longer.{cells_of-push}
 

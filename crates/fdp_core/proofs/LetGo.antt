@@ -1,20 +1,19 @@
 -- A flight that is made for an accepted write, and what its step is.
-use Rattle.std.proofs.Common.{◌≡◌, ℕ, ◌+◌, ◌<◌, Bool, true, List, [], ◌∷◌, ◌++◌, length, Option, Some, None, refl, sym, ◌∙◌, ap, subst, arith, cond, eq-eqb, length-append}
+use Rattle.std.proofs.Common.{◌≡◌, ℕ, ◌+◌, ◌<◌, Bool, [], ◌∷◌, length, Option, Some, refl, sym, ◌∙◌, ap, subst, cond, eq-eqb, length-append}
 use Rattle.std.specs.Prelude.{option_map}
 use Rattle.fdp_base.specs.declared.command.Command.{Command}
 use Rattle.fdp_base.specs.declared.config.DriveConfig.{DriveConfig}
 use Rattle.fdp_base.specs.declared.entry.Entry.{Entry}
 use Rattle.fdp_base.specs.declared.entry.Entry.TheVariants as entries
-use Rattle.fdp_base.specs.declared.entry.Spot.{Spot}
 use Rattle.fdp_base.specs.Change.{birth_of, started}
 use Rattle.fdp_base.specs.CommandKinds.{nsid_of, write_of}
 use Rattle.fdp_base.specs.History.{fresh, point_of}
 use Rattle.fdp_base.specs.Next.{next}
 use Rattle.fdp_base.specs.Numbers.{with_at}
-use Rattle.fdp_base.specs.PlainState.{Going, PlainState}
+use Rattle.fdp_base.specs.PlainState.{Going}
 use Rattle.fdp_base.specs.Point.{Point}
 use Rattle.fdp_base.specs.Room.{roomiest}
-use Rattle.fdp_base.specs.Step.{Follows, IsOnTarget, IsStarted, goes_to}
+use Rattle.fdp_base.specs.Step.{Follows, IsOnTarget, goes_to}
 use Rattle.fdp_base.specs.Target.{target_of}
 use Rattle.fdp_base.proofs.Pushes.{point_of-push}
 use Rattle.fdp_history.specs.Orderly.{IsOrderly}
@@ -25,12 +24,11 @@ use Rattle.fdp_core.specs.declared.ticket.Ticket.{Ticket}
 use Rattle.fdp_core.specs.Book.{BookSeen, IsLonger, point_in, state_in}
 use Rattle.fdp_core.specs.BookSteps.{MayStart, Starts}
 use Rattle.fdp_core.specs.Destinations.{target_at}
-use Rattle.fdp_core.specs.Extent.{extent}
 use Rattle.fdp_core.specs.Held.{going_of}
 use Rattle.fdp_core.specs.Room.{RoomSeen}
 use Rattle.fdp_core.proofs.HeldStarted.{IsLetGo, started-going}
 use Rattle.fdp_core.proofs.Starting.{IsDestination, position-is, started-follows, started-target}
-use Rattle.fdp_core.proofs.Writes.{IsWriteOf, write-parts}
+use Rattle.fdp_core.proofs.Writes.{IsWriteOf}
 
 -- where a flight goes
 abbrev destination_of : Flight → Destination

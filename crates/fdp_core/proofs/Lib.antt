@@ -32,3 +32,12 @@ pub mod UnitsMore
 pub mod PlacedPages
 pub mod HeldPlaced
 pub mod PlaceSteps
+pub mod Verdicts
+pub mod Lasting
+pub mod HeldShut
+pub mod Endings
+pub mod Going
+pub mod PutPages
+pub mod Committed
+pub mod HeldCommitted
+pub mod Committing

@@ -1,8 +1,8 @@
 -- One pass over the groups finds the one than which none has more room, the lowest on a tie.
-use Rattle.std.proofs.Common.{◌≡◌, ℕ, zero, suc, ◌+◌, ◌<◌, ◌≤◌, Bool, true, false, not, List, [], ◌∷◌, find, Option, Some, None, refl, sym, ◌∙◌, ap, subst, cond, arith, ⊎_elim}
-use Rattle.std.specs.Prelude.{◌||◌, nat_lt, unwrap_or}
+use Rattle.std.proofs.Common.{◌≡◌, ℕ, zero, suc, ◌+◌, ◌<◌, ◌≤◌, Bool, true, false, not, find, Option, Some, refl, sym, ◌∙◌, ap, cond, arith, ⊎_elim}
+use Rattle.std.specs.Prelude.{◌||◌, unwrap_or}
 use Rattle.std.specs.List.{list_any}
-use Rattle.std.proofs.lemmas.Bool.{cases_lt, le-ltb, lt-ltb, ltb-false, ltb-true}
+use Rattle.std.proofs.lemmas.Bool.{cases_lt, le-ltb, lt-ltb}
 use Rattle.fdp_base.specs.declared.config.DriveConfig.{DriveConfig}
 use Rattle.fdp_base.specs.Numbers.{numbers_below, numbers_from}
 use Rattle.fdp_base.specs.PlainState.{PlainState}

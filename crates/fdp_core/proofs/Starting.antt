@@ -1,20 +1,19 @@
 -- Why the Started entry of an accepted write may follow.
-use Rattle.std.proofs.Common.{◌≡◌, ℕ, ◌+◌, ◌<◌, ◌≤◌, Bool, true, false, List, [], length, Option, Some, None, refl, sym, ◌∙◌, ap, subst, arith}
-use Rattle.std.specs.Prelude.{All, Contains, IsTrue, is_some, option_map}
+use Rattle.std.proofs.Common.{◌≡◌, ℕ, ◌<◌, ◌≤◌, List, [], length, Option, Some, None, refl, sym, ◌∙◌, ap, subst, arith}
+use Rattle.std.specs.Prelude.{All, IsTrue, is_some, option_map}
 use Rattle.std.specs.Option.{option_map_or}
 use Rattle.std.proofs.lemmas.List.Elements.{All-contains}
 use Rattle.fdp_base.specs.declared.command.Command.{Command}
 use Rattle.fdp_base.specs.declared.config.DriveConfig.{DriveConfig}
 use Rattle.fdp_base.specs.declared.entry.Entry.{Entry}
-use Rattle.fdp_base.specs.CommandKinds.{IsWellFormed, Write, is_write, nsid_of, write_of}
-use Rattle.fdp_base.specs.Geometry.{IsWithin}
+use Rattle.fdp_base.specs.CommandKinds.{IsWellFormed, is_write, nsid_of, write_of}
 use Rattle.fdp_base.specs.History.{fresh, point_of, totals_of}
 use Rattle.fdp_base.specs.PlainState.{Namespace, PlainState}
 use Rattle.fdp_base.specs.Point.{Point}
 use Rattle.fdp_base.specs.Refusal.{is_present, refusal_of}
 use Rattle.fdp_base.specs.Room.{handles_in_force, handles_of, roomiest}
 use Rattle.fdp_base.specs.Step.{IsQueue, IsStarted, goes_to}
-use Rattle.fdp_base.specs.Target.{Target, target_of}
+use Rattle.fdp_base.specs.Target.{target_of}
 use Rattle.fdp_history.specs.Orderly.{IsOrderly}
 use Rattle.fdp_history.specs.OrderlyState.{IsOrderlyState}
 use Rattle.fdp_core.specs.declared.destination.Destination.{Destination}

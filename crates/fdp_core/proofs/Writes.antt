@@ -1,9 +1,8 @@
 -- A write by its command and by the blocks that it puts, and where it may go.
-use Rattle.std.proofs.Common.{◌≡◌, ℕ, ◌+◌, ◌/◌, ◌%◌, ◌^◌, ◌-◌, ◌<◌, ◌≤◌, Bool, true, false, List, [], length, Option, Some, None, slice_get, refl, sym, ◌∙◌, ap, subst, arith, cond}
+use Rattle.std.proofs.Common.{◌≡◌, ℕ, ◌+◌, ◌≤◌, Bool, true, false, List, length, Option, Some, None, slice_get, refl, ap, subst, arith, cond}
 use Rattle.std.specs.Prelude.{Contains, IfSome, IsFalse, IsTrue, is_some, nat_lt, option_map, slice_index, unwrap_or}
 use Rattle.std.specs.Option.{option_map_or}
-use Rattle.std.proofs.lemmas.Bool.{ltb-true}
-use Rattle.std.proofs.lemmas.List.Elements.{All-contains, Contains-get_or}
+use Rattle.std.proofs.lemmas.List.Elements.{Contains-get_or}
 use Rattle.std.proofs.lemmas.Option.{get_or_from_slice_get, slice_get_within}
 use Rattle.fdp_base.specs.declared.command.Command.{Command}
 use Rattle.fdp_base.specs.declared.command.Command.TheVariants as commands
@@ -13,7 +12,7 @@ use Rattle.fdp_base.specs.PlainState.{Namespace, PlainState}
 use Rattle.fdp_base.specs.Point.{Point}
 use Rattle.fdp_base.specs.Refusal.{is_present, refusal_of}
 use Rattle.fdp_base.specs.Room.{handles_of, size_of}
-use Rattle.fdp_base.specs.Target.{Target, default_target, group_of_pid, handle_of_pid, named_by, target_of}
+use Rattle.fdp_base.specs.Target.{Target, default_target, group_of_pid, handle_of_pid, target_of}
 use Rattle.fdp_base.specs.Totals.{blocks_written}
 use Rattle.fdp_history.proofs.Checks.{accepted-write, formed-write}
 use Rattle.fdp_core.specs.declared.extent.Extent.{Extent}

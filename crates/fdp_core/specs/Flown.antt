@@ -75,7 +75,7 @@ HasPageMore old spot new = (f : Flight) × (new ≡ Some f) × IsPageMore old sp
 abbrev pub place_in : Mapped → List Spot → ℕ → Option Mapped
 place_in first pages index = option_map (λ (spot : Spot). record first { spot = spot; index = index }) (slice_get pages index)
 
--- the places of blocks with those of a write
-abbrev pub with_pages : (ℕ → ℕ → Option Mapped) → ℕ → ℕ → Mapped → List Spot → ℕ → ℕ → Option Mapped
-with_pages table nsid slba first pages n lba =
-    if n == nsid && is_among slba (length pages) lba then place_in first pages (lba - slba) else table n lba
+-- the places of blocks with those of a write, of so many blocks from an address on
+abbrev pub with_pages : (ℕ → ℕ → Option Mapped) → ℕ → ℕ → Mapped → List Spot → ℕ → ℕ → ℕ → Option Mapped
+with_pages table nsid slba first pages count n lba =
+    if n == nsid && is_among slba count lba then place_in first pages (lba - slba) else table n lba

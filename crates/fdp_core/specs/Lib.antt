@@ -15,5 +15,6 @@ pub mod Seen
 pub mod Media
 pub mod ReadSteps
 pub mod Steps
+pub mod Stages
 pub mod Answers
 pub mod Sound

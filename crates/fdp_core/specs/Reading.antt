@@ -1,6 +1,5 @@
 -- Where a block stands that is read.
-use Rattle.std.specs.Prelude.{◌≡◌, ℕ, List, Option, Some, None, slice_get}
-use Rattle.fdp_base.specs.declared.entry.Spot.{Spot}
+use Rattle.std.specs.Prelude.{◌≡◌, Option, Some, None, slice_get}
 use Rattle.fdp_base.specs.Placement.{geometry_of}
 use Rattle.fdp_base.specs.PlainState.{Block}
 use Rattle.fdp_base.specs.Step.{IsPage}

@@ -19,6 +19,7 @@ mod fresh;
 mod place;
 mod reading;
 mod refusal;
+mod stage;
 mod start;
 mod target;
 

@@ -1,4 +1,4 @@
-ghost use Rattle.std.specs.Prelude.{◌≡◌, ◌+◌, ◌*◌, ◌≤◌, ◌^◌, IsTrue, length, OnOk, OnErr, IfOk};
+ghost use Rattle.std.specs.Prelude.{◌≡◌, ◌↔◌, ◌+◌, ◌*◌, ◌≤◌, ◌^◌, IsTrue, length, OnOk, OnErr, IfOk};
 ghost use Rattle.fdp_base.specs.Config.{IsValidConfig};
 ghost use Rattle.fdp_base.specs.History.{fresh, totals_of};
 ghost use Rattle.fdp_base.specs.Placement.{geometry_of};
@@ -7,8 +7,11 @@ ghost use Rattle.fdp_core.specs.Pages.{blank_cells};
 ghost use Rattle.fdp_core.specs.BookSteps.{IsFlying};
 ghost use Rattle.fdp_core.specs.UsedOnce.{IsLegalOnce};
 ghost use Rattle.fdp_core.specs.Seen.{HoldsHistory, new_over};
+ghost use Rattle.fdp_core.specs.Stages.{IsStage};
+ghost use Rattle.fdp_core.specs.Steps.{IsFree};
 
 use crate::book::Book;
+use crate::stage::Stage;
 use crate::ticket::Ticket;
 use fdp_base::{DriveConfig, Entry, Totals};
 use fdp_flash::Flash;
@@ -127,6 +130,20 @@ impl<F: Flash> Group<F> {
         ensures { result ≡ self.now.failed }
     {
         self.failed
+    }
+
+    /// How far the write of a ticket has come. It takes a constant time.
+    pub fn stage(&self, ticket: &Ticket) -> Stage
+        ensures { IsStage self.now.book ticket.now result }
+    {
+        self.book.stage(ticket)
+    }
+
+    /// Whether no write is going in a queue with this number. It takes a constant time.
+    pub fn is_free(&self, queue: u8, number: u16) -> bool
+        ensures { IsTrue result ↔ IsFree (state_in self.now.book) queue number }
+    {
+        self.book.is_free(queue, number)
     }
 
     /// Gives a ticket up. Its write counts as going until the next write of its queue is started or refused.

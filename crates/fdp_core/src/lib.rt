@@ -11,9 +11,13 @@ mod log;
 mod media;
 mod next_page;
 mod room;
+mod stage;
+#[cfg(test)]
+mod tests;
 mod ticket;
 
 pub use answer::{Begun, Placed};
 pub use group::Group;
 pub use room::Room;
+pub use stage::Stage;
 pub use ticket::{Done, Ticket};

@@ -1,38 +1,33 @@
 -- The spare room that an entry takes.
-use Rattle.std.specs.Prelude.{◌≡◌, ℕ, ◌+◌, ◌<◌, ◌≤◌, map}
+use Rattle.std.specs.Prelude.{◌≡◌, ℕ, ◌+◌, ◌<◌, ◌≤◌, Option, None, Some, map}
+use Rattle.std.specs.Option.{IfSome}
 use Rattle.std.specs.Vec.{vec_capacity, vec_items, vec_len}
 use Rattle.fdp_base.specs.declared.entry.Entry.{Entry}
 use Rattle.fdp_base.specs.declared.entry.Entry.TheVariants as entries
 use Rattle.fdp_tables.specs.declared.state.Kept.{Kept}
 use Rattle.fdp_tables.specs.Places.{HasCopyRoom, HasGroupOf}
 
+-- the unit from which an entry copies a page
+abbrev pub copied_unit : Entry → Option ℕ
+copied_unit (entries.Host queue number command reply moment) = None
+copied_unit (entries.Started queue number command rg ruh pid_valid) = None
+copied_unit (entries.Placed ticket index unit page) = None
+copied_unit (entries.Copied old new) = Some old.unit
+copied_unit (entries.Moved rg blocks) = None
+copied_unit (entries.Erased unit) = None
+copied_unit (entries.Retired unit) = None
+copied_unit (entries.Aside unit) = None
+copied_unit (entries.Shut rg ruh) = None
+copied_unit (entries.Worn rg) = None
+copied_unit entries.Reopened = None
+
 -- the group in which an entry copies a page is there
 abbrev pub HasCopyGroup : Kept → Entry → Type 0
-HasCopyGroup k (entries.Host queue number command reply moment) = Unit {0}
-HasCopyGroup k (entries.Started queue number command rg ruh pid_valid) = Unit {0}
-HasCopyGroup k (entries.Placed ticket index unit page) = Unit {0}
-HasCopyGroup k (entries.Copied old new) = HasGroupOf k old.unit
-HasCopyGroup k (entries.Moved rg blocks) = Unit {0}
-HasCopyGroup k (entries.Erased unit) = Unit {0}
-HasCopyGroup k (entries.Retired unit) = Unit {0}
-HasCopyGroup k (entries.Aside unit) = Unit {0}
-HasCopyGroup k (entries.Shut rg ruh) = Unit {0}
-HasCopyGroup k (entries.Worn rg) = Unit {0}
-HasCopyGroup k entries.Reopened = Unit {0}
+HasCopyGroup k e = IfSome (copied_unit e) (HasGroupOf k)
 
 -- there is spare room for a copy where an entry makes one
 abbrev pub HasCopySpare : Kept → Entry → Type 0
-HasCopySpare k (entries.Host queue number command reply moment) = Unit {0}
-HasCopySpare k (entries.Started queue number command rg ruh pid_valid) = Unit {0}
-HasCopySpare k (entries.Placed ticket index unit page) = Unit {0}
-HasCopySpare k (entries.Copied old new) = HasCopyRoom k old.unit
-HasCopySpare k (entries.Moved rg blocks) = Unit {0}
-HasCopySpare k (entries.Erased unit) = Unit {0}
-HasCopySpare k (entries.Retired unit) = Unit {0}
-HasCopySpare k (entries.Aside unit) = Unit {0}
-HasCopySpare k (entries.Shut rg ruh) = Unit {0}
-HasCopySpare k (entries.Worn rg) = Unit {0}
-HasCopySpare k entries.Reopened = Unit {0}
+HasCopySpare k e = IfSome (copied_unit e) (HasCopyRoom k)
 
 -- there is spare room for the moment of an error
 abbrev pub HasMomentSpare : Kept → Type 0

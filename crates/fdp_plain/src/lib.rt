@@ -3,6 +3,8 @@
 
 mod commit;
 mod copied;
+mod made;
+mod pages;
 mod plain;
 mod prepare;
 mod refused;

@@ -3,7 +3,7 @@ use std::alloc::AllocError;
 /// Why an entry was not taken.
 #[derive(Clone, Copy, Debug, PartialEq, Eq)]
 pub enum Refused {
-    /// It is no step after the entries before it: its position, from 1 on, and the number of the rule that it breaks.
+    /// It is no step after the entries before it: its position, from 1 on, and the number of the rule under which it falls.
     Illegal { at: u64, why: u8 },
     /// There is no memory to take it.
     NoMemory,

@@ -71,8 +71,9 @@ impl Book {
             first,
             pages.as_slice(),
         );
+        let done = push_host(&mut self.log, queue, number, command, replies, moment);
         self.sums.host_blocks += u64::from(extent.count);
-        push_host(&mut self.log, queue, number, command, replies, moment)
+        done
     }
 }
 
@@ -81,7 +82,7 @@ fn put_pages(map: &mut Map, nsid: u32, slba: u64, first: Mapped, pages: &[Spot])
     requires range { slba + length pages.now ≤ size_in map.old nsid }
     requires size { size_in map.old nsid ≤ 262144 }
     requires group { first.rg < 16 }
-    ensures blocks { mapped_at map.new ≡ with_pages (mapped_at map.old) nsid slba first pages.now }
+    ensures blocks { mapped_at map.new ≡ with_pages (mapped_at map.old) nsid slba first pages.now (length pages.now) }
     ensures sizes { size_in map.new ≡ size_in map.old }
 {
     for index in 0..pages.len() {

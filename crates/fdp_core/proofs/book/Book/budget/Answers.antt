@@ -1,4 +1,4 @@
-use Rattle.std.proofs.Common.{◌≡◌, ℕ, ◌∙◌, sym, subst, ap}
+use Rattle.std.proofs.Common.{ℕ, ◌∙◌, sym, subst, ap}
 use Rattle.fdp_base.specs.Placement.{budget_of}
 use Rattle.fdp_core.specs.Book.{BookSeen, state_in}
 use Rattle.fdp_core.specs.Held.{HasAllUnits}

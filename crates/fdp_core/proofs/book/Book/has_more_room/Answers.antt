@@ -1,7 +1,5 @@
-use Rattle.std.proofs.Common.{◌≡◌, ℕ, ◌∙◌, sym, subst, ap}
-use Rattle.fdp_base.specs.PlainState.{PlainState}
+use Rattle.std.proofs.Common.{◌≡◌, ◌∙◌, subst}
 use Rattle.fdp_base.specs.Room.{budget, stored}
-use Rattle.fdp_map.specs.MapTable.{Agrees}
 use Rattle.fdp_core.specs.Book.{BookSeen, point_in, state_in}
 use Rattle.fdp_core.specs.Held.{IsMapOf}
 use Rattle.fdp_core.specs.Pages.{cells_of}

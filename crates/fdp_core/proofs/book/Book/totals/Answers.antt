@@ -1,4 +1,4 @@
-use Rattle.std.proofs.Common.{◌≡◌, ℕ, ◌+◌, length, List, sym, ◌∙◌, ap, subst, arith}
+use Rattle.std.proofs.Common.{◌≡◌, ◌+◌, length, List, sym, ◌∙◌, ap, subst, arith}
 use Rattle.fdp_base.specs.declared.entry.Entry.{Entry}
 use Rattle.fdp_base.specs.History.{fresh, totals_of}
 use Rattle.fdp_base.specs.Totals.{erases, host_blocks, media_blocks}

@@ -1,5 +1,5 @@
 use Rattle.std.proofs.Common.{◌≡◌, None, replicate}
-use Rattle.fdp_plain.proofs.prepare.no_pages.Given as goal
+use Rattle.fdp_plain.proofs.pages.no_pages.Given as goal
 
 abbrev pub invariant-loop : goal.invariant-loop
 invariant-loop l = l.pages.items ≡ replicate l.counter None

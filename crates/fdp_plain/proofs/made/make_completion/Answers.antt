@@ -1,6 +1,6 @@
 use Rattle.std.proofs.Common.{arith, ◌+◌, ◌<◌, ◌^◌, length}
 use Rattle.fdp_plain.proofs.Ready.{effect_ready}
-use Rattle.fdp_plain.proofs.prepare.make_completion.Goals as goal
+use Rattle.fdp_plain.proofs.made.make_completion.Goals as goal
 
 pub returns : goal.returns
 returns c =

@@ -1,5 +1,5 @@
 use Rattle.fdp_plain.proofs.Ready.{change_ready, host_of}
-use Rattle.fdp_plain.proofs.prepare.make.Goals as goal
+use Rattle.fdp_plain.proofs.made.make.Goals as goal
 
 pub make_completion-requires-clause-host : goal.make_completion-requires-clause-host
 make_completion-requires-clause-host c =

@@ -1,0 +1,96 @@
+-- What the end of a write that succeeds makes of what stands.
+use Rattle.std.proofs.Common.{◌≡◌, ◌≢◌, ◌⊎◌, inl, inr, ℕ, ◌+◌, ◌-◌, ◌<◌, ◌≤◌, Bool, true, false, List, [], ◌∷◌, length, Option, Some, None, refl, sym, ◌∙◌, ap, subst, arith, cond}
+use Rattle.std.specs.Prelude.{◌==◌, ◌&&◌, option_map, if◌then◌else◌, IsTrue}
+use Rattle.fdp_base.specs.declared.command.Command.{Command}
+use Rattle.fdp_base.specs.declared.command.Command.TheVariants as commands
+use Rattle.fdp_base.specs.declared.config.DriveConfig.{DriveConfig}
+use Rattle.fdp_base.specs.declared.entry.Entry.{Entry}
+use Rattle.fdp_base.specs.declared.entry.Entry.TheVariants as entries
+use Rattle.fdp_base.specs.declared.entry.Reply.{Reply}
+use Rattle.fdp_base.specs.declared.status.TheConstants.Status as statuses
+use Rattle.fdp_base.specs.Answer.{bare}
+use Rattle.fdp_base.specs.Change.{after, changed_by}
+use Rattle.fdp_base.specs.CommandKinds.{Write, write_of}
+use Rattle.fdp_base.specs.Effect.{block_of_write, effect_of}
+use Rattle.fdp_base.specs.Next.{next}
+use Rattle.fdp_base.specs.Numbers.{is_among, with_at}
+use Rattle.fdp_base.specs.PlainState.{Block, Going, PlainState}
+use Rattle.fdp_base.specs.Point.{Point}
+use Rattle.fdp_base.specs.Sites.{traced_by}
+use Rattle.fdp_base.specs.Totals.{blocks_written}
+use Rattle.fdp_flash.specs.declared.cell.Cell.{Cell}
+use Rattle.fdp_core.proofs.Grown.{IsGrown}
+use Rattle.fdp_core.proofs.Lasting.{unwritten}
+
+-- the blocks with those of a write
+abbrev pub blocks_with : DriveConfig → PlainState → ℕ → Write → ℕ → ℕ → Option Block
+blocks_with c s queue w n lba = if n == w.nsid && is_among w.slba w.count lba then option_map (block_of_write c w.slba w.payload lba) (s.going queue) else s.blocks n lba
+
+-- the state after a write that succeeds
+abbrev pub committed_state : DriveConfig → PlainState → ℕ → Write → PlainState
+committed_state c s queue w = record s { position = s.position + 1; blocks = blocks_with c s queue w; going = with_at s.going queue None }
+
+committed-state : (c : DriveConfig) (s : PlainState) (queue number : ℕ) (command : Command) (moment : ℕ) (w : Write) → write_of command ≡ Some w → after c s (entries.Host queue number command (bare statuses.SUCCESS true) moment) ≡ committed_state c s queue w
+unfolding after changed_by effect_of
+committed-state c s queue number (commands.Write nsid slba count dtype dspec payload) moment w e =
+    let same : _ ≡ w = (λ (x y : Write) (f : Some x ≡ Some y). let one : x ≡ y = cc in one) _ w e in
+    ap (committed_state c s queue) same
+committed-state c s queue number (commands.Read nsid slba count) moment w e = absurd cc
+committed-state c s queue number (commands.Zero nsid slba count) moment w e = absurd cc
+committed-state c s queue number (commands.Dealloc nsid deallocate ranges) moment w e = absurd cc
+committed-state c s queue number (commands.Flush nsid) moment w e = absurd cc
+committed-state c s queue number (commands.Delete nsid) moment w e = absurd cc
+committed-state c s queue number (commands.Status nsid mo dwords) moment w e = absurd cc
+committed-state c s queue number (commands.Update nsid mo pids) moment w e = absurd cc
+committed-state c s queue number (commands.Log lid lsp group offset dwords) moment w e = absurd cc
+committed-state c s queue number (commands.SetFdp group enable index) moment w e = absurd cc
+committed-state c s queue number (commands.GetFdp group) moment w e = absurd cc
+committed-state c s queue number (commands.SetEvents nsid handle enable types) moment w e = absurd cc
+committed-state c s queue number (commands.Create size given list) moment w e = absurd cc
+committed-state c s queue number (commands.Other admin opcode flags feature) moment w e = absurd cc
+
+-- what it leaves, and what it changes
+pub record IsCommitted (c : DriveConfig) (p q : Point) (cells : List Cell) (queue : ℕ) (w : Write) : Type 0 where
+  pub grown : IsGrown p q cells cells unwritten
+  pub references : q.state.references ≡ p.state.references
+  pub going : q.state.going ≡ with_at p.state.going queue None
+  pub blocks : q.state.blocks ≡ blocks_with c p.state queue w
+  pub trail : q.trail ≡ p.trail
+
+pub committed : (c : DriveConfig) (p : Point) (cells : List Cell) (queue number : ℕ) (command : Command) (moment : ℕ) (w : Write) → write_of command ≡ Some w → IsCommitted c p (next c p (entries.Host queue number command (bare statuses.SUCCESS true) moment)) cells queue w
+unfolding next traced_by
+committed c p cells queue number command moment w e =
+    let is = committed-state c p.state queue number command moment w e in
+    record {
+      grown = record {
+        enabled = ap (λ (s : PlainState). s.enabled) is;
+        index = ap (λ (s : PlainState). s.index) is;
+        generation = ap (λ (s : PlainState). s.generation) is;
+        namespaces = ap (λ (s : PlainState). s.namespaces) is;
+        is_lost = ap (λ (s : PlainState). s.is_lost) is;
+        is_worn = ap (λ (s : PlainState). s.is_worn) is;
+        site = λ name ne. refl;
+        whole = λ k spare bytes x. x;
+      };
+      references = ap (λ (s : PlainState). s.references) is;
+      going = ap (λ (s : PlainState). s.going) is;
+      blocks = ap (λ (s : PlainState). s.blocks) is;
+      trail = refl;
+    }
+
+-- a write has as many blocks as it says
+pub blocks-count : (command : Command) (w : Write) → write_of command ≡ Some w → blocks_written command ≡ w.count
+blocks-count (commands.Write nsid slba count dtype dspec payload) w e = (λ (x y : Write) (f : Some x ≡ Some y). let one : x ≡ y = cc in ap (λ (z : Write). z.count) one) _ w e
+blocks-count (commands.Read nsid slba count) w e = absurd cc
+blocks-count (commands.Zero nsid slba count) w e = absurd cc
+blocks-count (commands.Dealloc nsid deallocate ranges) w e = absurd cc
+blocks-count (commands.Flush nsid) w e = absurd cc
+blocks-count (commands.Delete nsid) w e = absurd cc
+blocks-count (commands.Status nsid mo dwords) w e = absurd cc
+blocks-count (commands.Update nsid mo pids) w e = absurd cc
+blocks-count (commands.Log lid lsp group offset dwords) w e = absurd cc
+blocks-count (commands.SetFdp group enable index) w e = absurd cc
+blocks-count (commands.GetFdp group) w e = absurd cc
+blocks-count (commands.SetEvents nsid handle enable types) w e = absurd cc
+blocks-count (commands.Create size given list) w e = absurd cc
+blocks-count (commands.Other admin opcode flags feature) w e = absurd cc
