@@ -1,9 +1,17 @@
 //! Tests of what a group asks of a command.
 ghost use Rattle.std.specs.Prelude.{IsTrue};
 ghost use Rattle.fdp_base.specs.CommandKinds.{IsPayloadOf};
+ghost use Rattle.fdp_base.specs.Step.{IsQueue};
 ghost use Rattle.fdp_core_tests.specs.Played.{IsPlayable};
 
 use fdp_base::{Command, DriveConfig, Payload};
+
+/// Whether a queue is one of the drive.
+pub fn is_queue(config: &DriveConfig, queue: u8) -> bool
+    ensures { IsTrue result → IsQueue config.now queue }
+{
+    1 <= queue && queue <= config.queues
+}
 
 /// Whether a group serves a command that is so formed: a write or a read of 1 to 65,536 blocks, with the bytes of a write.
 pub fn is_playable(command: &Command, config: &DriveConfig) -> bool

@@ -2,12 +2,12 @@
 #![tactic(auto)]
 
 mod formed;
-mod held;
+mod going;
 mod player;
-mod replay;
+mod replaying;
 
 pub use player::Player;
-pub use replay::replay;
+pub use replaying::replay;
 
 #[cfg(test)]
 mod tests;
