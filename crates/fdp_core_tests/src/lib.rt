@@ -2,7 +2,7 @@
 #![tactic(auto)]
 
 mod formed;
-mod going;
+mod noted;
 mod player;
 mod replaying;
 
