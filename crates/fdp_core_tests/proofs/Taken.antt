@@ -49,10 +49,10 @@ none-is_some x e = cc
 
 -- the next one is no step
 pub replayed-refused : (c : DriveConfig) (es : List Entry) (run : Run) (i : ℕ) (e : Entry) (at why : ℕ) → slice_get es i ≡ Some e → IsNoStep run.config run.entries e at why → IsReplayed c es run i → IsTaken c es i
-replayed-refused c es run i e at why is no h = record {
+replayed-refused c es run i e at why is refused h = record {
   few = h.few;
   legal = h.legal;
-  most = λ x next step. no.no_step (before (subst (λ (y : Entry). IsStep true c (fresh c) (take i es) y) (some-same x e (sym next ∙ is)) step));
+  most = λ x next step. refused.no_step (before (subst (λ (y : Entry). IsStep true c (fresh c) (take i es) y) (some-same x e (sym next ∙ is)) step));
 }
   where
     before : IsStep true c (fresh c) (take i es) e → IsStep true run.config (fresh run.config) run.entries e

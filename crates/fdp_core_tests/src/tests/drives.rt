@@ -78,9 +78,18 @@ impl Drive {
     pub fn config(&self, alloc: Global) -> Result<DriveConfig, Fail>
         ensures { IfOk result IsValidConfig }
     {
-        let head = format!(in alloc; "block = {}\nunit_pages = 8\ngroups = {}\nunits = {}\narea_units = 8\nqueues = {}\n", self.block, self.groups, self.units, self.queues)?;
-        let fdp = format!(in alloc; "blocks_per_command = 4\nfdp = [[{}]]\nenabled = {}\nindex = 0\n", self.classes, self.enabled)?;
-        let rest = format!(in alloc; "queue_depth = 64\ncollectors = 0\nturns = 0\n[[namespaces]]\nblocks = {}\n{}\n", self.blocks, self.handles)?;
+        let head = format!(in alloc;
+            "block = {}\nunit_pages = 8\ngroups = {}\nunits = {}\narea_units = 8\nqueues = {}\n",
+            self.block, self.groups, self.units, self.queues
+        )?;
+        let fdp = format!(in alloc;
+            "blocks_per_command = 4\nfdp = [[{}]]\nenabled = {}\nindex = 0\n",
+            self.classes, self.enabled
+        )?;
+        let rest = format!(in alloc;
+            "queue_depth = 64\ncollectors = 0\nturns = 0\n[[namespaces]]\nblocks = {}\n{}\n",
+            self.blocks, self.handles
+        )?;
         let text = format!(in alloc; "{head}{fdp}{rest}")?;
         match read_config(alloc, text.as_bytes()) {
             Ok(config) => Ok(config),

@@ -30,12 +30,18 @@ fn one_group_is_used_up(rt: HostRuntime) -> Result<(), Fail> {
     let mut moves = Vec::new(alloc);
     push_filling(&mut moves, 0)?;
     let text = told(alloc, &SMALL, moves.as_slice())?;
-    let wanted = format!(in alloc; "{}| {}| 96 programs | 144 of 144 taken", oks.as_str(), starts.as_str())?;
+    let wanted = format!(in alloc;
+        "{}| {}| 96 programs | 144 of 144 taken",
+        oks.as_str(),
+        starts.as_str()
+    )?;
     assert_eq!(rt; text.as_str(), wanted.as_str());
     moves.push(whole(write(4, 1, 1)))?;
     moves.push(whole(read(2, 4)))?;
     let text = told(alloc, &SMALL, moves.as_slice())?;
-    let wanted = format!(in alloc; "{oks}0/81 11,12,0,0 | {starts}0.0 | 96 programs | 145 of 147 taken")?;
+    let wanted = format!(in alloc;
+        "{oks}0/81 11,12,0,0 | {starts}0.0 | 96 programs | 145 of 147 taken"
+    )?;
     assert_eq!(rt; text.as_str(), wanted.as_str());
     Ok(())
 }
@@ -54,7 +60,9 @@ fn two_groups_are_used_up(rt: HostRuntime) -> Result<(), Fail> {
     moves.push(whole(directed(8, 1, 1, 0)))?;
     moves.push(whole(read(0, 4)))?;
     let text = told(alloc, &TWO_GROUPS, moves.as_slice())?;
-    let wanted = format!(in alloc; "{oks}{oks}0/81 0/81 9,10,11,12 | {first}{second}1.1 0.1 | 192 programs | 289 of 293 taken")?;
+    let wanted = format!(in alloc;
+        "{oks}{oks}0/81 0/81 9,10,11,12 | {first}{second}1.1 0.1 | 192 programs | 289 of 293 taken"
+    )?;
     assert_eq!(rt; text.as_str(), wanted.as_str());
     Ok(())
 }

@@ -6,7 +6,10 @@ use std::test::Fail;
 
 /// Two writes of two blocks that share one, with their six steps in an order: bit `i` says that step `i` is one of the second.
 fn moves_in_order(alloc: Global, order: u8) -> Result<Vec<Move>, AllocError> {
-    let mut moves = vec![in alloc; Move::Start(1, write(0, 2, 10)), Move::Start(2, write(1, 2, 20))]?;
+    let mut moves = vec![in alloc;
+        Move::Start(1, write(0, 2, 10)),
+        Move::Start(2, write(1, 2, 20)),
+    ]?;
     let mut steps = [0u8; 2];
     for bit in 0..6u32 {
         let of = usize::from(order >> bit & 1 == 1);
@@ -47,8 +50,13 @@ fn two_writes_go_on_at_once(rt: HostRuntime) -> Result<(), Fail> {
             } else {
                 "10,11,21,0"
             };
-            let wanted = format!(in alloc; "{replies} {blocks} | 0.0 0.0 | 4 programs | 9 of 9 taken")?;
-            assert_eq!(rt; told(alloc, &SMALL, moves.as_slice())?.as_str(), wanted.as_str());
+            let wanted = format!(in alloc;
+                "{replies} {blocks} | 0.0 0.0 | 4 programs | 9 of 9 taken"
+            )?;
+            assert_eq!(rt;
+                told(alloc, &SMALL, moves.as_slice())?.as_str(),
+                wanted.as_str()
+            );
         }
     }
     Ok(())
@@ -59,10 +67,7 @@ fn sixteen(alloc: Global, backwards: bool) -> Result<Vec<Move>, AllocError> {
     let mut moves = Vec::new(alloc);
     for queue in 1..17u8 {
         let number = u32::from(queue);
-        moves.push(Move::Start(
-            queue,
-            write(u64::from(2 * number), 2, 100 * number),
-        ))?;
+        moves.push(Move::Start(queue, write(u64::from(2 * number), 2, 100 * number)))?;
     }
     for turn in 0..3u8 {
         for place in 1..17u8 {
@@ -125,7 +130,10 @@ fn tickets_are_forgotten(rt: HostRuntime) -> Result<(), Fail> {
         whole(read(0, 4)),
     ];
     let text = told(alloc, &SMALL, &by_write)?;
-    assert_eq!(rt; text.as_str(), "ok - - - - - ok - 5,6,20,0 | 0.0 0.0 0.0 | 5 programs | 11 of 11 taken");
+    assert_eq!(rt;
+        text.as_str(),
+        "ok - - - - - ok - 5,6,20,0 | 0.0 0.0 0.0 | 5 programs | 11 of 11 taken"
+    );
     let by_refusal = [
         Move::Start(1, write(0, 1, 5)),
         Move::Place(1),
@@ -134,7 +142,10 @@ fn tickets_are_forgotten(rt: HostRuntime) -> Result<(), Fail> {
         whole(read(0, 1)),
     ];
     let text = told(alloc, &SMALL, &by_refusal)?;
-    assert_eq!(rt; text.as_str(), "- - 0/80 - 0 | 0.0 | 1 programs | 4 of 4 taken");
+    assert_eq!(rt;
+        text.as_str(),
+        "- - 0/80 - 0 | 0.0 | 1 programs | 4 of 4 taken"
+    );
     let by_nothing = [
         Move::Start(1, write(0, 1, 5)),
         whole(read(0, 1)),
@@ -145,6 +156,9 @@ fn tickets_are_forgotten(rt: HostRuntime) -> Result<(), Fail> {
         whole(read(0, 1)),
     ];
     let text = told(alloc, &SMALL, &by_nothing)?;
-    assert_eq!(rt; text.as_str(), "- 0 - 0/80 - ok 5 | 0.0 | 1 programs | 6 of 6 taken");
+    assert_eq!(rt;
+        text.as_str(),
+        "- 0 - 0/80 - ok 5 | 0.0 | 1 programs | 6 of 6 taken"
+    );
     Ok(())
 }

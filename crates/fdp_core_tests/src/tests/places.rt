@@ -16,7 +16,10 @@ fn identifiers_without_group_bits(rt: HostRuntime) -> Result<(), Fail> {
         whole(read(4, 1)),
     ];
     let text = told(alloc, &SMALL, &moves)?;
-    assert_eq!(rt; text.as_str(), "ok ok ok ok 7,8,8,9 10 | 0.0 0.0 0.0- 0.0- | 5 programs | 15 of 15 taken");
+    assert_eq!(rt;
+        text.as_str(),
+        "ok ok ok ok 7,8,8,9 10 | 0.0 0.0 0.0- 0.0- | 5 programs | 15 of 15 taken"
+    );
     Ok(())
 }
 
@@ -37,7 +40,10 @@ fn identifiers_with_one_group_bit(rt: HostRuntime) -> Result<(), Fail> {
         whole(read(4, 4)),
     ];
     let text = told(alloc, &TWO_GROUPS, &moves)?;
-    assert_eq!(rt; text.as_str(), "ok ok ok ok ok ok ok 1,2,3,4 5,6,7,8 | 1.1 1.0 0.0 0.1 0.1- 1.1- 1.1 | 8 programs | 24 of 24 taken");
+    assert_eq!(rt;
+        text.as_str(),
+        "ok ok ok ok ok ok ok 1,2,3,4 5,6,7,8 | 1.1 1.0 0.0 0.1 0.1- 1.1- 1.1 | 8 programs | 24 of 24 taken"
+    );
     Ok(())
 }
 
@@ -54,7 +60,10 @@ fn identifiers_with_four_group_bits(rt: HostRuntime) -> Result<(), Fail> {
         whole(read(0, 4)),
     ];
     let text = told(alloc, &SIXTEEN_GROUPS, &moves)?;
-    assert_eq!(rt; text.as_str(), "ok ok ok ok ok 1,2,3,4 | 15.1 0.0 1.1- 1.0 2.1 | 5 programs | 16 of 16 taken");
+    assert_eq!(rt;
+        text.as_str(),
+        "ok ok ok ok ok 1,2,3,4 | 15.1 0.0 1.1- 1.0 2.1 | 5 programs | 16 of 16 taken"
+    );
     Ok(())
 }
 
@@ -73,8 +82,14 @@ fn ties_of_room(rt: HostRuntime) -> Result<(), Fail> {
         whole(write(7, 1, 7)),
     ];
     let text = told(alloc, &TWO_GROUPS, &moves)?;
-    assert_eq!(rt; text.as_str(), "ok ok ok ok ok ok ok | 0.1 1.1 0.1 1.1 0.1 1.1 0.1 | 10 programs | 24 of 24 taken");
+    assert_eq!(rt;
+        text.as_str(),
+        "ok ok ok ok ok ok ok | 0.1 1.1 0.1 1.1 0.1 1.1 0.1 | 10 programs | 24 of 24 taken"
+    );
     let text = told(alloc, &SIXTEEN_GROUPS, &moves)?;
-    assert_eq!(rt; text.as_str(), "ok ok ok ok ok ok ok | 0.1 1.1 2.1 3.1 4.1 8.1 0.1 | 10 programs | 24 of 24 taken");
+    assert_eq!(rt;
+        text.as_str(),
+        "ok ok ok ok ok ok ok | 0.1 1.1 2.1 3.1 4.1 8.1 0.1 | 10 programs | 24 of 24 taken"
+    );
     Ok(())
 }

@@ -29,7 +29,11 @@ pub fn told(alloc: Global, drive: &Drive, moves: &[Move]) -> Result<String, Fail
     let (flash, entries) = player.finish();
     let starts = starts_text(alloc, entries.as_slice())?;
     let taken = replay(alloc, &config, entries.as_slice())?;
-    let text = format!(in alloc; "{replies} | {starts} | {} programs | {taken} of {} taken", flash.programs(), entries.len())?;
+    let text = format!(in alloc;
+        "{replies} | {starts} | {} programs | {taken} of {} taken",
+        flash.programs(),
+        entries.len()
+    )?;
     Ok(text)
 }
 

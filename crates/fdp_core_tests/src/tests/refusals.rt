@@ -20,7 +20,8 @@ fn reads_of_unwritten_blocks(rt: HostRuntime) -> Result<(), Fail> {
         whole(write(46, 2, 4_294_967_295)),
         whole(read(45, 3)),
     ];
-    let wanted = "0,0,0,0 ok ok 0,70000,0,8 0,8,9,0 ok 0,50,51,52 ok 0,4294967295,0 | 0.0 0.0 0.0 0.0 | 8 programs | 21 of 21 taken";
+    let wanted =
+        "0,0,0,0 ok ok 0,70000,0,8 0,8,9,0 ok 0,50,51,52 ok 0,4294967295,0 | 0.0 0.0 0.0 0.0 | 8 programs | 21 of 21 taken";
     assert_eq!(rt; told(alloc, &SMALL, &moves)?.as_str(), wanted);
     assert_eq!(rt; told(alloc, &LARGE_BLOCKS, &moves)?.as_str(), wanted);
     Ok(())
@@ -51,7 +52,10 @@ fn commands_are_refused(rt: HostRuntime) -> Result<(), Fail> {
         whole(read(0xffff_ffff_ffff_ffff, 1)),
     ];
     let text = told(alloc, &SMALL, &moves)?;
-    assert_eq!(rt; text.as_str(), "0/0b 0/0b 0/0b 0/02 0/02 0/0b 0/02 0/02 0/02 0/80 0/80 0/80 0/80 0/80 |  | 0 programs | 14 of 14 taken");
+    assert_eq!(rt;
+        text.as_str(),
+        "0/0b 0/0b 0/0b 0/02 0/02 0/0b 0/02 0/02 0/02 0/80 0/80 0/80 0/80 0/80 |  | 0 programs | 14 of 14 taken"
+    );
     Ok(())
 }
 
@@ -66,7 +70,10 @@ fn placement_is_disabled(rt: HostRuntime) -> Result<(), Fail> {
         whole(read(0, 2)),
     ];
     let text = told(alloc, &DISABLED, &moves)?;
-    assert_eq!(rt; text.as_str(), "0/02 0/02 ok 1,2 | 0.0 | 2 programs | 7 of 7 taken");
+    assert_eq!(rt;
+        text.as_str(),
+        "0/02 0/02 ok 1,2 | 0.0 | 2 programs | 7 of 7 taken"
+    );
     Ok(())
 }
 
@@ -95,7 +102,10 @@ fn groups_have_a_budget(rt: HostRuntime) -> Result<(), Fail> {
         moves.push(whole(asked))?;
     }
     let text = told(alloc, &TWO_GROUPS, moves.as_slice())?;
-    assert_eq!(rt; text.as_str(), "ok ok ok ok ok ok ok ok 0/81 0/81 0/80 ok ok 12,5 | 0.1 0.1 0.1 0.1 0.1 0.1 0.1 0.1 0.1 1.1 | 37 programs | 61 of 61 taken");
+    assert_eq!(rt;
+        text.as_str(),
+        "ok ok ok ok ok ok ok ok 0/81 0/81 0/80 ok ok 12,5 | 0.1 0.1 0.1 0.1 0.1 0.1 0.1 0.1 0.1 1.1 | 37 programs | 61 of 61 taken"
+    );
     Ok(())
 }
 
@@ -120,6 +130,9 @@ fn room_is_checked_again(rt: HostRuntime) -> Result<(), Fail> {
         moves.push(made)?;
     }
     let text = told(alloc, &TWO_GROUPS, moves.as_slice())?;
-    assert_eq!(rt; text.as_str(), "ok ok ok ok ok ok ok - - - - - - - ok 0/81 3,0,0,0 | 0.1 0.1 0.1 0.1 0.1 0.1 0.1 0.1 0.1 | 33 programs | 52 of 52 taken");
+    assert_eq!(rt;
+        text.as_str(),
+        "ok ok ok ok ok ok ok - - - - - - - ok 0/81 3,0,0,0 | 0.1 0.1 0.1 0.1 0.1 0.1 0.1 0.1 0.1 | 33 programs | 52 of 52 taken"
+    );
     Ok(())
 }

@@ -62,7 +62,10 @@ pub fn starts_text(alloc: Global, entries: &[Entry]) -> Result<String, AllocErro
 fn start_text(alloc: Global, entry: &Entry) -> Result<Option<String>, AllocError> {
     match entry {
         Entry::Started {
-            rg, ruh, pid_valid, ..
+            rg,
+            ruh,
+            pid_valid,
+            ..
         } => {
             let sign = if *pid_valid { "" } else { "-" };
             Ok(Some(format!(in alloc; "{rg}.{ruh}{sign}")?))
