@@ -22,30 +22,8 @@ use Rattle.fdp_core.specs.Tickets.{IsTicketOf}
 use Rattle.fdp_core_tests.specs.declared.noted.Noted.{Noted}
 use Rattle.fdp_core_tests.specs.Played.{CameToBegin, CameToPlace, IsBegun, MayGoOn, Played, ended, ticket_in, with_spare}
 
-going-same : (x y : Going) → Some x ≡ Some y → x ≡ y
-going-same x y e = cc
-
 ticket-same : (x y : Ticket) → Some x ≡ Some y → x ≡ y
 ticket-same x y e = cc
-
--- a write does not both wait for a page and have them all
-waiting-not_ready : (b : BookSeen) (t : Ticket) → IsWaiting b t → IsReady b t → ⊥
-waiting-not_ready b t h k =
-    let same : h.going ≡ k.going = going-same h.going k.going (sym h.ticket_is.going_is ∙ k.ticket_is.going_is) in
-    let asked : k.going.placed < blocks_written k.going.command = subst (λ (g : Going). g.placed < blocks_written g.command) same h.asked in
-    omega (arith, asked, k.placed)
-
--- a write is at one stage
-pub stage-one : (b : BookSeen) (t : Ticket) (x y : Stage) → IsStage b t x → IsStage b t y → x ≡ y
-stage-one b t stages.Waiting stages.Waiting h k = refl
-stage-one b t stages.Waiting stages.Ready h k = absurd (waiting-not_ready b t h k)
-stage-one b t stages.Waiting stages.Over h k = absurd (k h.going h.ticket_is)
-stage-one b t stages.Ready stages.Waiting h k = absurd (waiting-not_ready b t k h)
-stage-one b t stages.Ready stages.Ready h k = refl
-stage-one b t stages.Ready stages.Over h k = absurd (k h.going h.ticket_is)
-stage-one b t stages.Over stages.Waiting h k = absurd (h k.going k.ticket_is)
-stage-one b t stages.Over stages.Ready h k = absurd (h k.going k.ticket_is)
-stage-one b t stages.Over stages.Over h k = refl
 
 -- a queue has one ticket
 pub ticket-one : {F : Type 0} (p : Played F) (queue : ℕ) (x y : Stage) (t u : Ticket) → MayGoOn p queue x t → MayGoOn p queue y u → t ≡ u
