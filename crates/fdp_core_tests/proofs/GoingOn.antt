@@ -1,12 +1,8 @@
 -- What a queue may go on with, and what its step comes to.
-use Rattle.std.proofs.Common.{◌≡◌, ℕ, ◌<◌, List, length, Option, Some, None, slice_get, refl, ap, sym, subst, ◌∙◌, arith}
-use Rattle.std.specs.Prelude.{option_map, slice_set}
-use Rattle.std.specs.Option.{option_flatten}
+use Rattle.std.proofs.Common.{◌≡◌, ℕ, Option, Some, sym, subst, ◌∙◌}
 use Rattle.fdp_base.specs.declared.command.Command.{Command}
 use Rattle.fdp_base.specs.PlainState.{Going}
-use Rattle.fdp_base.specs.Totals.{blocks_written}
 use Rattle.fdp_flash.specs.FlashState.{FlashState}
-use Rattle.fdp_flash.proofs.Lists.{slice_get-set_same}
 use Rattle.fdp_core.specs.declared.answer.Placed.{Placed}
 use Rattle.fdp_core.specs.declared.answer.Placed.TheVariants as placed
 use Rattle.fdp_core.specs.declared.stage.Stage.{Stage}
@@ -14,13 +10,10 @@ use Rattle.fdp_core.specs.declared.stage.Stage.TheVariants as stages
 use Rattle.fdp_core.specs.declared.ticket.Done.{Done}
 use Rattle.fdp_core.specs.declared.ticket.Ticket.{Ticket}
 use Rattle.fdp_core.specs.Answers.{Places, PlacesPage}
-use Rattle.fdp_core.specs.Book.{BookSeen, state_in}
-use Rattle.fdp_core.specs.BookSteps.{IsReady, IsWaiting}
+use Rattle.fdp_core.specs.Book.{state_in}
 use Rattle.fdp_core.specs.Seen.{Seen}
-use Rattle.fdp_core.specs.Stages.{IsStage}
 use Rattle.fdp_core.specs.Tickets.{IsTicketOf}
-use Rattle.fdp_core_tests.specs.declared.noted.Noted.{Noted}
-use Rattle.fdp_core_tests.specs.Played.{CameToBegin, CameToPlace, IsBegun, MayGoOn, Played, ended, ticket_in, with_spare}
+use Rattle.fdp_core_tests.specs.Played.{CameToBegin, CameToPlace, IsBegun, MayGoOn, Played, ended, with_spare}
 
 ticket-same : (x y : Ticket) → Some x ≡ Some y → x ≡ y
 ticket-same x y e = cc
