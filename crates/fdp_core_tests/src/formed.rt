@@ -1,0 +1,81 @@
+//! Tests of what a drive asks of a command before its first step.
+ghost use Rattle.std.specs.Prelude.{◌<◌, ◌↔◌, IsTrue};
+ghost use Rattle.fdp_base.specs.CommandKinds.{IsPayloadOf};
+ghost use Rattle.fdp_base.specs.Geometry.{IsWithin};
+ghost use Rattle.fdp_base.specs.Step.{IsQueue};
+ghost use Rattle.fdp_core_tests.specs.Played.{IsPlayable, MayMakeSteps, MayPlay};
+
+use fdp_base::{Command, DriveConfig, Payload};
+use fdp_core::Group;
+use fdp_flash::Flash;
+
+/// The most steps that are made before a command begins.
+const MOST_STEPS: u32 = 1_000_000;
+
+/// Whether a command may be begun in a queue under a number, once there is memory.
+pub fn may_play<F: Flash>(group: &Group<F>, queue: u8, number: u16, command: &Command) -> bool
+    ensures may { IsTrue result ↔ MayPlay group.now queue number command.now }
+    ensures row { IsTrue result → queue < 17 }
+{
+    is_queue(group.config(), queue)
+        && is_playable(command, group.config())
+        && group.is_free(queue, number)
+        && may_make_steps(group)
+}
+
+/// Whether a drive has not failed, and may make the steps of all queues.
+fn may_make_steps<F: Flash>(group: &Group<F>) -> bool
+    ensures { IsTrue result ↔ MayMakeSteps group.now }
+{
+    !group.failed() && group.spent() <= MOST_STEPS
+}
+
+/// Whether a queue is one of the drive.
+fn is_queue(config: &DriveConfig, queue: u8) -> bool
+    ensures { IsTrue result ↔ IsQueue config.now queue }
+{
+    1 <= queue && queue <= config.queues
+}
+
+/// Whether a drive serves a command that is so formed: a write or a read of 1 to 65,536 blocks, with the bytes of a write.
+fn is_playable(command: &Command, config: &DriveConfig) -> bool
+    ensures { IsTrue result ↔ IsPlayable config.now command.now }
+{
+    match command {
+        Command::Write { count, payload, .. } => {
+            is_count(*count) && is_payload(payload, *count, config)
+        }
+        Command::Read { count, .. } => is_count(*count),
+        Command::Zero { .. }
+        | Command::Dealloc { .. }
+        | Command::Flush { .. }
+        | Command::Delete { .. }
+        | Command::Status { .. }
+        | Command::Update { .. }
+        | Command::Log { .. }
+        | Command::SetFdp { .. }
+        | Command::GetFdp { .. }
+        | Command::SetEvents { .. }
+        | Command::Create { .. }
+        | Command::Other { .. } => false,
+    }
+}
+
+/// Whether a command may ask for so many blocks.
+fn is_count(count: u32) -> bool
+    ensures { IsTrue result ↔ IsWithin 1 65536 count }
+{
+    1 <= count && count <= 65536
+}
+
+/// Whether the bytes of a payload are those of so many blocks.
+fn is_payload(payload: &Payload, count: u32, config: &DriveConfig) -> bool
+    ensures { IsTrue result ↔ IsPayloadOf config.now count payload.now }
+{
+    match payload {
+        Payload::Pattern(_) => true,
+        Payload::Bytes(bytes) => {
+            bytes.as_slice().len() as u64 == u64::from(count) * u64::from(config.block)
+        }
+    }
+}
