@@ -1,3 +1,1 @@
-pub mod Pushes
-pub mod LastWrites
 pub mod Records

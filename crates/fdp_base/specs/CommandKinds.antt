@@ -1,5 +1,5 @@
 -- What kind of command it is.
-use Rattle.std.specs.Prelude.{◌≡◌, ℕ, ◌*◌, ◌≤◌, ◌==◌, Bool, true, false, IsFalse, [], length, Option, Some, None, is_some, if◌then◌else◌}
+use Rattle.std.specs.Prelude.{◌≡◌, ℕ, ◌*◌, ◌≤◌, ◌==◌, Bool, true, false, IsFalse, [], length, codes, List, Option, Some, None, is_some, if◌then◌else◌}
 use Rattle.fdp_base.specs.declared.command.Command.{Command}
 use Rattle.fdp_base.specs.declared.command.Command.TheVariants as commands
 use Rattle.fdp_base.specs.declared.config.DriveConfig.{DriveConfig}
@@ -112,3 +112,20 @@ IsWellFormed c (commands.GetFdp group) = Unit {0}
 IsWellFormed c (commands.SetEvents nsid handle enable types) = length types ≤ 255
 IsWellFormed c (commands.Create size given list) = IsFalse given → list ≡ []
 IsWellFormed c (commands.Other admin opcode flags feature) = Unit {0}
+
+-- the word of a command in a trace; the last has none there
+abbrev pub word_of : Command → List ℕ
+word_of (commands.Write nsid slba count dtype dspec payload) = codes "write"
+word_of (commands.Read nsid slba count) = codes "read"
+word_of (commands.Zero nsid slba count) = codes "zero"
+word_of (commands.Dealloc nsid deallocate ranges) = codes "dealloc"
+word_of (commands.Flush nsid) = codes "flush"
+word_of (commands.Delete nsid) = codes "delete"
+word_of (commands.Status nsid mo dwords) = codes "status"
+word_of (commands.Update nsid mo pids) = codes "update"
+word_of (commands.Log lid lsp group offset dwords) = codes "log"
+word_of (commands.SetFdp group enable index) = codes "set-fdp"
+word_of (commands.GetFdp group) = codes "get-fdp"
+word_of (commands.SetEvents nsid handle enable types) = codes "set-events"
+word_of (commands.Create size given list) = codes "create"
+word_of (commands.Other admin opcode flags feature) = codes "entry"

@@ -101,7 +101,7 @@ pub struct Range {
 }
 
 impl Command {
-    ghost use Rattle.fdp_base.specs.Output.{word_of};
+    ghost use Rattle.fdp_base.specs.CommandKinds.{word_of};
 
     /// The word of the command in traces and in printed completions; `entry` for one that the drive does not serve.
     pub fn word(&self) -> &'static str

@@ -5,9 +5,9 @@ mod command;
 mod config;
 mod entry;
 mod event;
-mod laws;
 mod payload;
 mod recorded;
+mod repeat;
 mod sequence;
 mod spare;
 mod status;
@@ -16,14 +16,11 @@ mod text;
 pub use command::{Command, Range, directed_by};
 pub use config::{Class, DriveConfig, Geometry, NamespaceConfig};
 pub use entry::{BlockName, Entry, Reply, Spot, Totals};
-pub use event::{Event, EventKind};
-pub use laws::{
-    history_grows_by_steps, history_is_summed_up, only_commands_change_data,
-    reads_give_the_last_write,
-};
+pub use event::{Event, EventFlags, EventKind};
 pub use payload::Payload;
 pub use recorded::{Mark, Recorded, Snapshot};
+pub use repeat::has_repeat;
 pub use sequence::{BlockNames, Bytes, Classes, EventTypes, HandleList, Pids, Ranges, Sequence};
 pub use spare::DataSpare;
-pub use status::Status;
+pub use status::{Status, status_codes_are_the_standards};
 pub use text::hex_digit;

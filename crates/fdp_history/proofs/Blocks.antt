@@ -8,11 +8,11 @@ use Rattle.fdp_base.specs.declared.config.DriveConfig.{DriveConfig}
 use Rattle.fdp_base.specs.declared.payload.Payload.{Payload}
 use Rattle.fdp_base.specs.CommandKinds.{IsWellFormed, Write, write_of}
 use Rattle.fdp_base.specs.Config.{IsValidConfig}
-use Rattle.fdp_base.specs.Effect.{block_of_write, with_blocks, without_blocks}
+use Rattle.fdp_rules.specs.Effect.{block_of_write, with_blocks, without_blocks}
 use Rattle.fdp_base.specs.Numbers.{is_among}
-use Rattle.fdp_base.specs.PlainState.{Block, Going, PlainState}
-use Rattle.fdp_base.specs.Room.{size_of}
-use Rattle.fdp_base.specs.Sites.{is_there}
+use Rattle.fdp_rules.specs.PlainState.{Block, Going, PlainState}
+use Rattle.fdp_rules.specs.Room.{size_of}
+use Rattle.fdp_rules.specs.Sites.{is_there}
 use Rattle.fdp_history.specs.OrderlyState.{IsOrderlyBlock, IsOrderlyGoing, IsOrderlyState}
 use Rattle.fdp_history.proofs.Parts.{blocks-changed}
 use Rattle.fdp_history.proofs.Payloads.{length-payload}

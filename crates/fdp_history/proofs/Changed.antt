@@ -7,9 +7,9 @@ use Rattle.fdp_base.specs.declared.command.Command.{Command}
 use Rattle.fdp_base.specs.declared.command.Command.TheVariants as commands
 use Rattle.fdp_base.specs.declared.config.DriveConfig.{DriveConfig}
 use Rattle.fdp_base.specs.CommandKinds.{Write, nsid_of, write_of}
-use Rattle.fdp_base.specs.PlainState.{Block, Going, Namespace, PlainState, Reference}
-use Rattle.fdp_base.specs.Room.{handles_in_force, size_of}
-use Rattle.fdp_base.specs.Sites.{is_there}
+use Rattle.fdp_rules.specs.PlainState.{Block, Going, Namespace, PlainState, Reference}
+use Rattle.fdp_rules.specs.Room.{handles_in_force, size_of}
+use Rattle.fdp_rules.specs.Sites.{is_there}
 use Rattle.fdp_history.specs.OrderlyState.{IsOrderlyBlock, IsOrderlyGoing, IsOrderlyNamespace, IsOrderlyReference, IsOrderlyState}
 
 -- ---- a part in another state

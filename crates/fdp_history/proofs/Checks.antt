@@ -1,6 +1,6 @@
 -- What a command passes that is not refused.
 use Rattle.std.proofs.Common.{◌≡◌, ℕ, ◌+◌, ◌<◌, ◌≤◌, Bool, true, false, cond, length, List, [], ◌∷◌, Option, Some, None, refl, arith}
-use Rattle.std.specs.Prelude.{◌==◌, All, IfSome, IsTrue, nat_le, nat_lt}
+use Rattle.std.specs.Prelude.{◌==◌, All, IfSome, IsTrue, nat_le, nat_lt, sum_by}
 use Rattle.std.specs.List.{list_all, list_any}
 use Rattle.std.proofs.lemmas.Bool.{or_parts, ltb-false, leb-false, eqb-false}
 use Rattle.std.proofs.lemmas.List.Elements.{All-cons, All-nil}
@@ -9,11 +9,12 @@ use Rattle.fdp_base.specs.declared.command.Command.TheVariants as commands
 use Rattle.fdp_base.specs.declared.config.DriveConfig.{DriveConfig}
 use Rattle.fdp_base.specs.declared.status.Status.{Status}
 use Rattle.fdp_base.specs.CommandKinds.{IsWellFormed, Write, is_write, write_of}
-use Rattle.fdp_base.specs.PlainState.{PlainState}
-use Rattle.fdp_base.specs.Point.{Point}
-use Rattle.fdp_base.specs.Refusal.{Check, checks_of, first_that_holds, is_present, refusal_of}
-use Rattle.fdp_base.specs.Room.{handles_in_force, handles_of, namespace_ids, size_of}
-use Rattle.fdp_base.specs.Totals.{blocks_written}
+use Rattle.fdp_base.specs.Numbers.{has_repeat, numbers_below}
+use Rattle.fdp_rules.specs.PlainState.{PlainState}
+use Rattle.fdp_rules.specs.Point.{Point}
+use Rattle.fdp_rules.specs.Refusal.{Check, checks_of, first_that_holds, is_present, refusal_of}
+use Rattle.fdp_rules.specs.Room.{budget, handles_in_force, handles_of, namespace_ids, size_of}
+use Rattle.fdp_rules.specs.Totals.{blocks_written}
 
 -- none of these checks holds
 abbrev NoneHolds : List Check → Type 0
@@ -96,12 +97,15 @@ none-passes : (test : ℕ → Bool) (xs : List ℕ) → list_any test xs ≡ fal
 none-passes test [] e = All-nil (λ x. test x ≡ false)
 none-passes test (x ∷ xs) e = let both = or_parts (test x) (list_any test xs) e in All-cons (λ y. test y ≡ false) x xs both.0 (none-passes test xs both.1)
 
--- a namespace that may be created has a block and handles of the configuration in force, at most sixteen, and an identifier is free
+-- a namespace that may be created has a block and handles of the configuration in force, at most sixteen and each once; an
+-- identifier is free, and all groups have room for its blocks
 pub record IsAcceptedCreate (c : DriveConfig) (s : PlainState) (size : ℕ) (list : List ℕ) : Type 0 where
   pub size_is : 1 ≤ size
   pub handles : All (λ ruh. nat_le (handles_in_force c s) ruh ≡ false) list
   pub number : length list ≤ 16
   pub free : list_all (is_present s) namespace_ids ≡ false
+  pub distinct : has_repeat list ≡ false
+  pub fits : sum_by (size_of s) namespace_ids + size ≤ sum_by (budget c s) (numbers_below c.groups)
 
 some-blocks : (size : ℕ) → (size == 0) ≡ false → 1 ≤ size
 some-blocks size empty = let nonzero : size ≡ 0 → ⊥ = eqb-false size 0 empty in omega (arith, nonzero)
@@ -118,4 +122,6 @@ accepted-create c p size given list e =
       handles = none-passes (nat_le (handles_in_force c p.state)) list known;
       number = ltb-false 16 (length list) many;
       free = held.1.1.0;
+      distinct = (or_parts _ _ (or_parts _ _ held.1.0).0).1;
+      fits = ltb-false (sum_by (budget c p.state) (numbers_below c.groups)) (sum_by (size_of p.state) namespace_ids + size) held.1.1.1.0;
     }

@@ -6,15 +6,15 @@ use Rattle.fdp_base.specs.declared.command.Command.TheVariants as commands
 use Rattle.fdp_base.specs.declared.config.DriveConfig.{DriveConfig}
 use Rattle.fdp_base.specs.declared.entry.Entry.TheVariants as entries
 use Rattle.fdp_base.specs.declared.entry.Reply.{Reply}
-use Rattle.fdp_base.specs.Change.{after, changed_by, is_media_error}
+use Rattle.fdp_rules.specs.Change.{after, changed_by, is_media_error}
 use Rattle.fdp_base.specs.CommandKinds.{is_write}
 use Rattle.fdp_base.specs.Config.{IsValidConfig}
-use Rattle.fdp_base.specs.Effect.{effect_of, is_in_ranges}
+use Rattle.fdp_rules.specs.Effect.{effect_of, is_in_ranges}
 use Rattle.fdp_base.specs.Numbers.{is_among, with_at}
-use Rattle.fdp_base.specs.PlainState.{Going, PlainState}
-use Rattle.fdp_base.specs.Point.{Point}
-use Rattle.fdp_base.specs.Refusal.{refusal_of}
-use Rattle.fdp_base.specs.Step.{IsEnd, IsGoing, IsHost, IsPlainReply, IsWriteReply, MaySucceed}
+use Rattle.fdp_rules.specs.PlainState.{Going, PlainState}
+use Rattle.fdp_rules.specs.Point.{Point}
+use Rattle.fdp_rules.specs.Refusal.{refusal_of}
+use Rattle.fdp_rules.specs.Step.{IsEnd, IsGoing, IsHost, IsPlainReply, IsWriteReply, MaySucceed}
 use Rattle.fdp_history.specs.OrderlyState.{IsOrderlyState}
 use Rattle.fdp_history.proofs.Blocks.{without_blocks-orderly, write-orderly}
 use Rattle.fdp_history.proofs.Checks.{accepted-create, accepted-feature}

@@ -21,3 +21,9 @@ pub mod StandingPages
 pub mod Standing
 pub mod Histories
 pub mod Bounds
+pub mod Distinct
+pub mod Sizes
+pub mod Listing
+pub mod Live
+pub mod Marks
+pub mod Seated

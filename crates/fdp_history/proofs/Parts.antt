@@ -3,7 +3,7 @@ use Rattle.std.proofs.Common.{◌≡◌, ℕ, ◌+◌, ◌≤◌, Bool, List, le
 use Rattle.std.specs.Prelude.{IsFalse}
 use Rattle.fdp_base.specs.declared.config.DriveConfig.{DriveConfig}
 use Rattle.fdp_base.specs.declared.event.EventKind.{EventKind}
-use Rattle.fdp_base.specs.PlainState.{Block, Going, PlainState}
+use Rattle.fdp_rules.specs.PlainState.{Block, Going, PlainState}
 use Rattle.fdp_history.specs.OrderlyState.{IsOrderlyBlock, IsOrderlyGoing, IsOrderlyState}
 use Rattle.fdp_history.proofs.Changed.{unit-kept, with-parts}
 

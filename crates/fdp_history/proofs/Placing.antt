@@ -5,20 +5,20 @@ use Rattle.std.specs.Option.{option_map_or}
 use Rattle.std.proofs.lemmas.Bool.{eqb-true}
 use Rattle.fdp_base.specs.declared.config.DriveConfig.{DriveConfig}
 use Rattle.fdp_base.specs.declared.entry.Entry.TheVariants as entries
-use Rattle.fdp_base.specs.Change.{after, changed_by, going_with, holds_ticket, one_less, one_more_placed, placed_going, placed_references}
+use Rattle.fdp_rules.specs.Change.{after, changed_by, going_with, holds_ticket, one_less, one_more_placed, placed_going, placed_references}
 use Rattle.fdp_base.specs.Config.{IsValidConfig}
-use Rattle.fdp_base.specs.Effect.{with_reference}
-use Rattle.fdp_base.specs.PlainState.{Going, PlainState, Reference}
-use Rattle.fdp_base.specs.Point.{Point}
-use Rattle.fdp_base.specs.Step.{IsNextPage, IsPlaced, IsUnreferenced}
-use Rattle.fdp_base.specs.Totals.{blocks_written}
+use Rattle.fdp_rules.specs.Effect.{with_reference}
+use Rattle.fdp_rules.specs.PlainState.{Going, PlainState, Reference}
+use Rattle.fdp_rules.specs.Point.{Point}
+use Rattle.fdp_rules.specs.Step.{IsNextPage, IsPlaced, IsUnreferenced}
+use Rattle.fdp_rules.specs.Totals.{blocks_written}
 use Rattle.fdp_history.specs.OrderlyState.{IsOrderlyGoing, IsOrderlyState}
 use Rattle.fdp_history.proofs.Parts.{going-changed, later, orderly-later}
 use Rattle.fdp_history.proofs.References.{AreOrderlyReferences, one_less-orderly, one_less-unit, own-references, references-changed, with_reference-orderly}
 use Rattle.fdp_history.proofs.Tables.{find-some, find-within}
 
 -- a queue that holds a ticket has a write with it
-holder : (s : PlainState) (ticket queue : ℕ) → holds_ticket s ticket queue ≡ true → (g : Going) × (s.going queue ≡ Some g) × (g.ticket ≡ ticket)
+pub holder : (s : PlainState) (ticket queue : ℕ) → holds_ticket s ticket queue ≡ true → (g : Going) × (s.going queue ≡ Some g) × (g.ticket ≡ ticket)
 holder s ticket queue e =
     let P : Option Going → Type 0 = λ o. option_map_or (λ (g : Going). g.ticket == ticket) o false ≡ true → (g : Going) × (o ≡ Some g) × (g.ticket ≡ ticket) in
     (elim (s.going queue) as P [ None ↦ λ no. absurd cc | Some g ↦ λ yes. (g, refl, eqb-true g.ticket ticket yes) ]) e

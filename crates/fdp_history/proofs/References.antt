@@ -4,13 +4,13 @@ use Rattle.std.specs.Prelude.{IfSome, IsFalse, fold, nat_lt}
 use Rattle.std.specs.Option.{option_map_or}
 use Rattle.std.proofs.lemmas.Bool.{cases_eq, ltb-true}
 use Rattle.fdp_base.specs.declared.config.DriveConfig.{DriveConfig}
-use Rattle.fdp_base.specs.Change.{one_less}
+use Rattle.fdp_rules.specs.Change.{one_less}
 use Rattle.fdp_base.specs.Config.{IsValidConfig}
-use Rattle.fdp_base.specs.Effect.{References, is_partly_written, no_reference, updated_at, updated_by, with_reference}
-use Rattle.fdp_base.specs.PlainState.{PlainState, Reference}
-use Rattle.fdp_base.specs.Sites.{group_of}
-use Rattle.fdp_base.specs.Step.{IsDataUnit}
-use Rattle.fdp_base.specs.Target.{Target, named_by}
+use Rattle.fdp_rules.specs.Effect.{References, is_partly_written, no_reference, updated_at, updated_by, with_reference}
+use Rattle.fdp_rules.specs.PlainState.{PlainState, Reference}
+use Rattle.fdp_rules.specs.Sites.{group_of}
+use Rattle.fdp_rules.specs.Step.{IsDataUnit}
+use Rattle.fdp_rules.specs.Target.{Target, named_by}
 use Rattle.fdp_history.specs.OrderlyState.{IsOrderlyReference, IsOrderlyState}
 use Rattle.fdp_history.proofs.Changed.{with-parts}
 

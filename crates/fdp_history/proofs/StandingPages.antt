@@ -5,13 +5,13 @@ use Rattle.std.proofs.lemmas.Bool.{and_parts, eqb-true}
 use Rattle.fdp_base.specs.declared.config.DriveConfig.{DriveConfig}
 use Rattle.fdp_base.specs.declared.entry.Entry.TheVariants as entries
 use Rattle.fdp_base.specs.declared.entry.Spot.{Spot}
-use Rattle.fdp_base.specs.Change.{after, changed_by}
-use Rattle.fdp_base.specs.Next.{next}
-use Rattle.fdp_base.specs.PlainState.{Block, Going, PageName, PageName.found, PageName.written}
-use Rattle.fdp_base.specs.Point.{Copy, Point}
+use Rattle.fdp_rules.specs.Change.{after, changed_by}
+use Rattle.fdp_rules.specs.Next.{next}
+use Rattle.fdp_rules.specs.PlainState.{Block, Going, PageName, PageName.found, PageName.written}
+use Rattle.fdp_rules.specs.Point.{Copy, Point}
 use Rattle.fdp_base.specs.declared.entry.BlockName.{BlockName}
-use Rattle.fdp_base.specs.Sites.{group_of, is_page_of, moved_by, outside, pass_in, site_of, traced_by}
-use Rattle.fdp_base.specs.Step.{IsErasable, IsPlaced}
+use Rattle.fdp_rules.specs.Sites.{group_of, is_page_of, moved_by, outside, pass_in, site_of, traced_by}
+use Rattle.fdp_rules.specs.Step.{IsErasable, IsPlaced}
 use Rattle.fdp_history.specs.Orderly.{IsOrderly, IsOrderlyCopy}
 use Rattle.fdp_history.specs.Standing.{IsBlockStanding, IsStanding}
 use Rattle.fdp_history.proofs.Groups.{moved-group}

@@ -6,16 +6,16 @@ use Rattle.fdp_base.specs.declared.config.DriveConfig.{DriveConfig}
 use Rattle.fdp_base.specs.declared.entry.Entry.TheVariants as entries
 use Rattle.fdp_base.specs.declared.entry.Reply.{Reply}
 use Rattle.fdp_base.specs.declared.entry.Spot.{Spot}
-use Rattle.fdp_base.specs.Change.{after, changed_by, started}
+use Rattle.fdp_rules.specs.Change.{after, changed_by, started}
 use Rattle.fdp_base.specs.CommandKinds.{is_write}
-use Rattle.fdp_base.specs.Next.{next}
+use Rattle.fdp_rules.specs.Next.{next}
 use Rattle.fdp_base.specs.Numbers.{with_at}
-use Rattle.fdp_base.specs.PlainState.{Block, Going, PageName, PageName.written, PlainState}
-use Rattle.fdp_base.specs.Point.{Point}
-use Rattle.fdp_base.specs.Refusal.{refusal_of}
-use Rattle.fdp_base.specs.Sites.{group_of, traced_by}
-use Rattle.fdp_base.specs.Step.{IsGoing, MaySucceed}
-use Rattle.fdp_base.specs.Totals.{blocks_written}
+use Rattle.fdp_rules.specs.PlainState.{Block, Going, PageName, PageName.written, PlainState}
+use Rattle.fdp_rules.specs.Point.{Point}
+use Rattle.fdp_rules.specs.Refusal.{refusal_of}
+use Rattle.fdp_rules.specs.Sites.{group_of, traced_by}
+use Rattle.fdp_rules.specs.Step.{IsGoing, MaySucceed}
+use Rattle.fdp_rules.specs.Totals.{blocks_written}
 use Rattle.fdp_history.specs.Orderly.{IsOrderly}
 use Rattle.fdp_history.specs.Standing.{IsBlockStanding, IsStanding}
 use Rattle.fdp_history.proofs.Effects.{IsApplicable, fewer-going}

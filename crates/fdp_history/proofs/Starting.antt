@@ -6,14 +6,14 @@ use Rattle.std.specs.Option.{option_map_or}
 use Rattle.fdp_base.specs.declared.command.Command.{Command}
 use Rattle.fdp_base.specs.declared.config.DriveConfig.{DriveConfig}
 use Rattle.fdp_base.specs.declared.entry.Entry.TheVariants as entries
-use Rattle.fdp_base.specs.Change.{after, birth_of, changed_by, started}
+use Rattle.fdp_rules.specs.Change.{after, birth_of, changed_by, started}
 use Rattle.fdp_base.specs.CommandKinds.{nsid_of}
 use Rattle.fdp_base.specs.Config.{IsValidConfig}
 use Rattle.fdp_base.specs.Numbers.{numbers_below, with_at}
-use Rattle.fdp_base.specs.PlainState.{Going, Namespace, PlainState}
-use Rattle.fdp_base.specs.Point.{Point}
-use Rattle.fdp_base.specs.Room.{has_more_room, roomiest}
-use Rattle.fdp_base.specs.Step.{IsStarted}
+use Rattle.fdp_rules.specs.PlainState.{Going, Namespace, PlainState}
+use Rattle.fdp_rules.specs.Point.{Point}
+use Rattle.fdp_rules.specs.Room.{has_more_room, roomiest}
+use Rattle.fdp_rules.specs.Step.{IsStarted}
 use Rattle.fdp_history.specs.OrderlyState.{IsOrderlyGoing, IsOrderlyState}
 use Rattle.fdp_history.proofs.Checks.{accepted-write, formed-write}
 use Rattle.fdp_history.proofs.Parts.{going-changed, later, orderly-later}

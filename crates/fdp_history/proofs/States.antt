@@ -3,12 +3,12 @@ use Rattle.std.proofs.Common.{◌≢◌, ℕ, Bool, true, false, Some, None, ref
 use Rattle.fdp_base.specs.declared.config.DriveConfig.{DriveConfig}
 use Rattle.fdp_base.specs.declared.entry.Entry.{Entry}
 use Rattle.fdp_base.specs.declared.entry.Entry.TheVariants as entries
-use Rattle.fdp_base.specs.Change.{after, changed_by}
+use Rattle.fdp_rules.specs.Change.{after, changed_by}
 use Rattle.fdp_base.specs.Config.{IsValidConfig}
 use Rattle.fdp_base.specs.Numbers.{with_at}
-use Rattle.fdp_base.specs.PlainState.{PlainState}
-use Rattle.fdp_base.specs.Point.{Point}
-use Rattle.fdp_base.specs.Step.{Follows, IsUnreferenced}
+use Rattle.fdp_rules.specs.PlainState.{PlainState}
+use Rattle.fdp_rules.specs.Point.{Point}
+use Rattle.fdp_rules.specs.Step.{Follows, IsUnreferenced}
 use Rattle.fdp_history.specs.OrderlyState.{IsOrderlyState}
 use Rattle.fdp_history.proofs.Changed.{unit-kept}
 use Rattle.fdp_history.proofs.Effects.{applicable, effect-orderly, host-orderly}

@@ -8,10 +8,10 @@ use Rattle.fdp_base.specs.declared.entry.Entry.{Entry}
 use Rattle.fdp_base.specs.declared.entry.Entry.TheVariants as entries
 use Rattle.fdp_base.specs.declared.entry.Reply.{Reply}
 use Rattle.fdp_base.specs.Config.{IsValidConfig}
-use Rattle.fdp_base.specs.Next.{next}
-use Rattle.fdp_base.specs.Point.{Point}
-use Rattle.fdp_base.specs.Step.{Follows, IsHost}
-use Rattle.fdp_base.specs.Totals.{blocks_written, erases_of, host_blocks_of, media_blocks_of}
+use Rattle.fdp_rules.specs.Next.{next}
+use Rattle.fdp_rules.specs.Point.{Point}
+use Rattle.fdp_rules.specs.Step.{Follows, IsHost}
+use Rattle.fdp_rules.specs.Totals.{blocks_written, erases_of, host_blocks_of, media_blocks_of}
 use Rattle.fdp_history.specs.Orderly.{IsOrderly}
 use Rattle.fdp_history.specs.OrderlyState.{IsOrderlyState}
 use Rattle.fdp_history.specs.Summed.{IsSummed}

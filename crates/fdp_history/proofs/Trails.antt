@@ -9,10 +9,10 @@ use Rattle.fdp_base.specs.declared.entry.Entry.{Entry}
 use Rattle.fdp_base.specs.declared.entry.Entry.TheVariants as entries
 use Rattle.fdp_base.specs.declared.entry.Spot.{Spot}
 use Rattle.fdp_base.specs.Numbers.{with_at}
-use Rattle.fdp_base.specs.PlainState.{PageName.written}
-use Rattle.fdp_base.specs.Point.{Copy, Point, Trail}
-use Rattle.fdp_base.specs.Sites.{ascends, is_page_of, is_spot, last_run, moved_by, outside, pass_in, traced_by}
-use Rattle.fdp_base.specs.Step.{Follows, IsPage, IsPlaced}
+use Rattle.fdp_rules.specs.PlainState.{PageName.written}
+use Rattle.fdp_rules.specs.Point.{Copy, Point, Trail}
+use Rattle.fdp_rules.specs.Sites.{ascends, is_page_of, is_spot, last_run, moved_by, outside, pass_in, traced_by}
+use Rattle.fdp_rules.specs.Step.{Follows, IsPage, IsPlaced}
 use Rattle.fdp_history.specs.Orderly.{IsOrderlyCopy, IsOrderlySite}
 use Rattle.fdp_history.specs.OrderlyState.{IsOrderlyState}
 use Rattle.fdp_history.proofs.Tables.{with_at-each}

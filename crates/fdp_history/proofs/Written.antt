@@ -8,12 +8,12 @@ use Rattle.fdp_base.specs.declared.config.DriveConfig.{DriveConfig}
 use Rattle.fdp_base.specs.declared.entry.Entry.TheVariants as entries
 use Rattle.fdp_base.specs.declared.entry.Reply.{Reply}
 use Rattle.fdp_base.specs.declared.payload.Payload.{Payload}
-use Rattle.fdp_base.specs.Change.{after, changed_by}
+use Rattle.fdp_rules.specs.Change.{after, changed_by}
 use Rattle.fdp_base.specs.CommandKinds.{is_write}
-use Rattle.fdp_base.specs.Effect.{block_of_write, effect_of, is_in_ranges}
+use Rattle.fdp_rules.specs.Effect.{block_of_write, effect_of, is_in_ranges}
 use Rattle.fdp_base.specs.Numbers.{is_among}
-use Rattle.fdp_base.specs.PlainState.{Block, Going, PageName.written, PlainState}
-use Rattle.fdp_base.specs.Totals.{blocks_written}
+use Rattle.fdp_rules.specs.PlainState.{Block, Going, PageName.written, PlainState}
+use Rattle.fdp_rules.specs.Totals.{blocks_written}
 
 -- a block of the write that is going in a queue
 pub record IsWritten (s : PlainState) (queue : ℕ) (command : Command) (b : Block) : Type 0 where

@@ -1,6 +1,6 @@
 -- Bounds on the sums of a history that began fresh.
 use Rattle.std.specs.Prelude.{◌*◌, ◌≤◌}
-use Rattle.fdp_base.specs.Point.{Point}
+use Rattle.fdp_rules.specs.Point.{Point}
 
 -- an entry writes at most 64 blocks, programs at most one page and erases at most one unit
 pub record IsSummed (p : Point) : Type 0 where

@@ -1,0 +1,4 @@
+pub mod Printed
+pub mod Over
+pub mod Read
+pub mod Standing
