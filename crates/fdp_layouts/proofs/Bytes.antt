@@ -5,7 +5,7 @@ use Rattle.std.proofs.Math.Nat.{div-div-eq-div-mul, pow-succ'}
 use Rattle.std.proofs.Math.ListN.{replicate}
 use Rattle.std.proofs.Math.Seq.{take-length}
 use Rattle.byteorder.specs.Endian.{little_from}
-use Rattle.fdp_layouts.specs.Frame.{any, packed, unpacked}
+use Rattle.fdp_layouts.specs.Frame.{any, packed, unpacked, PartsFit}
 use Rattle.byteorder.specs.Numbers.{little_from-cons}
 
 abbrev pub IsBytes : List ℕ → Type 0
@@ -75,3 +75,10 @@ parts_of_bytes (suc (suc k)) (x ∷ xs) fits h =
     let low : (x + 256 * m) % 256 ≡ x = omega arith in
     let high : (x + 256 * m) / 256 ≡ m = omega arith in
     ap (λ (n : ℕ). unpacked (replicate (suc (suc k)) (any 8)) (x + 256 * n)) e ∙ rw (low, high, rest) refl
+
+-- bytes fit the parts of a field of bytes
+pub bytes_fit : (k : ℕ) (bs : List ℕ) → length bs ≡ k → IsBytes bs → PartsFit (replicate k (any 8)) bs
+bytes_fit zero [] len h = tt
+bytes_fit zero (b ∷ bs) len h = absurd (omega arith)
+bytes_fit (suc k) [] len h = absurd (omega arith)
+bytes_fit (suc k) (b ∷ bs) len h = (h 0, refl, bytes_fit k bs (omega arith) (λ i. h (suc i)))

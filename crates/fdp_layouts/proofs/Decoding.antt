@@ -78,12 +78,12 @@ is_ok_clause len fields numbers bytes (Ok v) lb h asc given = whole len fields b
 is_ok_clause len fields numbers bytes (Err e) lb h asc given = tt
 
 pub is_only_clause : {V : Type 0} (len : ℕ) (fields : List Field) (numbers : V → List (List ℕ)) (bytes : List ℕ) (r : Result V BadFrame) → IsTrue (ascend 0 len fields)
-    → ((v w : V) → numbers v ≡ numbers w → v ≡ w)
+    → IfOk r (λ v. (w : V) → numbers v ≡ numbers w → v ≡ w)
     → MatchResult r (λ v. (fault_of len fields bytes ≡ None) × (numbers v ≡ numbers_in fields bytes)) (λ e. fault_of len fields bytes ≡ Some e)
     → (v : V) → Fits fields (numbers v) → bytes ≡ frame_of len fields (numbers v) → r ≡ Ok v
-is_only_clause len fields numbers bytes (Ok w) asc apart given v fits is =
+is_only_clause len fields numbers bytes (Ok w) asc known given v fits is =
     let a = again len fields (numbers v) asc fits in
-    ap Ok (apart w v (given.1 ∙ ap (numbers_in fields) is ∙ a.0))
-is_only_clause len fields numbers bytes (Err e) asc apart given v fits is =
+    ap Ok (known v (given.1 ∙ ap (numbers_in fields) is ∙ a.0))
+is_only_clause len fields numbers bytes (Err e) asc known given v fits is =
     let a = again len fields (numbers v) asc fits in
     absurd (not_both e (fault_of len fields bytes) given (ap (fault_of len fields) is ∙ a.1))

@@ -4,3 +4,12 @@ pub mod Bytes
 pub mod Parts
 pub mod Filling
 pub mod Decoding
+pub mod Bits
+pub mod SubmissionApart
+pub mod CompletionApart
+pub mod ConfigurationsApart
+pub mod UsageApart
+pub mod StatisticsApart
+pub mod EventsApart
+pub mod HandleStatusApart
+pub mod RangeApart

@@ -1,6 +1,5 @@
 -- A layout: fields at fixed offsets of a frame of bytes, low byte first.
-use Rattle.std.specs.Prelude.{◌≡◌, ℕ, ◌+◌, ◌*◌, ◌/◌, ◌%◌, ◌^◌, ◌<◌, Bool, true, false, not, ◌&&◌, ◌==◌, if◌then◌else◌, IsTrue, nat_lt, nat_le, List, [], ◌∷◌, ◌++◌, length, take, drop, replicate, slice_index, Option, Some, None, MatchOption, refl}
-use Rattle.std.proofs.Common.{arith}
+use Rattle.std.specs.Prelude.{◌≡◌, ℕ, ◌+◌, ◌*◌, ◌/◌, ◌%◌, ◌^◌, ◌<◌, Bool, true, false, not, ◌&&◌, ◌==◌, if◌then◌else◌, IsTrue, nat_lt, nat_le, List, [], ◌∷◌, ◌++◌, length, take, drop, replicate, slice_index, Option, Some, None, MatchOption}
 use Rattle.std.specs.List.{find, list_any, range_with_len}
 use Rattle.byteorder.specs.Endian.{little_number, little_bytes}
 use Rattle.fdp_layouts.specs.declared.span.Span.{Span}
@@ -28,11 +27,6 @@ zeros bits = record { bits = bits; names = λ n. n == 0 }
 -- a byte that holds one of these codes
 abbrev pub code : (ℕ → Bool) → Part
 code names = record { bits = 8; names = names }
-
--- a truth value as one bit
-abbrev pub bit : Bool → ℕ
-bit true = 1
-bit false = 0
 
 -- a field of one number of so many bytes
 abbrev pub number : ℕ → ℕ → Field
@@ -153,9 +147,3 @@ ascend from len (f ∷ fs) = nat_le from f.at && (bits_of f.parts % 8 == 0) && a
 abbrev pub ReadsParts : {V : Type 0} → List Part → (V → List ℕ) → ℕ → Option V → Type 0
 ReadsParts parts numbers n result =
     MatchOption result (are_named parts (unpacked parts n) ≡ false) (λ v. (are_named parts (unpacked parts n) ≡ true) × (numbers v ≡ unpacked parts n))
-
-pub bit_apart : (a b : Bool) → bit a ≡ bit b → a ≡ b
-bit_apart true true e = refl
-bit_apart true false e = absurd (omega (arith, e))
-bit_apart false true e = absurd (omega (arith, e))
-bit_apart false false e = refl

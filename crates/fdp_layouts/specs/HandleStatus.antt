@@ -1,5 +1,5 @@
 -- The layouts of the Reclaim Unit Handle Status.
-use Rattle.std.specs.Prelude.{◌≡◌, ℕ, List, [], ◌∷◌}
+use Rattle.std.specs.Prelude.{ℕ, List, [], ◌∷◌}
 use Rattle.fdp_layouts.specs.Frame.{Field, number}
 use Rattle.fdp_layouts.specs.declared.handle_status.RuhStatusHead.{RuhStatusHead}
 use Rattle.fdp_layouts.specs.declared.handle_status.RuhStatusDesc.{RuhStatusDesc}
@@ -11,22 +11,9 @@ ruh_status_head = number 14 2 ∷ []
 abbrev pub ruh_status_head_numbers : RuhStatusHead → List (List ℕ)
 ruh_status_head_numbers h = (h.descriptors ∷ []) ∷ []
 
-pub ruh_status_head_by_numbers : (v w : RuhStatusHead) → ruh_status_head_numbers v ≡ ruh_status_head_numbers w → v ≡ w
-ruh_status_head_by_numbers v w e =
-    let descriptors : v.descriptors ≡ w.descriptors = cc in
-    λ i. record { descriptors = descriptors i }
-
 -- PID 0+2, RUHID 2+2, EARUTR 4+4, RUAMW 8+8
 abbrev pub ruh_status_desc : List Field
 ruh_status_desc = number 0 2 ∷ number 2 2 ∷ number 4 4 ∷ number 8 8 ∷ []
 
 abbrev pub ruh_status_desc_numbers : RuhStatusDesc → List (List ℕ)
 ruh_status_desc_numbers d = (d.pid ∷ []) ∷ (d.ruhid ∷ []) ∷ (d.earutr ∷ []) ∷ (d.ruamw ∷ []) ∷ []
-
-pub ruh_status_desc_by_numbers : (v w : RuhStatusDesc) → ruh_status_desc_numbers v ≡ ruh_status_desc_numbers w → v ≡ w
-ruh_status_desc_by_numbers v w e =
-    let pid : v.pid ≡ w.pid = cc in
-    let ruhid : v.ruhid ≡ w.ruhid = cc in
-    let earutr : v.earutr ≡ w.earutr = cc in
-    let ruamw : v.ruamw ≡ w.ruamw = cc in
-    λ i. record { pid = pid i; ruhid = ruhid i; earutr = earutr i; ruamw = ruamw i }

@@ -1,5 +1,5 @@
 -- The layout of the FDP Statistics log page.
-use Rattle.std.specs.Prelude.{◌≡◌, ℕ, List, [], ◌∷◌}
+use Rattle.std.specs.Prelude.{ℕ, List, [], ◌∷◌}
 use Rattle.fdp_layouts.specs.Frame.{Field, number}
 use Rattle.fdp_layouts.specs.declared.statistics.Stats.{Stats}
 
@@ -9,10 +9,3 @@ stats = number 0 16 ∷ number 16 16 ∷ number 32 16 ∷ []
 
 abbrev pub stats_numbers : Stats → List (List ℕ)
 stats_numbers s = (s.hbmw ∷ []) ∷ (s.mbmw ∷ []) ∷ (s.mbe ∷ []) ∷ []
-
-pub stats_by_numbers : (v w : Stats) → stats_numbers v ≡ stats_numbers w → v ≡ w
-stats_by_numbers v w e =
-    let hbmw : v.hbmw ≡ w.hbmw = cc in
-    let mbmw : v.mbmw ≡ w.mbmw = cc in
-    let mbe : v.mbe ≡ w.mbe = cc in
-    λ i. record { hbmw = hbmw i; mbmw = mbmw i; mbe = mbe i }

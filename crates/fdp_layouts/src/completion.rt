@@ -10,8 +10,8 @@
 //! | 14 | 2 | status: phase tag bit 0, SC bits 8:1, SCT bits 11:9, CRD bits 13:12, M bit 14, DNR bit 15 |
 
 ghost use Rattle.std.specs.Prelude.{◌≡◌, ℕ, ◌<◌, false, refl};
-ghost use Rattle.fdp_layouts.specs.Frame.{packed, ReadsParts};
-ghost use Rattle.fdp_layouts.specs.Completion.{sct_code, crd_code, status_parts, status_numbers, cqe, cqe_numbers, cqe_by_numbers};
+ghost use Rattle.fdp_layouts.specs.Frame.{packed, PartsFit, ReadsParts};
+ghost use Rattle.fdp_layouts.specs.Completion.{sct_code, crd_code, status_parts, status_numbers, cqe, cqe_numbers};
 
 use crate::bad_frame::BadFrame;
 use crate::frame::Frame;
@@ -163,7 +163,8 @@ impl StatusField {
     }
 
     pub fn code(&self) -> u16
-        ensures { result ≡ packed status_parts (status_numbers self.now) }
+        ensures code { result ≡ packed status_parts (status_numbers self.now) }
+        ensures fits { PartsFit status_parts (status_numbers self.now) }
     {
         let retry = u16::from(self.crd.code())
             + 4 * (u16::from(self.more) + 2 * u16::from(self.dnr));
@@ -192,7 +193,7 @@ impl Frame<16> for Cqe {
 
     ghost in_order = { refl };
 
-    ghost told_apart = { cqe_by_numbers };
+    ghost small = { refl };
 
     fn encode(&self) -> [u8; 16] {
         cqe!(encode, self)

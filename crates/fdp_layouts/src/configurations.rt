@@ -29,7 +29,7 @@
 //! | 0 | 1 | class: 1 initially isolated, 2 persistently isolated |
 
 ghost use Rattle.std.specs.Prelude.{◌≡◌, ℕ, ◌<◌, refl};
-ghost use Rattle.fdp_layouts.specs.Configurations.{attributes_parts, attributes_numbers, class_parts, class_numbers, config_head, config_head_numbers, config_head_by_numbers, config_desc, config_desc_numbers, config_desc_by_numbers, ruh_class, ruh_class_numbers, ruh_class_by_numbers};
+ghost use Rattle.fdp_layouts.specs.Configurations.{attributes_parts, attributes_numbers, class_parts, class_numbers, config_head, config_head_numbers, config_desc, config_desc_numbers, ruh_class, ruh_class_numbers};
 
 use crate::bad_frame::BadFrame;
 use crate::coded::Coded;
@@ -192,7 +192,7 @@ impl Frame<16> for ConfigHead {
 
     ghost in_order = { refl };
 
-    ghost told_apart = { config_head_by_numbers };
+    ghost small = { refl };
 
     fn encode(&self) -> [u8; 16] {
         config_head!(encode, self)
@@ -210,7 +210,7 @@ impl Frame<64> for ConfigDesc {
 
     ghost in_order = { refl };
 
-    ghost told_apart = { config_desc_by_numbers };
+    ghost small = { refl };
 
     fn encode(&self) -> [u8; 64] {
         config_desc!(encode, self)
@@ -228,7 +228,7 @@ impl Frame<4> for RuhClass {
 
     ghost in_order = { refl };
 
-    ghost told_apart = { ruh_class_by_numbers };
+    ghost small = { refl };
 
     fn encode(&self) -> [u8; 4] {
         ruh_class!(encode, self)

@@ -6,7 +6,7 @@
 //! |---|---|---|
 //! | 0 | 4 | number of events |
 //!
-//! `Event`, 64 bytes:
+//! `EventDesc`, 64 bytes:
 //!
 //! | Offset | Bytes | Field |
 //! |---|---|---|
@@ -19,9 +19,17 @@
 //! | 32 | 2 | reclaim group |
 //! | 34 | 1 | reclaim unit handle identifier |
 //! | 40 | 24 | vendor specific |
+//!
+//! `ReallocatedDesc`, the 16 type specific bytes of event type 80h:
+//!
+//! | Offset | Bytes | Field |
+//! |---|---|---|
+//! | 0 | 1 | flags: LBA valid bit 0, bits 7:1 zero |
+//! | 2 | 2 | number of LBAs moved (NLBAM) |
+//! | 4 | 8 | LBA |
 
 ghost use Rattle.std.specs.Prelude.{◌≡◌, ℕ, refl};
-ghost use Rattle.fdp_layouts.specs.Events.{kind_parts, kind_numbers, event_flags_parts, event_flags_numbers, event_head, event_head_numbers, event_head_by_numbers, event, event_numbers, event_by_numbers};
+ghost use Rattle.fdp_layouts.specs.Events.{kind_parts, kind_numbers, event_flags_parts, event_flags_numbers, event_head, event_head_numbers, event_desc, event_desc_numbers, flag_parts, flag_numbers, reallocated_desc, reallocated_desc_numbers, described, specific_of};
 
 use crate::bad_frame::BadFrame;
 use crate::coded::Coded;
@@ -31,7 +39,7 @@ use crate::number::{
 };
 use crate::span::{Span, first_reserved};
 use crate::table::{decode, encode, len, made, put, take};
-use fdp_base::EventKind;
+use fdp_base::{Event, EventFlags, EventKind};
 
 const EVENTS: usize = 0;
 
@@ -53,6 +61,12 @@ const RUHID: usize = 34;
 
 const VENDOR: usize = 40;
 
+const LBA_VALID: usize = 0;
+
+const NLBAM: usize = 2;
+
+const LBA: usize = 4;
+
 macro_rules! event_head {
     ($direction:ident, $subject:ident) => {
         $direction!($subject, EventHead[64] {
@@ -61,9 +75,9 @@ macro_rules! event_head {
     };
 }
 
-macro_rules! event {
+macro_rules! event_desc {
     ($direction:ident, $subject:ident) => {
-        $direction!($subject, Event[64] {
+        $direction!($subject, EventDesc[64] {
             kind: (EventKind: u8) at KIND,
             flags: (EventFlags: u8) at FLAGS,
             pid: u16 at PID,
@@ -77,6 +91,16 @@ macro_rules! event {
     };
 }
 
+macro_rules! reallocated_desc {
+    ($direction:ident, $subject:ident) => {
+        $direction!($subject, ReallocatedDesc[16] {
+            lba_valid: (bool: u8) at LBA_VALID,
+            nlbam: u16 at NLBAM,
+            lba: u64 at LBA,
+        })
+    };
+}
+
 /// The head of the log page.
 #[derive(Clone, Copy, Debug, PartialEq, Eq)]
 pub struct EventHead {
@@ -84,9 +108,9 @@ pub struct EventHead {
     pub events: u32,
 }
 
-/// An event. This drive puts the position of the entry that made it into the timestamp.
+/// An event.
 #[derive(Clone, Copy, Debug, PartialEq, Eq)]
-pub struct Event {
+pub struct EventDesc {
     pub kind: EventKind,
     pub flags: EventFlags,
     pub pid: u16,
@@ -98,12 +122,54 @@ pub struct Event {
     pub vendor: [u8; 24],
 }
 
-/// Which fields of an event mean something.
+/// What an event of reallocated media says of it.
 #[derive(Clone, Copy, Debug, PartialEq, Eq)]
-pub struct EventFlags {
-    pub pid_valid: bool,
-    pub nsid_valid: bool,
-    pub location_valid: bool,
+pub struct ReallocatedDesc {
+    /// Whether the address means something.
+    pub lba_valid: bool,
+    /// Blocks that were moved.
+    pub nlbam: u16,
+    /// The address of the first of them.
+    pub lba: u64,
+}
+
+impl EventDesc {
+    /// An event of the drive. The position of the entry that made it stands in place of a time.
+    pub fn of(event: &Event) -> EventDesc
+        ensures { result ≡ described event.now }
+    {
+        EventDesc {
+            kind: event.kind,
+            flags: event.flags,
+            pid: event.pid,
+            timestamp: event.position,
+            nsid: event.nsid,
+            specific: specific_of(event),
+            rg: event.rg,
+            ruhid: event.ruh,
+            vendor: [0; 24],
+        }
+    }
+}
+
+fn specific_of(event: &Event) -> [u8; 16]
+    ensures { result ≡ specific_of event.now }
+{
+    match event.kind {
+        EventKind::MediaReallocated => {
+            let reallocated = ReallocatedDesc {
+                lba_valid: true,
+                nlbam: event.moved,
+                lba: event.lba,
+            };
+            reallocated.encode()
+        }
+        EventKind::NotFullyWritten
+        | EventKind::TimeLimitExceeded
+        | EventKind::HandlesModified
+        | EventKind::InvalidPlacementIdentifier
+        | EventKind::ImplicitlyModified => [0; 16],
+    }
 }
 
 impl Coded for EventKind {
@@ -156,6 +222,24 @@ impl Coded for EventFlags {
     }
 }
 
+impl Coded for bool {
+    ghost parts = { flag_parts };
+
+    ghost numbers = { flag_numbers };
+
+    fn code(&self) -> u8 {
+        u8::from(*self)
+    }
+
+    fn from_code(code: u8) -> Option<bool> {
+        match code {
+            0 => Some(false),
+            1 => Some(true),
+            _ => None,
+        }
+    }
+}
+
 impl Frame<64> for EventHead {
     ghost fields = { event_head };
 
@@ -163,7 +247,7 @@ impl Frame<64> for EventHead {
 
     ghost in_order = { refl };
 
-    ghost told_apart = { event_head_by_numbers };
+    ghost small = { refl };
 
     fn encode(&self) -> [u8; 64] {
         event_head!(encode, self)
@@ -174,20 +258,38 @@ impl Frame<64> for EventHead {
     }
 }
 
-impl Frame<64> for Event {
-    ghost fields = { event };
+impl Frame<64> for EventDesc {
+    ghost fields = { event_desc };
 
-    ghost numbers = { event_numbers };
+    ghost numbers = { event_desc_numbers };
 
     ghost in_order = { refl };
 
-    ghost told_apart = { event_by_numbers };
+    ghost small = { refl };
 
     fn encode(&self) -> [u8; 64] {
-        event!(encode, self)
+        event_desc!(encode, self)
     }
 
-    fn read(bytes: &[u8; 64]) -> Result<Event, BadFrame> {
-        event!(decode, bytes)
+    fn read(bytes: &[u8; 64]) -> Result<EventDesc, BadFrame> {
+        event_desc!(decode, bytes)
+    }
+}
+
+impl Frame<16> for ReallocatedDesc {
+    ghost fields = { reallocated_desc };
+
+    ghost numbers = { reallocated_desc_numbers };
+
+    ghost in_order = { refl };
+
+    ghost small = { refl };
+
+    fn encode(&self) -> [u8; 16] {
+        reallocated_desc!(encode, self)
+    }
+
+    fn read(bytes: &[u8; 16]) -> Result<ReallocatedDesc, BadFrame> {
+        reallocated_desc!(decode, bytes)
     }
 }

@@ -1,4 +1,4 @@
-ghost use Rattle.std.specs.Prelude.{◌≡◌, ◌<◌, slice_index, ◌↔◌, ℕ, List, Result, Ok, Err, Some, None, IfOk, MatchResult, IsTrue};
+ghost use Rattle.std.specs.Prelude.{◌≡◌, ◌<◌, ◌^◌, nat_lt, slice_index, ◌↔◌, ℕ, List, Result, Ok, Err, Some, None, IfOk, MatchResult, IsTrue};
 ghost use Rattle.fdp_layouts.specs.declared.bad_frame.BadFrame.{BadFrame};
 ghost use Rattle.fdp_layouts.specs.Frame.{Field, frame_of, fault_of, numbers_in, Fits, ascend};
 
@@ -13,19 +13,22 @@ pub trait Frame<const N: usize> {
     ghost numbers: { Self → List (List ℕ) };
 
     fn encode(&self) -> [u8; N]
-        ensures { result ≡ frame_of N fields (numbers self.now) };
+        ensures frame { result ≡ frame_of N fields (numbers self.now) }
+        ensures fits { Fits fields (numbers self.now) };
 
     /// What the fields hold, or what is wrong with the bytes.
     fn read(bytes: &[u8; N]) -> Result<Self, BadFrame>
-        ensures { MatchResult result
+        ensures holds { MatchResult result
             (λ v. (fault_of N fields bytes.now ≡ None) × (numbers v ≡ numbers_in fields bytes.now))
-            (λ e. fault_of N fields bytes.now ≡ Some e) };
+            (λ e. fault_of N fields bytes.now ≡ Some e) }
+        // A value is known by its numbers.
+        ensures known { IfOk result (λ v. (w : Self) → numbers v ≡ numbers w → v ≡ w) };
 
     /// The fields ascend.
     ghost in_order: { IsTrue (ascend 0 N fields) };
 
-    /// A value is known by its numbers.
-    ghost told_apart: { (v w : Self) → numbers v ≡ numbers w → v ≡ w };
+    /// Memory has room for a frame.
+    ghost small: { IsTrue (nat_lt N (2 ^ 63)) };
 
     final fn decode(bytes: &[u8; N]) -> Result<Self, BadFrame>
         ensures ok { IfOk result (λ v. bytes.now ≡ frame_of N fields (numbers v)) }
@@ -34,6 +37,13 @@ pub trait Frame<const N: usize> {
     {
         see_bytes(bytes);
         Self::read(bytes)
+    }
+
+    /// What is read of the bytes of a value: that value.
+    final fn round_trip(&self) -> Result<Self, BadFrame>
+        ensures { result ≡ Ok self.now }
+    {
+        Self::decode(&self.encode())
     }
 }
 

@@ -16,7 +16,7 @@
 //! | 8 | 8 | reclaim unit available media writes (RUAMW) |
 
 ghost use Rattle.std.specs.Prelude.{◌≡◌, ℕ, refl};
-ghost use Rattle.fdp_layouts.specs.HandleStatus.{ruh_status_head, ruh_status_head_numbers, ruh_status_head_by_numbers, ruh_status_desc, ruh_status_desc_numbers, ruh_status_desc_by_numbers};
+ghost use Rattle.fdp_layouts.specs.HandleStatus.{ruh_status_head, ruh_status_head_numbers, ruh_status_desc, ruh_status_desc_numbers};
 
 use crate::bad_frame::BadFrame;
 use crate::frame::Frame;
@@ -78,7 +78,7 @@ impl Frame<16> for RuhStatusHead {
 
     ghost in_order = { refl };
 
-    ghost told_apart = { ruh_status_head_by_numbers };
+    ghost small = { refl };
 
     fn encode(&self) -> [u8; 16] {
         ruh_status_head!(encode, self)
@@ -96,7 +96,7 @@ impl Frame<32> for RuhStatusDesc {
 
     ghost in_order = { refl };
 
-    ghost told_apart = { ruh_status_desc_by_numbers };
+    ghost small = { refl };
 
     fn encode(&self) -> [u8; 32] {
         ruh_status_desc!(encode, self)

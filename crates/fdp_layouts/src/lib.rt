@@ -21,7 +21,7 @@ pub use bad_frame::BadFrame;
 pub use coded::Coded;
 pub use completion::{Cqe, RetryDelay, StatusCodeType, StatusField};
 pub use configurations::{Attributes, ConfigDesc, ConfigHead, RuhClass};
-pub use events::{Event, EventFlags, EventHead};
+pub use events::{EventDesc, EventHead, ReallocatedDesc};
 pub use frame::Frame;
 pub use group_bits::GroupBits;
 pub use handle_status::{RuhStatusDesc, RuhStatusHead};
@@ -29,6 +29,3 @@ pub use range::DsmRange;
 pub use statistics::Stats;
 pub use submission::{EntryFlags, Fuse, Psdt, Sqe};
 pub use usage::{RuhUse, RuhUseHead, Usage};
-
-#[cfg(test)]
-mod tests;

@@ -1,8 +1,8 @@
 //! Numbers and bytes at an offset of a frame.
 
-ghost use Rattle.std.specs.Prelude.{◌≡◌, ℕ, ◌+◌, ◌≤◌, length, replicate};
+ghost use Rattle.std.specs.Prelude.{◌≡◌, ℕ, ◌+◌, ◌^◌, ◌<◌, ◌≤◌, length, replicate};
 ghost use Rattle.byteorder.specs.Endian.{little_bytes};
-ghost use Rattle.fdp_layouts.specs.Frame.{any, packed, unpacked, number_at, placed};
+ghost use Rattle.fdp_layouts.specs.Frame.{any, packed, unpacked, number_at, placed, PartsFit};
 
 use crate::frame::see_bytes;
 use byteorder::{ByteOrder, LittleEndian};
@@ -50,7 +50,8 @@ pub fn read_u128(bytes: &[u8], at: usize) -> u128
 #[tactic(auto, unfolding(crate::specs::Frame::placed))]
 pub fn put_u8(frame: &mut [u8], at: usize, n: u8)
     requires { at + 1 ≤ length frame.old }
-    ensures { frame.new ≡ placed at (little_bytes 1 n) frame.old }
+    ensures placed { frame.new ≡ placed at (little_bytes 1 n) frame.old }
+    ensures fits { n < 2 ^ 8 }
 {
     frame[at] = n;
 }
@@ -58,7 +59,8 @@ pub fn put_u8(frame: &mut [u8], at: usize, n: u8)
 #[tactic(auto, unfolding(crate::specs::Frame::placed))]
 pub fn put_u16(frame: &mut [u8], at: usize, n: u16)
     requires { at + 2 ≤ length frame.old }
-    ensures { frame.new ≡ placed at (little_bytes 2 n) frame.old }
+    ensures placed { frame.new ≡ placed at (little_bytes 2 n) frame.old }
+    ensures fits { n < 2 ^ 16 }
 {
     LittleEndian::write_u16(&mut frame[at..], n);
 }
@@ -66,7 +68,8 @@ pub fn put_u16(frame: &mut [u8], at: usize, n: u16)
 #[tactic(auto, unfolding(crate::specs::Frame::placed))]
 pub fn put_u32(frame: &mut [u8], at: usize, n: u32)
     requires { at + 4 ≤ length frame.old }
-    ensures { frame.new ≡ placed at (little_bytes 4 n) frame.old }
+    ensures placed { frame.new ≡ placed at (little_bytes 4 n) frame.old }
+    ensures fits { n < 2 ^ 32 }
 {
     LittleEndian::write_u32(&mut frame[at..], n);
 }
@@ -74,7 +77,8 @@ pub fn put_u32(frame: &mut [u8], at: usize, n: u32)
 #[tactic(auto, unfolding(crate::specs::Frame::placed))]
 pub fn put_u64(frame: &mut [u8], at: usize, n: u64)
     requires { at + 8 ≤ length frame.old }
-    ensures { frame.new ≡ placed at (little_bytes 8 n) frame.old }
+    ensures placed { frame.new ≡ placed at (little_bytes 8 n) frame.old }
+    ensures fits { n < 2 ^ 64 }
 {
     LittleEndian::write_u64(&mut frame[at..], n);
 }
@@ -82,7 +86,8 @@ pub fn put_u64(frame: &mut [u8], at: usize, n: u64)
 #[tactic(auto, unfolding(crate::specs::Frame::placed))]
 pub fn put_u128(frame: &mut [u8], at: usize, n: u128)
     requires { at + 16 ≤ length frame.old }
-    ensures { frame.new ≡ placed at (little_bytes 16 n) frame.old }
+    ensures placed { frame.new ≡ placed at (little_bytes 16 n) frame.old }
+    ensures fits { n < 2 ^ 128 }
 {
     LittleEndian::write_u128(&mut frame[at..], n);
 }
@@ -100,7 +105,8 @@ pub fn read_bytes<const LEN: usize>(bytes: &[u8], at: usize) -> [u8; LEN]
 #[tactic(auto, unfolding(crate::specs::Frame::placed))]
 pub fn put_bytes<const LEN: usize>(frame: &mut [u8], at: usize, part: &[u8; LEN])
     requires { at + LEN ≤ length frame.old }
-    ensures { frame.new ≡ placed at (little_bytes LEN (packed (replicate LEN (any 8)) part.now)) frame.old }
+    ensures placed { frame.new ≡ placed at (little_bytes LEN (packed (replicate LEN (any 8)) part.now)) frame.old }
+    ensures fits { PartsFit (replicate LEN (any 8)) part.now }
 {
     see_bytes(part);
     frame[at..at + LEN].copy_from_slice(part);

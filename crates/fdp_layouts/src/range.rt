@@ -7,7 +7,7 @@
 //! | 8 | 8 | starting LBA |
 
 ghost use Rattle.std.specs.Prelude.{◌≡◌, ℕ, refl};
-ghost use Rattle.fdp_layouts.specs.Range.{dsm_range, dsm_range_numbers, dsm_range_by_numbers};
+ghost use Rattle.fdp_layouts.specs.Range.{dsm_range, dsm_range_numbers};
 
 use crate::bad_frame::BadFrame;
 use crate::frame::Frame;
@@ -46,7 +46,7 @@ impl Frame<16> for DsmRange {
 
     ghost in_order = { refl };
 
-    ghost told_apart = { dsm_range_by_numbers };
+    ghost small = { refl };
 
     fn encode(&self) -> [u8; 16] {
         dsm_range!(encode, self)

@@ -7,7 +7,7 @@
 //! | 32 | 16 | media bytes erased (MBE) |
 
 ghost use Rattle.std.specs.Prelude.{◌≡◌, ℕ, refl};
-ghost use Rattle.fdp_layouts.specs.Statistics.{stats, stats_numbers, stats_by_numbers};
+ghost use Rattle.fdp_layouts.specs.Statistics.{stats, stats_numbers};
 
 use crate::bad_frame::BadFrame;
 use crate::frame::Frame;
@@ -49,7 +49,7 @@ impl Frame<64> for Stats {
 
     ghost in_order = { refl };
 
-    ghost told_apart = { stats_by_numbers };
+    ghost small = { refl };
 
     fn encode(&self) -> [u8; 64] {
         stats!(encode, self)

@@ -12,7 +12,7 @@
 //! | 40, 44, 48, 52, 56, 60 | 4 | CDW10 to CDW15 |
 
 ghost use Rattle.std.specs.Prelude.{◌≡◌, ℕ, ◌<◌, refl};
-ghost use Rattle.fdp_layouts.specs.Submission.{fuse_code, psdt_code, flags_parts, flags_numbers, sqe, sqe_numbers, sqe_by_numbers};
+ghost use Rattle.fdp_layouts.specs.Submission.{fuse_code, psdt_code, flags_parts, flags_numbers, sqe, sqe_numbers};
 
 use crate::bad_frame::BadFrame;
 use crate::coded::Coded;
@@ -183,7 +183,7 @@ impl Frame<64> for Sqe {
 
     ghost in_order = { refl };
 
-    ghost told_apart = { sqe_by_numbers };
+    ghost small = { refl };
 
     fn encode(&self) -> [u8; 64] {
         sqe!(encode, self)

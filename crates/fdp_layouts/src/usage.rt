@@ -13,7 +13,7 @@
 //! | 0 | 1 | usage: 0 unused, 1 host specified, 2 controller specified |
 
 ghost use Rattle.std.specs.Prelude.{◌≡◌, ℕ, refl};
-ghost use Rattle.fdp_layouts.specs.Usage.{usage_parts, usage_numbers, ruh_use_head, ruh_use_head_numbers, ruh_use_head_by_numbers, ruh_use, ruh_use_numbers, ruh_use_by_numbers};
+ghost use Rattle.fdp_layouts.specs.Usage.{usage_parts, usage_numbers, ruh_use_head, ruh_use_head_numbers, ruh_use, ruh_use_numbers};
 
 use crate::bad_frame::BadFrame;
 use crate::coded::Coded;
@@ -96,7 +96,7 @@ impl Frame<8> for RuhUseHead {
 
     ghost in_order = { refl };
 
-    ghost told_apart = { ruh_use_head_by_numbers };
+    ghost small = { refl };
 
     fn encode(&self) -> [u8; 8] {
         ruh_use_head!(encode, self)
@@ -114,7 +114,7 @@ impl Frame<8> for RuhUse {
 
     ghost in_order = { refl };
 
-    ghost told_apart = { ruh_use_by_numbers };
+    ghost small = { refl };
 
     fn encode(&self) -> [u8; 8] {
         ruh_use!(encode, self)

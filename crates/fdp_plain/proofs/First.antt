@@ -4,9 +4,9 @@ use Rattle.std.proofs.lemmas.Option.{none-some}
 use Rattle.fdp_base.specs.declared.config.DriveConfig.{DriveConfig}
 use Rattle.fdp_base.specs.declared.entry.Entry.{Entry}
 use Rattle.fdp_base.specs.Config.{IsValidConfig}
-use Rattle.fdp_base.specs.History.{first_state, fresh, point_of, state_of}
-use Rattle.fdp_base.specs.Legal.{IsLegalAfter}
-use Rattle.fdp_base.specs.Point.{Point}
+use Rattle.fdp_rules.specs.History.{first_state, fresh, point_of, state_of}
+use Rattle.fdp_rules.specs.Legal.{IsLegalAfter}
+use Rattle.fdp_rules.specs.Point.{Point}
 use Rattle.fdp_tables.specs.declared.state.Kept.{Kept}
 use Rattle.fdp_tables.specs.Fresh.{IsFresh}
 use Rattle.fdp_tables.specs.State.{plain_of}

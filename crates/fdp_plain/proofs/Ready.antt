@@ -11,15 +11,15 @@ use Rattle.fdp_base.specs.declared.config.DriveConfig.{DriveConfig}
 use Rattle.fdp_base.specs.declared.entry.Entry.{Entry}
 use Rattle.fdp_base.specs.declared.entry.Entry.TheVariants as entries
 use Rattle.fdp_base.specs.declared.entry.Reply.{Reply}
-use Rattle.fdp_base.specs.Change.{going_with, holds_ticket, started}
+use Rattle.fdp_rules.specs.Change.{going_with, holds_ticket, started}
 use Rattle.fdp_base.specs.CommandKinds.{Write, nsid_of, write_of}
-use Rattle.fdp_base.specs.Effect.{created, lowest_free}
+use Rattle.fdp_rules.specs.Effect.{created, lowest_free}
 use Rattle.fdp_base.specs.Numbers.{numbers_from}
-use Rattle.fdp_base.specs.PlainState.{Going, Namespace, PlainState}
-use Rattle.fdp_base.specs.Refusal.{checks_of, is_absent, is_present, refusal_of}
-use Rattle.fdp_base.specs.Room.{handles_of, namespace_ids, size_of}
-use Rattle.fdp_base.specs.Sites.{is_there}
-use Rattle.fdp_base.specs.Step.{Follows, IsHost}
+use Rattle.fdp_rules.specs.PlainState.{Going, Namespace, PlainState}
+use Rattle.fdp_rules.specs.Refusal.{checks_of, is_absent, is_present, refusal_of}
+use Rattle.fdp_rules.specs.Room.{handles_of, namespace_ids, size_of}
+use Rattle.fdp_rules.specs.Sites.{is_there}
+use Rattle.fdp_rules.specs.Step.{Follows, IsHost}
 use Rattle.fdp_tables.specs.declared.state.Kept.{Kept}
 use Rattle.fdp_tables.specs.declared.state.KeptBlock.{KeptBlock}
 use Rattle.fdp_tables.specs.declared.state.KeptGoing.{KeptGoing}

@@ -1,10 +1,10 @@
 -- Whether an entry is a step is whether it may follow what the tables say.
 use Rattle.std.proofs.Common.{◌≡◌, true, sym, ap, subst}
 use Rattle.fdp_base.specs.declared.entry.Entry.{Entry}
-use Rattle.fdp_base.specs.History.{fresh, point_of, state_of}
-use Rattle.fdp_base.specs.PlainState.{PlainState}
-use Rattle.fdp_base.specs.Point.{Point}
-use Rattle.fdp_base.specs.Step.{Follows, IsStep}
+use Rattle.fdp_rules.specs.History.{fresh, point_of, state_of}
+use Rattle.fdp_rules.specs.PlainState.{PlainState}
+use Rattle.fdp_rules.specs.Point.{Point}
+use Rattle.fdp_rules.specs.Step.{Follows, IsStep}
 use Rattle.fdp_tables.specs.declared.state.Kept.{Kept}
 use Rattle.fdp_tables.specs.State.{plain_of, point_kept}
 use Rattle.fdp_plain.specs.declared.refused.Refused.{Refused}

@@ -9,12 +9,12 @@ use Rattle.fdp_base.specs.declared.config.DriveConfig.{DriveConfig}
 use Rattle.fdp_base.specs.declared.entry.Entry.{Entry}
 use Rattle.fdp_base.specs.declared.entry.Spot.{Spot}
 use Rattle.fdp_base.specs.declared.event.Event.{Event}
-use Rattle.fdp_base.specs.Events.{is_host_event, latest}
-use Rattle.fdp_base.specs.History.{fresh, point_of}
-use Rattle.fdp_base.specs.PlainState.{PageName, PageName.found, PageName.written, PlainState}
-use Rattle.fdp_base.specs.Point.{Point}
-use Rattle.fdp_base.specs.Sites.{trail_of}
-use Rattle.fdp_base.specs.Step.{Follows}
+use Rattle.fdp_rules.specs.Events.{is_host_event, latest}
+use Rattle.fdp_rules.specs.History.{fresh, point_of}
+use Rattle.fdp_rules.specs.PlainState.{PageName, PageName.found, PageName.written, PlainState}
+use Rattle.fdp_rules.specs.Point.{Point}
+use Rattle.fdp_rules.specs.Sites.{trail_of}
+use Rattle.fdp_rules.specs.Step.{Follows}
 use Rattle.fdp_tables.specs.declared.state.Kept.{Kept}
 use Rattle.fdp_tables.specs.State.{copies_at, copy_of, plain_of, point_kept, row, site_at}
 use Rattle.fdp_plain.specs.Reserved.{IsSame}

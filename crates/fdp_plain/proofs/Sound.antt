@@ -4,8 +4,8 @@ use Rattle.std.specs.Prelude.{option_map, slice_index}
 use Rattle.std.specs.Option.{IsSomeAnd, option_map_or}
 use Rattle.fdp_base.specs.declared.config.DriveConfig.{DriveConfig}
 use Rattle.fdp_base.specs.Config.{IsValidConfig}
-use Rattle.fdp_base.specs.PlainState.{Namespace, PlainState}
-use Rattle.fdp_base.specs.Room.{handles_in_force}
+use Rattle.fdp_rules.specs.PlainState.{Namespace, PlainState}
+use Rattle.fdp_rules.specs.Room.{handles_in_force}
 use Rattle.fdp_tables.specs.declared.state.Kept.{Kept}
 use Rattle.fdp_tables.specs.Sound.{IsSound}
 use Rattle.fdp_tables.specs.State.{plain_of, point_kept}

@@ -5,18 +5,18 @@ use Rattle.std.proofs.lemmas.List.Elements.{filter-append}
 use Rattle.fdp_base.specs.declared.config.DriveConfig.{DriveConfig}
 use Rattle.fdp_base.specs.declared.entry.Entry.{Entry}
 use Rattle.fdp_base.specs.declared.event.Event.{Event}
-use Rattle.fdp_base.specs.Change.{after, changed_by}
+use Rattle.fdp_rules.specs.Change.{after, changed_by}
 use Rattle.fdp_base.specs.Config.{IsValidConfig}
-use Rattle.fdp_base.specs.Events.{is_host_event, kept_of_entry, latest}
-use Rattle.fdp_base.specs.History.{fresh, point_of}
-use Rattle.fdp_base.specs.Legal.{IsLegal}
-use Rattle.fdp_base.specs.Next.{next}
-use Rattle.fdp_base.specs.PlainState.{Going, PageName, PageName.found, PageName.written, PlainState}
-use Rattle.fdp_base.specs.Point.{Point, Trail}
-use Rattle.fdp_base.specs.Sites.{traced_by, trail_of}
-use Rattle.fdp_base.specs.Step.{Follows, IsStep}
-use Rattle.fdp_base.specs.Totals.{blocks_written, erases_of, host_blocks_of, media_blocks_of}
-use Rattle.fdp_base.proofs.Pushes.{latest-append, legal-push, point_of-push, trail_of-push}
+use Rattle.fdp_rules.specs.Events.{is_host_event, kept_of_entry, latest}
+use Rattle.fdp_rules.specs.History.{fresh, point_of}
+use Rattle.fdp_rules.specs.Legal.{IsLegal}
+use Rattle.fdp_rules.specs.Next.{next}
+use Rattle.fdp_rules.specs.PlainState.{Going, PageName, PageName.found, PageName.written, PlainState}
+use Rattle.fdp_rules.specs.Point.{Point, Trail}
+use Rattle.fdp_rules.specs.Sites.{traced_by, trail_of}
+use Rattle.fdp_rules.specs.Step.{Follows, IsStep}
+use Rattle.fdp_rules.specs.Totals.{blocks_written, erases_of, host_blocks_of, media_blocks_of}
+use Rattle.fdp_rules.proofs.Pushes.{latest-append, legal-push, point_of-push, trail_of-push}
 use Rattle.fdp_tables.specs.declared.state.Kept.{Kept}
 use Rattle.fdp_tables.specs.Rows.{KeepsRows, places_of}
 use Rattle.fdp_tables.specs.State.{copies_at, plain_of, point_kept, site_at}

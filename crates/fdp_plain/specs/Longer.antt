@@ -2,9 +2,9 @@
 use Rattle.std.specs.Prelude.{◌≡◌, ℕ, ◌+◌, ◌<◌, ◌++◌, ◌∷◌, [], List, Some, length}
 use Rattle.fdp_base.specs.declared.entry.Entry.{Entry}
 use Rattle.fdp_base.specs.declared.event.Event.{Event}
-use Rattle.fdp_base.specs.PlainState.{PageName.written}
-use Rattle.fdp_base.specs.Sites.{traced_by}
-use Rattle.fdp_base.specs.Totals.{erases_of, host_blocks_of, media_blocks_of}
+use Rattle.fdp_rules.specs.PlainState.{PageName.written}
+use Rattle.fdp_rules.specs.Sites.{traced_by}
+use Rattle.fdp_rules.specs.Totals.{erases_of, host_blocks_of, media_blocks_of}
 use Rattle.fdp_tables.specs.declared.state.Kept.{Kept}
 use Rattle.fdp_tables.specs.Rows.{places_of}
 use Rattle.fdp_tables.specs.State.{copies_at, point_kept, site_at}

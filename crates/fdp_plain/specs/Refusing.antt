@@ -2,9 +2,9 @@
 use Rattle.std.specs.Prelude.{◌≡◌, ℕ, ◌+◌, true, List, length}
 use Rattle.fdp_base.specs.declared.config.DriveConfig.{DriveConfig}
 use Rattle.fdp_base.specs.declared.entry.Entry.{Entry}
-use Rattle.fdp_base.specs.History.{fresh, state_of}
-use Rattle.fdp_base.specs.PlainState.{PlainState}
-use Rattle.fdp_base.specs.Step.{IsStep}
+use Rattle.fdp_rules.specs.History.{fresh, state_of}
+use Rattle.fdp_rules.specs.PlainState.{PlainState}
+use Rattle.fdp_rules.specs.Step.{IsStep}
 use Rattle.fdp_tables.specs.declared.rule.Rule.{Rule}
 use Rattle.fdp_tables.specs.Rules.{FallsUnder, number_of}
 use Rattle.fdp_plain.specs.declared.refused.Refused.{Refused}

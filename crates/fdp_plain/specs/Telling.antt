@@ -1,8 +1,8 @@
 -- What is true of the tables of a plain drive.
 use Rattle.std.specs.Prelude.{◌≡◌, true}
 use Rattle.fdp_base.specs.Config.{IsValidConfig}
-use Rattle.fdp_base.specs.History.{fresh, point_of}
-use Rattle.fdp_base.specs.Legal.{IsLegal}
+use Rattle.fdp_rules.specs.History.{fresh, point_of}
+use Rattle.fdp_rules.specs.Legal.{IsLegal}
 use Rattle.fdp_tables.specs.declared.state.Kept.{Kept}
 use Rattle.fdp_tables.specs.State.{point_kept}
 use Rattle.fdp_plain.specs.Rows.{HasRows}

@@ -1,7 +1,7 @@
 ghost use Rattle.std.specs.Prelude.{◌≡◌, ◌+◌, ◌<◌, ◌≤◌, ◌∷◌, ◌++◌, [], None, length, replicate, true};
 ghost use Rattle.std.specs.Vec.{vec_capacity, vec_len};
-ghost use Rattle.fdp_base.specs.Events.{kept_of_entry};
-ghost use Rattle.fdp_base.specs.Step.{Follows};
+ghost use Rattle.fdp_rules.specs.Events.{kept_of_entry};
+ghost use Rattle.fdp_rules.specs.Step.{Follows};
 ghost use Rattle.fdp_tables.specs.Counted.{HasCountRoom};
 ghost use Rattle.fdp_tables.specs.Places.{HasPlaces};
 ghost use Rattle.fdp_tables.specs.State.{plain_of, point_kept};

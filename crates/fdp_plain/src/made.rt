@@ -1,5 +1,5 @@
 ghost use Rattle.std.specs.Prelude.{◌≡◌, ℕ, true, None, IfOk};
-ghost use Rattle.fdp_base.specs.Step.{Follows, IsHost};
+ghost use Rattle.fdp_rules.specs.Step.{Follows, IsHost};
 ghost use Rattle.fdp_tables.specs.Ready.{IsChangeReady, IsHostReady};
 ghost use Rattle.fdp_tables.specs.Sound.{IsSound};
 ghost use Rattle.fdp_tables.specs.State.{point_kept};

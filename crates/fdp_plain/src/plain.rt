@@ -1,7 +1,7 @@
 ghost use Rattle.std.specs.Prelude.{◌≡◌, true, [], IfOk};
 ghost use Rattle.fdp_base.specs.Config.{IsValidConfig};
-ghost use Rattle.fdp_base.specs.History.{fresh};
-ghost use Rattle.fdp_base.specs.Legal.{IsLegal};
+ghost use Rattle.fdp_rules.specs.History.{fresh};
+ghost use Rattle.fdp_rules.specs.Legal.{IsLegal};
 
 use fdp_base::{DriveConfig, Entry};
 use fdp_tables::Kept;

@@ -1,8 +1,8 @@
 ghost use Rattle.std.specs.Prelude.{◌≡◌, true, IfOk};
-ghost use Rattle.fdp_base.specs.Events.{kept_of_entry};
+ghost use Rattle.fdp_rules.specs.Events.{kept_of_entry};
 ghost use Rattle.fdp_tables.specs.Sound.{IsSound};
 ghost use Rattle.fdp_tables.specs.State.{plain_of, point_kept};
-ghost use Rattle.fdp_base.specs.Step.{Follows};
+ghost use Rattle.fdp_rules.specs.Step.{Follows};
 ghost use Rattle.fdp_plain.specs.Prepared.{IsPrepared};
 ghost use Rattle.fdp_plain.specs.Reserved.{HasMomentSpare};
 

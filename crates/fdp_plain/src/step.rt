@@ -1,5 +1,5 @@
 ghost use Rattle.std.specs.Prelude.{◌≡◌, ◌∷◌, ◌++◌, [], true, OnErr, OnOk};
-ghost use Rattle.fdp_base.specs.Step.{Follows};
+ghost use Rattle.fdp_rules.specs.Step.{Follows};
 ghost use Rattle.fdp_tables.specs.State.{plain_of, point_kept};
 ghost use Rattle.fdp_plain.specs.Refusing.{IsIllegalIn};
 ghost use Rattle.fdp_plain.specs.Telling.{TellsHistory};

@@ -1,6 +1,6 @@
 ghost use Rattle.std.specs.Prelude.{◌≡◌, ◌∷◌, ◌++◌, [], true, IfErr, OnErr, OnOk};
-ghost use Rattle.fdp_base.specs.History.{fresh};
-ghost use Rattle.fdp_base.specs.Step.{IsStep};
+ghost use Rattle.fdp_rules.specs.History.{fresh};
+ghost use Rattle.fdp_rules.specs.Step.{IsStep};
 ghost use Rattle.fdp_plain.specs.Refusing.{IsCause};
 
 use crate::plain::Plain;

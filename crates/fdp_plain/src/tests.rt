@@ -1,124 +1,162 @@
-//! Tables of whole histories and of refused entries, each played on a small drive. `tests/lines.rt` says how a line of them
-//! reads. The expected answers come from the rules of the drive.
+//! A short history, its entries written one by one, and entries that are refused. The tables of whole histories are the rows of
+//! `fdp_plain_rows`.
+ghost use Rattle.std.specs.Prelude.{IfOk};
+ghost use Rattle.fdp_base.specs.Config.{IsValidConfig};
+
 use super::*;
+use fdp_base::{
+    Bytes, Class, Classes, Command, DriveConfig, Entry, HandleList, NamespaceConfig, Payload,
+    Reply, Sequence, Status,
+};
+use std::alloc::{AllocError, Global};
 use std::test::Fail;
 
-mod commands;
-mod drives;
-mod features;
-mod going;
-mod lines;
-mod long;
-mod play;
-mod refused_logs;
-mod refused_media;
-mod refused_moves;
-mod refused_pages;
-mod refused_replies;
-mod refused_settings;
-mod refused_starts;
-mod refused_writes;
-mod replies;
-mod rooms;
-mod small;
-mod words;
-mod written_out;
+/// Drive S: one group, one handle, one namespace that is as large as the budget of 52 blocks.
+fn drive_s(alloc: Global) -> Result<DriveConfig, AllocError>
+    ensures { IfOk result IsValidConfig }
+{
+    let classes = Classes::from_vec(vec![in alloc; Class::Initial]?);
+    let namespace = NamespaceConfig {
+        blocks: 52,
+        handles: Some(HandleList::from_vec(vec![in alloc; 0]?)),
+    };
+    Ok(DriveConfig {
+        block: 512,
+        unit_pages: 8,
+        groups: 1,
+        units: 12,
+        area_units: 4,
+        queues: 1,
+        blocks_per_command: 4,
+        fdp: Sequence::from_vec(vec![in alloc; classes]?),
+        enabled: true,
+        index: 0,
+        namespaces: Sequence::from_vec(vec![in alloc; namespace]?),
+        queue_depth: 64,
+        collectors: 0,
+        turns: 0,
+    })
+}
 
-use drives::{drive_s, drive_t, empty_drive_s, small_drive_t};
-use play::play;
+/// One block of 7s at address 0.
+fn write() -> Command {
+    Command::Write {
+        nsid: 1,
+        slba: 0,
+        count: 1,
+        dtype: 0,
+        dspec: 0,
+        payload: Payload::Pattern(7),
+    }
+}
 
-/// Tables that are played on drive S, each from the beginning.
-const OF_DRIVE_S: [&[&str]; 7] = [
-    &small::TABLES,
-    &refused_replies::TABLES,
-    &refused_logs::TABLES,
-    &refused_writes::TABLES,
-    &refused_pages::TABLES,
-    &refused_moves::TABLES,
-    &refused_media::TABLES,
-];
+/// The number 7 with its low byte first, over and over.
+fn sevens(alloc: Global) -> Result<Bytes, AllocError> {
+    let mut bytes = Vec::new(alloc);
+    for _ in 0..128_u32 {
+        bytes.extend_from_slice(&[7, 0, 0, 0])?;
+    }
+    Ok(Bytes::from_vec(bytes))
+}
 
+fn placed(unit: u32, page: u32) -> Entry {
+    Entry::Placed {
+        ticket: 1,
+        index: 0,
+        unit,
+        page,
+    }
+}
+
+fn completed(number: u16, command: Command, bytes: Bytes, applied: bool) -> Entry {
+    Entry::Host {
+        queue: 1,
+        number,
+        command,
+        reply: Reply {
+            status: Status::SUCCESS,
+            dw0: 0,
+            bytes,
+            applied,
+        },
+        moment: 0,
+    }
+}
+
+fn started() -> Entry {
+    Entry::Started {
+        queue: 1,
+        number: 1,
+        command: write(),
+        rg: 0,
+        ruh: 0,
+        pid_valid: true,
+    }
+}
+
+/// The read of the block at address 0, with these bytes.
+fn read(bytes: Bytes) -> Entry {
+    let command = Command::Read {
+        nsid: 1,
+        slba: 0,
+        count: 1,
+    };
+    completed(2, command, bytes, false)
+}
+
+/// A write of a block, and a read of it.
+fn history(alloc: Global) -> Result<Vec<Entry>, AllocError> {
+    let entries = vec![in alloc;
+        started(),
+        placed(0, 0),
+        completed(1, write(), Bytes::new(alloc), true),
+        read(sevens(alloc)?),
+    ]?;
+    Ok(entries)
+}
+
+/// Where memory runs out, all stays as it was, and the entry is taken when there is some again.
 #[test]
-fn drive_s_plays_tables(rt: HostRuntime) -> Result<(), Fail> {
+fn takes_a_legal_history(rt: HostRuntime) -> Result<(), Fail> {
     let alloc = rt.alloc();
-    for tables in OF_DRIVE_S {
-        for table in tables {
-            let mut plain = Plain::new(alloc, &drive_s(alloc)?)?;
-            play(&rt, alloc, &mut plain, table)?;
+    let mut plain = Plain::new(alloc, &drive_s(alloc)?)?;
+    let entries = history(alloc)?;
+    for (taken, entry) in entries.iter().enumerate() {
+        let mut answer = plain.take(alloc, entry);
+        if answer == Err(Refused::NoMemory) {
+            assert_eq!(rt; plain.entries().len(), taken);
+            answer = plain.take(alloc, entry);
         }
+        assert_eq!(rt; answer, Ok(()));
     }
-    for table in [refused_settings::SETTINGS, refused_starts::STARTS] {
-        let mut plain = Plain::new(alloc, &drive_s(alloc)?)?;
-        play(&rt, alloc, &mut plain, table)?;
-    }
+    assert_eq!(rt; plain.entries(), entries.as_slice());
+    assert_eq!(rt; plain.config().groups, 1);
     Ok(())
 }
 
+/// A page before its write, another than the first of a unit, an opening, and a read of bytes that were not written yet.
 #[test]
-fn drive_s_without_a_namespace_plays_tables(rt: HostRuntime) -> Result<(), Fail> {
-    let alloc = rt.alloc();
-    for table in [
-        small::CREATE,
-        refused_settings::CREATED,
-        refused_moves::SHARED_PAGE,
-    ] {
-        let mut plain = Plain::new(alloc, &empty_drive_s(alloc)?)?;
-        play(&rt, alloc, &mut plain, table)?;
-    }
-    Ok(())
-}
-
-#[test]
-fn drive_t_plays_tables(rt: HostRuntime) -> Result<(), Fail> {
-    let alloc = rt.alloc();
-    for table in [rooms::FULL_GROUP, refused_writes::LAST_BLOCK] {
-        let mut plain = Plain::new(alloc, &drive_t(alloc)?)?;
-        play(&rt, alloc, &mut plain, rooms::FILLED)?;
-        play(&rt, alloc, &mut plain, table)?;
-    }
-    let mut plain = Plain::new(alloc, &drive_t(alloc)?)?;
-    play(&rt, alloc, &mut plain, refused_logs::CONFIGURATIONS)
-}
-
-#[test]
-fn small_drive_t_plays_tables(rt: HostRuntime) -> Result<(), Fail> {
-    let alloc = rt.alloc();
-    for table in [
-        rooms::INVALID_IDENTIFIER,
-        rooms::MOVES_OF_TWO_HANDLES,
-        refused_settings::DISABLED,
-        refused_writes::WRONG_PLACE,
-        refused_starts::PLACES,
-        refused_pages::PLACED,
-        refused_moves::COPIES,
-    ] {
-        let mut plain = Plain::new(alloc, &small_drive_t(alloc)?)?;
-        play(&rt, alloc, &mut plain, table)?;
-    }
-    Ok(())
-}
-
-/// Of 33 events the latest 32 are kept: the oldest is the second, at position 9.
-#[test]
-fn keeps_32_events(rt: HostRuntime) -> Result<(), Fail> {
+fn refuses_what_is_no_step(rt: HostRuntime) -> Result<(), Fail> {
     let alloc = rt.alloc();
     let mut plain = Plain::new(alloc, &drive_s(alloc)?)?;
-    play(&rt, alloc, &mut plain, "set-events 1 0 on 0x00 -> done")?;
-    long::close_units(&rt, alloc, &mut plain)?;
-    let log = "log 0x23 60 3 host -> ok bytes 0*4  0x00 7 0 0  9 0 0 0";
-    play(&rt, alloc, &mut plain, log)
-}
-
-/// 572 turns of writes and moves: 20,031 entries.
-#[test]
-fn takes_a_long_history(rt: HostRuntime) -> Result<(), Fail> {
-    let alloc = rt.alloc();
-    let mut plain = Plain::new(alloc, &drive_s(alloc)?)?;
-    long::relocate(&rt, alloc, &mut plain, 572)?;
-    assert_eq!(rt; plain.entries().len(), 20_031);
-    let reads = "
-        read 1 4 4 -> ok blocks 571 571 571 571
-        read 1 44 4 -> ok blocks 44 45 46 47
-    ";
-    play(&rt, alloc, &mut plain, reads)
+    let early = plain.take(alloc, &placed(0, 0));
+    assert_eq!(rt; early, Err(Refused::Illegal { at: 1, why: 5 }));
+    assert_eq!(rt; plain.take(alloc, &started()), Ok(()));
+    let refused = [
+        (placed(0, 1), 5),
+        (Entry::Reopened, 13),
+        (read(sevens(alloc)?), 1),
+        (completed(1, write(), Bytes::new(alloc), true), 3),
+        (completed(3, write(), Bytes::new(alloc), true), 2),
+    ];
+    for (entry, why) in refused.iter() {
+        let answer = plain.take(alloc, entry);
+        assert_eq!(rt;
+            answer,
+            Err(Refused::Illegal { at: 2, why: *why }),
+            "{entry:?}"
+        );
+    }
+    assert_eq!(rt; plain.entries().len(), 1);
+    Ok(())
 }

@@ -2,6 +2,7 @@
 use Rattle.std.specs.Prelude.{ℕ, ◌+◌, ◌-◌, ◌*◌, ◌/◌, ◌%◌, ◌^◌, Bool, true, false, length, replicate, if◌then◌else◌, ◌==◌}
 use Rattle.fdp_base.specs.declared.command.Command.{Command}
 use Rattle.fdp_base.specs.declared.command.Command.TheVariants as commands
+use Rattle.fdp_base.specs.EventCodes.{bit}
 use Rattle.fdp_layouts.specs.declared.submission.Sqe.{Sqe}
 use Rattle.fdp_layouts.specs.declared.submission.EntryFlags.{EntryFlags}
 use Rattle.fdp_layouts.specs.declared.submission.Fuse.{Fuse}
@@ -37,10 +38,6 @@ low n = n % 2 ^ 32
 
 abbrev pub high : ℕ → ℕ
 high n = n / 2 ^ 32
-
-abbrev pub bit : Bool → ℕ
-bit true = 1
-bit false = 0
 
 -- ---- the fields of the words, each with its place; what no field has is zero
 

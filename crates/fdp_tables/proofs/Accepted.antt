@@ -6,9 +6,9 @@ use Rattle.std.proofs.lemmas.Bool.Decides.{nat_tests}
 use Rattle.fdp_base.specs.declared.command.Command.TheVariants as commands
 use Rattle.fdp_base.specs.declared.config.DriveConfig.{DriveConfig}
 use Rattle.fdp_base.specs.declared.status.Status.{Status}
-use Rattle.fdp_base.specs.Point.{Point}
-use Rattle.fdp_base.specs.Refusal.{Check, checks_of, first_that_holds, refusal_of, ◌⟶◌}
-use Rattle.fdp_base.specs.Room.{size_of}
+use Rattle.fdp_rules.specs.Point.{Point}
+use Rattle.fdp_rules.specs.Refusal.{Check, checks_of, first_that_holds, refusal_of, ◌⟶◌}
+use Rattle.fdp_rules.specs.Room.{size_of}
 
 -- no check holds
 abbrev pub NoneHolds : List Check → Type 0

@@ -20,41 +20,6 @@ pub appending_end : (piece : ℕ → List ℕ) (n i : ℕ) (start out : List ℕ
 appending_end piece n i start out past h =
     sym (append-nil out) ∙ ap (λ xs. out ++ flat_map piece xs) (sym (rest_end i n past)) ∙ h.value
 
--- the same, for each element of a list
-pub record IsAppendingOver {X : Type 0} (piece : X → List ℕ) (xs : List X) (i : ℕ) (start out : List ℕ) : Type 0 where
-  pub value : out ++ flat_map piece (drop i xs) ≡ start ++ flat_map piece xs
-
-pub appending_over_next : {X : Type 0} (piece : X → List ℕ) (xs : List X) (i : ℕ) (start out more : List ℕ) (d : X) → i < length xs → more ≡ out ++ piece (get_or xs i d) → IsAppendingOver piece xs i start out → IsAppendingOver piece xs (i + 1) start more
-appending_over_next piece xs i start out more d below e h =
-    let x = get_or xs i d in
-    let rest : drop i xs ≡ x ∷ drop (i + 1) xs = rw (add-one) (drop-cons xs i d below) in
-    record {
-      value = ap (λ ys. ys ++ flat_map piece (drop (i + 1) xs)) e
-          ∙ append_assoc out (piece x) (flat_map piece (drop (i + 1) xs))
-          ∙ ap (λ ys. out ++ flat_map piece ys) (sym rest) ∙ h.value;
-    }
-
-pub appending_over_end : {X : Type 0} (piece : X → List ℕ) (xs : List X) (i : ℕ) (start out : List ℕ) → length xs ≤ i → IsAppendingOver piece xs i start out → out ≡ start ++ flat_map piece xs
-appending_over_end piece xs i start out past h =
-    sym (append-nil out) ∙ ap (λ ys. out ++ flat_map piece ys) (sym (drop_all i xs past)) ∙ h.value
-
--- pieces behind a start
-pub joined_2 : (s a b : List ℕ) → s ++ a ++ b ≡ s ++ (a ++ b)
-joined_2 s a b = append_assoc s a b
-
-pub joined_3 : (s a b d : List ℕ) → s ++ a ++ b ++ d ≡ s ++ (a ++ b ++ d)
-joined_3 s a b d = ap (λ x. x ++ d) (joined_2 s a b) ∙ append_assoc s (a ++ b) d
-
-pub joined_4 : (s a b d e : List ℕ) → s ++ a ++ b ++ d ++ e ≡ s ++ (a ++ b ++ d ++ e)
-joined_4 s a b d e = ap (λ x. x ++ e) (joined_3 s a b d) ∙ append_assoc s (a ++ b ++ d) e
-
-pub joined_7 : (s a b d e f g h : List ℕ) → s ++ a ++ b ++ d ++ e ++ f ++ g ++ h ≡ s ++ (a ++ b ++ d ++ e ++ f ++ g ++ h)
-joined_7 s a b d e f g h =
-    ap (λ x. x ++ f ++ g ++ h) (joined_4 s a b d e)
-    ∙ ap (λ x. x ++ g ++ h) (append_assoc s (a ++ b ++ d ++ e) f)
-    ∙ ap (λ x. x ++ h) (append_assoc s (a ++ b ++ d ++ e ++ f) g)
-    ∙ append_assoc s (a ++ b ++ d ++ e ++ f ++ g) h
-
 -- the same, for each element of a list with its place
 pub record IsAppendingPlaces (piece : (ℕ × ℕ) → List ℕ) (xs : List ℕ) (i : ℕ) (start out : List ℕ) : Type 0 where
   pub value : out ++ flat_map piece (enumerate_from i (drop i xs)) ≡ start ++ flat_map piece (enumerate_from 0 xs)
@@ -74,9 +39,6 @@ pub appending_places_end : (piece : (ℕ × ℕ) → List ℕ) (xs : List ℕ) (
 appending_places_end piece xs i start out past h =
     sym (append-nil out) ∙ ap (λ ys. out ++ flat_map piece (enumerate_from i ys)) (sym (drop_all i xs past)) ∙ h.value
 
-pub joined_5 : (s a b d e f : List ℕ) → s ++ a ++ b ++ d ++ e ++ f ≡ s ++ (a ++ b ++ d ++ e ++ f)
-joined_5 s a b d e f = ap (λ x. x ++ f) (joined_4 s a b d e) ∙ append_assoc s (a ++ b ++ d ++ e) f
-
 -- the same, for numbers from one on
 pub record IsAppendingFrom (piece : ℕ → List ℕ) (first n i : ℕ) (start out : List ℕ) : Type 0 where
   pub value : out ++ flat_map piece (rest_of i n) ≡ start ++ flat_map piece (rest_of first n)
@@ -93,11 +55,3 @@ appending_from_end piece first count i start out past h =
     let all : first + count - first ≡ count = omega arith in
     sym (append-nil out) ∙ ap (λ xs. out ++ flat_map piece xs) (sym (rest_end i (first + count) past)) ∙ h.value
     ∙ ap (λ n. start ++ flat_map piece (numbers_from first n)) all
-
-pub joined_11 : (s a b d e f g h i j k l : List ℕ) → s ++ a ++ b ++ d ++ e ++ f ++ g ++ h ++ i ++ j ++ k ++ l ≡ s ++ (a ++ b ++ d ++ e ++ f ++ g ++ h ++ i ++ j ++ k ++ l)
-joined_11 s a b d e f g h i j k l =
-    ap (λ x. x ++ i ++ j ++ k ++ l) (joined_7 s a b d e f g h)
-    ∙ ap (λ x. x ++ j ++ k ++ l) (append_assoc s (a ++ b ++ d ++ e ++ f ++ g ++ h) i)
-    ∙ ap (λ x. x ++ k ++ l) (append_assoc s (a ++ b ++ d ++ e ++ f ++ g ++ h ++ i) j)
-    ∙ ap (λ x. x ++ l) (append_assoc s (a ++ b ++ d ++ e ++ f ++ g ++ h ++ i ++ j) k)
-    ∙ append_assoc s (a ++ b ++ d ++ e ++ f ++ g ++ h ++ i ++ j ++ k) l

@@ -9,11 +9,11 @@ use Rattle.fdp_base.specs.declared.config.Class.{Class}
 use Rattle.fdp_base.specs.declared.config.DriveConfig.{DriveConfig}
 use Rattle.fdp_base.specs.declared.config.NamespaceConfig.{NamespaceConfig}
 use Rattle.fdp_base.specs.Config.{IsValidConfig, IsValidNamespace}
-use Rattle.fdp_base.specs.Effect.{chosen_handles}
+use Rattle.fdp_rules.specs.Effect.{chosen_handles}
 use Rattle.fdp_base.specs.Geometry.{IsWithin}
-use Rattle.fdp_base.specs.History.{FoundNamespace, made_namespace}
+use Rattle.fdp_rules.specs.History.{FoundNamespace, made_namespace}
 use Rattle.fdp_base.specs.Placement.{handle_count}
-use Rattle.fdp_base.specs.PlainState.{Namespace}
+use Rattle.fdp_rules.specs.PlainState.{Namespace}
 use Rattle.fdp_tables.specs.declared.state.Kept.{Kept}
 use Rattle.fdp_base.specs.declared.entry.Entry.{Entry}
 use Rattle.fdp_tables.specs.declared.state.KeptGoing.{KeptGoing}

@@ -9,11 +9,11 @@ use Rattle.fdp_base.specs.declared.entry.Spot.{Spot}
 use Rattle.fdp_base.specs.declared.event.Event.{Event}
 use Rattle.fdp_base.specs.declared.event.EventKind.{EventKind}
 use Rattle.fdp_base.specs.declared.event.EventKind.TheVariants as kinds
-use Rattle.fdp_base.specs.Effect.{no_reference}
-use Rattle.fdp_base.specs.Events.{is_host_event, kept_from, latest}
-use Rattle.fdp_base.specs.History.{first_state, fresh, point_of, state_of, totals_of, events_of, host_events_of, controller_events_of}
-use Rattle.fdp_base.specs.PlainState.{PageName, PageName.found, PageName.written}
-use Rattle.fdp_base.specs.Sites.{first_site, trail_of}
+use Rattle.fdp_rules.specs.Effect.{no_reference}
+use Rattle.fdp_rules.specs.Events.{is_host_event, kept_from, latest}
+use Rattle.fdp_rules.specs.History.{first_state, fresh, point_of, state_of, totals_of, events_of, host_events_of, controller_events_of}
+use Rattle.fdp_rules.specs.PlainState.{PageName, PageName.found, PageName.written}
+use Rattle.fdp_rules.specs.Sites.{first_site, trail_of}
 use Rattle.fdp_tables.specs.declared.state.Kept.{Kept}
 use Rattle.std.proofs.lemmas.Option.{slice_get-map}
 use Rattle.fdp_tables.specs.declared.state.KeptGoing.{KeptGoing}

@@ -4,10 +4,10 @@ use Rattle.std.proofs.lemmas.List.{append-nil, drop_all}
 use Rattle.std.proofs.lemmas.List.Elements.{filter-append}
 use Rattle.fdp_base.specs.declared.config.DriveConfig.{DriveConfig}
 use Rattle.fdp_base.specs.declared.event.Event.{Event}
-use Rattle.fdp_base.specs.Effect.{References, updated_by}
-use Rattle.fdp_base.specs.Events.{closing_event, update_events}
-use Rattle.fdp_base.specs.PlainState.{PlainState}
-use Rattle.fdp_base.specs.Target.{named_by}
+use Rattle.fdp_rules.specs.Effect.{References, updated_by}
+use Rattle.fdp_rules.specs.Events.{closing_event, update_events}
+use Rattle.fdp_rules.specs.PlainState.{PlainState}
+use Rattle.fdp_rules.specs.Target.{named_by}
 use Rattle.fdp_tables.specs.Keeping.{kept_of}
 
 -- what is kept of pieces is the pieces of what is kept

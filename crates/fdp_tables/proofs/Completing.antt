@@ -1,6 +1,6 @@
 -- The parts of a completion, one after another.
 use Rattle.std.proofs.Common.{◌≡◌, ℕ, List, Option, ap, ◌∙◌}
-use Rattle.fdp_base.specs.PlainState.{Going, PlainState}
+use Rattle.fdp_rules.specs.PlainState.{Going, PlainState}
 
 -- a change, then the write that is going no longer, then the moment
 pub completed : (moments : List ℕ → List ℕ) (ended : (ℕ → Option Going) → ℕ → Option Going) (s done s1 s2 s3 : PlainState) → s1 ≡ done → s2 ≡ record s1 { going = ended s1.going } → s3 ≡ record s2 { media = moments s2.media } → s1.going ≡ s.going → s2.media ≡ s.media → s3 ≡ record done { going = ended s.going; media = moments s.media }

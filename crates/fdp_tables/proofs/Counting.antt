@@ -6,7 +6,7 @@ use Rattle.std.proofs.Common.{drop, drop-cons, add-one}
 use Rattle.std.proofs.lemmas.List.{drop_all}
 use Rattle.std.proofs.lemmas.List.Sums.{sum_by-cons, sum_by_more}
 use Rattle.fdp_base.specs.Numbers.{is_among, count_below, numbers_below, numbers_from}
-use Rattle.fdp_base.specs.Room.{namespace_ids}
+use Rattle.fdp_rules.specs.Room.{namespace_ids}
 
 -- the numbers from one on that are below a bound
 abbrev pub rest_of : ℕ → ℕ → List ℕ

@@ -7,10 +7,10 @@ use Rattle.std.proofs.lemmas.Option.{slice_get-get_or, slice_get-map}
 use Rattle.fdp_base.specs.declared.config.DriveConfig.{DriveConfig}
 use Rattle.fdp_base.specs.declared.event.EventKind.{EventKind}
 use Rattle.fdp_base.specs.declared.event.EventKind.TheVariants as kinds
-use Rattle.fdp_base.specs.Effect.{no_reference, reporting, without_references}
-use Rattle.fdp_base.specs.LogPages.{kind_code}
+use Rattle.fdp_rules.specs.Effect.{no_reference, reporting, without_references}
+use Rattle.fdp_base.specs.EventCodes.{kind_code}
 use Rattle.fdp_base.specs.Numbers.{with_at}
-use Rattle.fdp_base.specs.PlainState.{PlainState, Reference}
+use Rattle.fdp_rules.specs.PlainState.{PlainState, Reference}
 use Rattle.fdp_tables.specs.declared.state.KeptReference.{KeptReference}
 use Rattle.fdp_tables.specs.declared.state.KeptReports.{KeptReports}
 use Rattle.fdp_tables.specs.Reports.{no_reports}

@@ -5,8 +5,8 @@ use Rattle.std.specs.List.{enumerate_from}
 use Rattle.std.specs.Option.{option_flatten}
 use Rattle.std.proofs.lemmas.Bool.Decides.{nat_tests}
 use Rattle.fdp_base.specs.declared.config.NamespaceConfig.{NamespaceConfig}
-use Rattle.fdp_base.specs.History.{FoundNamespace, made_namespace, namespace_in}
-use Rattle.fdp_base.specs.PlainState.{Namespace}
+use Rattle.fdp_rules.specs.History.{FoundNamespace, made_namespace, namespace_in}
+use Rattle.fdp_rules.specs.PlainState.{Namespace}
 use Rattle.fdp_tables.specs.declared.state.Space.{Space}
 use Rattle.fdp_tables.specs.Spaces.{IsMade, block_in}
 use Rattle.fdp_tables.specs.State.{namespace_of, row}

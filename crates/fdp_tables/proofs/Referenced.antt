@@ -4,9 +4,9 @@ use Rattle.std.specs.Option.{option_map_or}
 use Rattle.std.proofs.Math.Nat.{div-add-mod, mod-lt}
 use Rattle.std.proofs.lemmas.Bool.{lt-ltb}
 use Rattle.std.proofs.lemmas.Option.{none-some}
-use Rattle.fdp_base.specs.Effect.{no_reference}
-use Rattle.fdp_base.specs.PlainState.{Reference}
-use Rattle.fdp_base.specs.Step.{IsUnreferenced}
+use Rattle.fdp_rules.specs.Effect.{no_reference}
+use Rattle.fdp_rules.specs.PlainState.{Reference}
+use Rattle.fdp_rules.specs.Step.{IsUnreferenced}
 use Rattle.fdp_tables.specs.declared.state.Kept.{Kept}
 use Rattle.fdp_tables.specs.declared.state.KeptReference.{KeptReference}
 use Rattle.fdp_tables.specs.Judging.{EachIn, IsFreeOf}

@@ -4,9 +4,9 @@ use Rattle.std.proofs.Common.{◌≡◌, ◌∙◌, ℕ, Bool, true, false, sym,
 use Rattle.fdp_base.specs.declared.command.Command.{Command}
 use Rattle.fdp_base.specs.declared.entry.Entry.{Entry}
 use Rattle.fdp_base.specs.declared.entry.Entry.TheVariants as entries
-use Rattle.fdp_base.specs.Change.{is_media_error}
+use Rattle.fdp_rules.specs.Change.{is_media_error}
 use Rattle.fdp_base.specs.CommandKinds.{is_write}
-use Rattle.fdp_base.specs.PlainState.{PlainState}
+use Rattle.fdp_rules.specs.PlainState.{PlainState}
 use Rattle.fdp_tables.specs.declared.rule.Rule.{Rule}
 use Rattle.fdp_tables.specs.declared.rule.Rule.TheVariants as rules
 use Rattle.fdp_tables.specs.Rules.{FallsUnder, IsRuleOfWrite}

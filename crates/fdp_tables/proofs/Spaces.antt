@@ -4,10 +4,10 @@ use Rattle.std.specs.Prelude.{is_none, ◌==◌, ◌&&◌, if◌then◌else◌, 
 use Rattle.std.specs.Option.{option_flatten}
 use Rattle.std.proofs.lemmas.Bool.{cases_eq}
 use Rattle.std.proofs.lemmas.Option.{slice_get-get_or, slice_get_past}
-use Rattle.fdp_base.specs.Effect.{without_blocks}
+use Rattle.fdp_rules.specs.Effect.{without_blocks}
 use Rattle.std.proofs.lemmas.Bool.Decides.{nat_tests}
 use Rattle.fdp_base.specs.Numbers.{is_among, with_at}
-use Rattle.fdp_base.specs.PlainState.{Block, Namespace, PlainState}
+use Rattle.fdp_rules.specs.PlainState.{Block, Namespace, PlainState}
 use Rattle.fdp_tables.specs.declared.state.Space.{Space}
 use Rattle.fdp_tables.specs.Spaces.{block_in}
 use Rattle.fdp_tables.specs.State.{namespace_of, row}

@@ -5,8 +5,8 @@ use Rattle.std.specs.Option.{option_flatten, option_map_or}
 use Rattle.std.proofs.lemmas.Bool.{cases_lt}
 use Rattle.std.proofs.lemmas.Option.{slice_get-map, slice_get_past, slice_get_read}
 use Rattle.std.proofs.lemmas.List.{append-nil, append_assoc, drop_all, drop_more, take_all, take_more, map-append, set_at, length-map, length-take-le, get_or_at, get_or-map, map-set, length-drop}
-use Rattle.fdp_base.specs.Point.{Copy}
-use Rattle.fdp_base.specs.Sites.{ascends, last_run}
+use Rattle.fdp_rules.specs.Point.{Copy}
+use Rattle.fdp_rules.specs.Sites.{ascends, last_run}
 use Rattle.fdp_base.specs.declared.entry.Spot.{Spot}
 use Rattle.fdp_base.specs.Numbers.{numbers_from, with_at}
 use Rattle.fdp_tables.specs.State.{copy_of, row}

@@ -4,7 +4,7 @@ use Rattle.std.specs.List.{enumerate_from}
 use Rattle.std.specs.Vec.{vec_items}
 use Rattle.fdp_base.specs.declared.config.DriveConfig.{DriveConfig}
 use Rattle.fdp_base.specs.declared.config.NamespaceConfig.{NamespaceConfig}
-use Rattle.fdp_base.specs.History.{fresh, made_namespace, namespace_in, point_of}
+use Rattle.fdp_rules.specs.History.{fresh, made_namespace, namespace_in, point_of}
 use Rattle.fdp_tables.specs.declared.state.Kept.{Kept}
 use Rattle.fdp_tables.specs.declared.state.KeptReference.{KeptReference}
 use Rattle.fdp_tables.specs.declared.state.Space.{Space}

@@ -1,7 +1,7 @@
 -- The page that is counted of a going write.
 use Rattle.std.specs.Prelude.{◌≡◌, ℕ, ◌+◌, ◌*◌, ◌^◌, ◌<◌, ◌==◌, Option, length, if◌then◌else◌, option_map}
 use Rattle.std.specs.Option.{IfSome}
-use Rattle.fdp_base.specs.PlainState.{Going}
+use Rattle.fdp_rules.specs.PlainState.{Going}
 use Rattle.fdp_tables.specs.declared.state.Kept.{Kept}
 use Rattle.fdp_tables.specs.declared.state.KeptGoing.{KeptGoing}
 

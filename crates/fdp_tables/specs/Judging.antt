@@ -3,13 +3,13 @@ use Rattle.std.specs.Prelude.{◌≡◌, ◌≢◌, ◌<◌, ℕ, Bool, true, Is
 use Rattle.fdp_base.specs.declared.entry.Reply.{Reply}
 use Rattle.fdp_base.specs.declared.entry.Spot.{Spot}
 use Rattle.fdp_base.specs.declared.status.TheConstants.Status as statuses
-use Rattle.fdp_base.specs.Answer.{bare}
-use Rattle.fdp_base.specs.PlainState.{Going, PageName.written}
-use Rattle.fdp_base.specs.Point.{Point}
-use Rattle.fdp_base.specs.Room.{handles_of, roomiest}
-use Rattle.fdp_base.specs.Sites.{group_of, is_there, site_of}
-use Rattle.fdp_base.specs.Step.{IsNextPage}
-use Rattle.fdp_base.specs.Totals.{blocks_written}
+use Rattle.fdp_rules.specs.Answer.{bare}
+use Rattle.fdp_rules.specs.PlainState.{Going, PageName.written}
+use Rattle.fdp_rules.specs.Point.{Point}
+use Rattle.fdp_rules.specs.Room.{handles_of, roomiest}
+use Rattle.fdp_rules.specs.Sites.{group_of, is_there, site_of}
+use Rattle.fdp_rules.specs.Step.{IsNextPage}
+use Rattle.fdp_rules.specs.Totals.{blocks_written}
 use Rattle.fdp_tables.specs.declared.state.Kept.{Kept}
 use Rattle.fdp_tables.specs.declared.state.KeptBlock.{KeptBlock}
 use Rattle.fdp_tables.specs.declared.state.KeptReference.{KeptReference}

@@ -5,8 +5,8 @@ use Rattle.fdp_base.specs.declared.config.DriveConfig.{DriveConfig}
 use Rattle.fdp_base.specs.declared.entry.Entry.{Entry}
 use Rattle.fdp_base.specs.declared.entry.Entry.TheVariants as entries
 use Rattle.fdp_base.specs.declared.event.Event.{Event}
-use Rattle.fdp_base.specs.Effect.{References, no_reference}
-use Rattle.fdp_base.specs.PlainState.{PlainState}
+use Rattle.fdp_rules.specs.Effect.{References, no_reference}
+use Rattle.fdp_rules.specs.PlainState.{PlainState}
 use Rattle.fdp_tables.specs.declared.state.KeptReference.{KeptReference}
 use Rattle.fdp_tables.specs.State.{reference_of}
 

@@ -3,8 +3,8 @@ use Rattle.std.specs.Prelude.{◌≡◌, ℕ, Bool, Some, None, List, Option}
 use Rattle.std.specs.Option.{IsSomeAnd}
 use Rattle.fdp_base.specs.declared.command.Command.{Command}
 use Rattle.fdp_base.specs.declared.command.Command.TheVariants as commands
-use Rattle.fdp_base.specs.Effect.{created}
-use Rattle.fdp_base.specs.PlainState.{Going}
+use Rattle.fdp_rules.specs.Effect.{created}
+use Rattle.fdp_rules.specs.PlainState.{Going}
 use Rattle.fdp_tables.specs.declared.state.Kept.{Kept}
 use Rattle.fdp_tables.specs.declared.state.KeptBlock.{KeptBlock}
 use Rattle.fdp_tables.specs.declared.state.Space.{Space}

@@ -7,14 +7,14 @@ use Rattle.std.specs.Vec.{vec_capacity, vec_len}
 use Rattle.fdp_base.specs.declared.entry.Entry.{Entry}
 use Rattle.fdp_base.specs.declared.entry.Entry.TheVariants as entries
 use Rattle.fdp_base.specs.declared.entry.Reply.{Reply}
-use Rattle.fdp_base.specs.Change.{going_with, started}
-use Rattle.fdp_base.specs.Sites.{group_of}
+use Rattle.fdp_rules.specs.Change.{going_with, started}
+use Rattle.fdp_rules.specs.Sites.{group_of}
 use Rattle.fdp_tables.specs.Going.{HasRoomFor, IsHandlePlace}
 use Rattle.fdp_tables.specs.declared.state.KeptGoing.{KeptGoing}
 use Rattle.fdp_base.specs.declared.payload.Payload.{Payload}
-use Rattle.fdp_base.specs.Effect.{created, lowest_free}
-use Rattle.fdp_base.specs.PlainState.{Going}
-use Rattle.fdp_base.specs.Room.{handles_of, size_of}
+use Rattle.fdp_rules.specs.Effect.{created, lowest_free}
+use Rattle.fdp_rules.specs.PlainState.{Going}
+use Rattle.fdp_rules.specs.Room.{handles_of, size_of}
 use Rattle.fdp_tables.specs.declared.state.Kept.{Kept}
 use Rattle.fdp_tables.specs.declared.state.KeptBlock.{KeptBlock}
 use Rattle.fdp_tables.specs.declared.state.Space.{Space}

@@ -4,10 +4,10 @@ use Rattle.fdp_base.specs.declared.command.Command.{Command}
 use Rattle.fdp_base.specs.declared.entry.Entry.{Entry}
 use Rattle.fdp_base.specs.declared.entry.Entry.TheVariants as entries
 use Rattle.fdp_base.specs.declared.entry.Reply.{Reply}
-use Rattle.fdp_base.specs.Change.{is_media_error}
+use Rattle.fdp_rules.specs.Change.{is_media_error}
 use Rattle.fdp_base.specs.CommandKinds.{is_write}
-use Rattle.fdp_base.specs.PlainState.{Going, PlainState}
-use Rattle.fdp_base.specs.Step.{IsGoing}
+use Rattle.fdp_rules.specs.PlainState.{Going, PlainState}
+use Rattle.fdp_rules.specs.Step.{IsGoing}
 use Rattle.fdp_tables.specs.declared.rule.Rule.{Rule}
 use Rattle.fdp_tables.specs.declared.rule.Rule.TheVariants as rules
 

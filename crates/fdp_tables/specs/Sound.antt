@@ -1,13 +1,13 @@
 -- What is true of the tables of every plain machine.
 use Rattle.std.specs.Prelude.{ℕ, ◌≡◌, ◌+◌, ◌*◌, ◌<◌, ◌≤◌, IsTrue, IfSome, Some, length, slice_get, slice_index}
 use Rattle.std.specs.Option.{IsSomeAnd}
-use Rattle.fdp_base.specs.Change.{birth_of}
+use Rattle.fdp_rules.specs.Change.{birth_of}
 use Rattle.fdp_base.specs.CommandKinds.{Write, write_of}
 use Rattle.fdp_base.specs.Config.{IsValidConfig}
-use Rattle.fdp_base.specs.PlainState.{Going}
-use Rattle.fdp_base.specs.Room.{handles_of, size_of}
-use Rattle.fdp_base.specs.Sites.{is_there}
-use Rattle.fdp_base.specs.Totals.{blocks_written}
+use Rattle.fdp_rules.specs.PlainState.{Going}
+use Rattle.fdp_rules.specs.Room.{handles_of, size_of}
+use Rattle.fdp_rules.specs.Sites.{is_there}
+use Rattle.fdp_rules.specs.Totals.{blocks_written}
 use Rattle.fdp_tables.specs.declared.state.Kept.{Kept}
 use Rattle.fdp_tables.specs.State.{plain_of}
 

@@ -2,9 +2,9 @@
 use Rattle.std.specs.Prelude.{◌≡◌, ℕ, ◌<◌, Bool, ◌&&◌, nat_lt, List, length, Option, None, Some, option_and_then, option_map}
 use Rattle.std.specs.Option.{option_map_or}
 use Rattle.fdp_base.specs.declared.payload.Payload.{Payload}
-use Rattle.fdp_base.specs.Effect.{chosen_handles}
+use Rattle.fdp_rules.specs.Effect.{chosen_handles}
 use Rattle.fdp_base.specs.Pattern.{payload_block}
-use Rattle.fdp_base.specs.PlainState.{Block, Going, Namespace, PageName.written}
+use Rattle.fdp_rules.specs.PlainState.{Block, Going, Namespace, PageName.written}
 use Rattle.fdp_tables.specs.declared.state.KeptBlock.{KeptBlock}
 use Rattle.fdp_tables.specs.declared.state.Space.{Space}
 use Rattle.fdp_tables.specs.State.{block_of, namespace_of, row}

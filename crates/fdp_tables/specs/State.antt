@@ -4,12 +4,12 @@ use Rattle.std.specs.Option.{option_flatten, option_map_or}
 use Rattle.fdp_base.specs.declared.entry.Spot.{Spot}
 use Rattle.fdp_base.specs.declared.event.EventKind.{EventKind}
 use Rattle.fdp_base.specs.declared.event.EventKind.TheVariants as kinds
-use Rattle.fdp_base.specs.Effect.{no_reference}
-use Rattle.fdp_base.specs.Events.{is_host_event, latest}
-use Rattle.fdp_base.specs.PlainState.{Block, Going, Namespace, PageName, PageName.found, PageName.written, PlainState, Reference}
-use Rattle.fdp_base.specs.Point.{Copy, Point}
-use Rattle.fdp_base.specs.Sites.{trail_of}
-use Rattle.fdp_base.specs.Target.{Target}
+use Rattle.fdp_rules.specs.Effect.{no_reference}
+use Rattle.fdp_rules.specs.Events.{is_host_event, latest}
+use Rattle.fdp_rules.specs.PlainState.{Block, Going, Namespace, PageName, PageName.found, PageName.written, PlainState, Reference}
+use Rattle.fdp_rules.specs.Point.{Copy, Point}
+use Rattle.fdp_rules.specs.Sites.{trail_of}
+use Rattle.fdp_rules.specs.Target.{Target}
 use Rattle.fdp_tables.specs.declared.state.Destination.{Destination}
 use Rattle.fdp_tables.specs.declared.state.Kept.{Kept}
 use Rattle.fdp_tables.specs.declared.state.KeptBlock.{KeptBlock}

@@ -1,7 +1,7 @@
 ghost use Rattle.std.specs.Prelude.{◌≡◌, ℕ, ◌+◌, ◌<◌, Bool, length};
 ghost use Rattle.fdp_base.specs.declared.command.Command.{Command};
 ghost use Rattle.fdp_base.specs.declared.entry.Entry.TheVariants as entries;
-ghost use Rattle.fdp_base.specs.Change.{changed_by};
+ghost use Rattle.fdp_rules.specs.Change.{changed_by};
 ghost use Rattle.fdp_tables.specs.Ready.{IsChangeReady, IsStartReady};
 ghost use Rattle.fdp_tables.specs.Rows.{KeepsRows};
 ghost use Rattle.fdp_tables.specs.Sound.{IsSound};
@@ -23,7 +23,7 @@ pub struct Made {
 
 impl Kept {
     /// What an entry changes of the drive, but for its position. What it needs memory for was made, so it cannot fail.
-    #[tactic(auto, unfolding(fdp_base::specs::Change::changed_by))]
+    #[tactic(auto, unfolding(fdp_rules::specs::Change::changed_by))]
     pub fn change(&mut self, entry: &Entry, made: Made)
         requires sound { IsSound self.old }
         requires ready { IsChangeReady self.old entry.now made.blocks.items made.space made.going }

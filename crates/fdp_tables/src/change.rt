@@ -1,10 +1,10 @@
 ghost use Rattle.std.specs.Prelude.{◌≡◌, ℕ, ◌+◌, ◌*◌, ◌<◌, Bool, true, false, length};
-ghost use Rattle.fdp_base.specs.Effect.{no_reference, with_reference};
+ghost use Rattle.fdp_rules.specs.Effect.{no_reference, with_reference};
 ghost use Rattle.fdp_base.specs.declared.command.Command.{Command};
 ghost use Rattle.fdp_base.specs.Numbers.{with_at};
-ghost use Rattle.fdp_base.specs.Sites.{group_of};
+ghost use Rattle.fdp_rules.specs.Sites.{group_of};
 ghost use Rattle.std.specs.Option.{IfSome};
-ghost use Rattle.fdp_base.specs.Change.{changed_by, going_with, one_less, placed_references, started};
+ghost use Rattle.fdp_rules.specs.Change.{changed_by, going_with, one_less, placed_references, started};
 ghost use Rattle.fdp_base.specs.declared.entry.Entry.TheVariants as entries;
 ghost use Rattle.fdp_tables.specs.Going.{HasRoomFor, IsHandlePlace};
 ghost use Rattle.fdp_tables.specs.State.{going_of, plain_of, reference_of, row};
@@ -82,7 +82,7 @@ impl Kept {
     }
 
     /// A page of the write with this ticket was programmed in a unit.
-    #[tactic(auto, unfolding(fdp_base::specs::Change::changed_by))]
+    #[tactic(auto, unfolding(fdp_rules::specs::Change::changed_by))]
     pub(crate) fn change_placed(&mut self, ticket: u64, unit: u32)
         requires place { IfSome (going_with self.old.config (plain_of self.old) ticket) (IsHandlePlace self.old) }
         requires room { (queue : ℕ) → HasRoomFor ticket (row self.old.going.items queue) }
@@ -96,7 +96,7 @@ impl Kept {
     }
 
     /// A write that was made for it is let go in a queue.
-    #[tactic(auto, unfolding(fdp_base::specs::Change::changed_by))]
+    #[tactic(auto, unfolding(fdp_rules::specs::Change::changed_by))]
     pub fn start(&mut self, queue: u8, going: KeptGoing)
         requires { queue < length self.old.going.items }
         ensures state { (number : ℕ) (command : Command) (rg ruh : ℕ) (pid_valid : Bool) → going_of going ≡ started self.old.config (plain_of self.old) number command rg ruh pid_valid → plain_of self.new ≡ changed_by self.old.config (plain_of self.old) (entries.Started queue number command rg ruh pid_valid) }
@@ -107,7 +107,7 @@ impl Kept {
     }
 
     /// A unit was erased, so its group is worn no longer.
-    #[tactic(auto, unfolding(fdp_base::specs::Change::changed_by))]
+    #[tactic(auto, unfolding(fdp_rules::specs::Change::changed_by))]
     pub fn erase(&mut self, unit: u32)
         requires units { 0 < self.old.config.units }
         requires group { group_of self.old.config unit < length self.old.worn.items }
@@ -119,7 +119,7 @@ impl Kept {
     }
 
     /// A unit is out of use: its erase failed, or a fetch of relocation from it.
-    #[tactic(auto, unfolding(fdp_base::specs::Change::changed_by))]
+    #[tactic(auto, unfolding(fdp_rules::specs::Change::changed_by))]
     pub fn retire(&mut self, unit: u32)
         requires { unit < length self.old.lost.items }
         ensures retired { plain_of self.new ≡ changed_by self.old.config (plain_of self.old) (entries.Retired unit) }
@@ -131,7 +131,7 @@ impl Kept {
     }
 
     /// A program failed, so the handle has no unit in this group.
-    #[tactic(auto, unfolding(fdp_base::specs::Change::changed_by))]
+    #[tactic(auto, unfolding(fdp_rules::specs::Change::changed_by))]
     pub fn shut(&mut self, rg: u16, ruh: u8)
         requires handle { ruh < 16 }
         requires group { 16 * rg + ruh < length self.old.references.items }
@@ -144,7 +144,7 @@ impl Kept {
     }
 
     /// Relocation found no free unit in a group.
-    #[tactic(auto, unfolding(fdp_base::specs::Change::changed_by))]
+    #[tactic(auto, unfolding(fdp_rules::specs::Change::changed_by))]
     pub fn wear(&mut self, rg: u16)
         requires { rg < length self.old.worn.items }
         ensures state { plain_of self.new ≡ changed_by self.old.config (plain_of self.old) (entries.Worn rg) }

@@ -1,7 +1,7 @@
 ghost use Rattle.std.specs.Prelude.{◌≡◌, ◌+◌, ◌*◌, ◌<◌, ◌++◌, Some, List, length, OnOk};
-ghost use Rattle.fdp_base.specs.Effect.{updated_at, updated_by, with_reference};
-ghost use Rattle.fdp_base.specs.Events.{closing_event, update_events};
-ghost use Rattle.fdp_base.specs.Target.{named_by};
+ghost use Rattle.fdp_rules.specs.Effect.{updated_at, updated_by, with_reference};
+ghost use Rattle.fdp_rules.specs.Events.{closing_event, update_events};
+ghost use Rattle.fdp_rules.specs.Target.{named_by};
 ghost use Rattle.fdp_tables.specs.Keeping.{kept_of, references_in};
 ghost use Rattle.fdp_tables.specs.Sound.{IsSound};
 ghost use Rattle.fdp_tables.specs.State.{plain_of, reference_of, target_at};

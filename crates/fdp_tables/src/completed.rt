@@ -1,9 +1,9 @@
 ghost use Rattle.std.specs.Prelude.{◌≡◌, ℕ, ◌+◌, ◌<◌, ◌∷◌, ◌==◌, ◌&&◌, ◌||◌, Bool, List, None, true, length, if◌then◌else◌};
 ghost use Rattle.std.specs.Vec.{vec_capacity, vec_len};
 ghost use Rattle.fdp_base.specs.declared.command.Command.TheVariants as commands;
-ghost use Rattle.fdp_base.specs.Change.{completed_in, is_media_error, is_status};
+ghost use Rattle.fdp_rules.specs.Change.{completed_in, is_media_error, is_status};
 ghost use Rattle.fdp_base.specs.CommandKinds.{is_write};
-ghost use Rattle.fdp_base.specs.Effect.{effect_of};
+ghost use Rattle.fdp_rules.specs.Effect.{effect_of};
 ghost use Rattle.fdp_base.specs.Numbers.{with_at};
 ghost use Rattle.fdp_tables.specs.Ready.{HasSpace, IsAsAsked, IsReady};
 ghost use Rattle.fdp_tables.specs.Rows.{KeepsRows};
@@ -84,7 +84,7 @@ impl Kept {
     }
 
     /// The change of a command of a queue. The blocks of a write and a created namespace were made for it.
-    #[tactic(auto, unfolding(fdp_base::specs::Effect::effect_of))]
+    #[tactic(auto, unfolding(fdp_rules::specs::Effect::effect_of))]
     pub(crate) fn take_effect(
         &mut self,
         queue: u8,
@@ -126,7 +126,7 @@ impl Kept {
     }
 
     /// Creates a namespace that was made, under the lowest identifier that none has.
-    #[tactic(auto, unfolding(fdp_base::specs::Effect::effect_of))]
+    #[tactic(auto, unfolding(fdp_rules::specs::Effect::effect_of))]
     fn create_made(&mut self, space: Option<Space>)
         requires { HasSpace self.old space }
         ensures state { (queue size : ℕ) (given : Bool) (list : List ℕ) → IsAsAsked self.old size given list space → plain_of self.new ≡ effect_of self.old.config (plain_of self.old) queue (commands.Create size given list) }

@@ -1,8 +1,8 @@
 ghost use Rattle.std.specs.Prelude.{◌≡◌, ◌⊎◌, Decides, IfOk, MatchBool, None, true};
-ghost use Rattle.fdp_base.specs.Answer.{IsSuccess};
+ghost use Rattle.fdp_rules.specs.Answer.{IsSuccess};
 ghost use Rattle.fdp_base.specs.CommandKinds.{is_write};
-ghost use Rattle.fdp_base.specs.Refusal.{refusal_of};
-ghost use Rattle.fdp_base.specs.Step.{IsHost, IsMediaError, IsNewMoment, IsPlainReply, IsWriteReply};
+ghost use Rattle.fdp_rules.specs.Refusal.{refusal_of};
+ghost use Rattle.fdp_rules.specs.Step.{IsHost, IsMediaError, IsNewMoment, IsPlainReply, IsWriteReply};
 ghost use Rattle.fdp_tables.specs.Sound.{IsSound};
 ghost use Rattle.fdp_tables.specs.State.{plain_of, point_kept};
 

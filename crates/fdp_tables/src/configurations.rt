@@ -1,12 +1,9 @@
-ghost use Rattle.std.specs.Prelude.{◌≡◌, ℕ, ◌+◌, ◌-◌, ◌*◌, ◌≤◌, ◌++◌, ◌∷◌, [], length, flat_map, OnOk, IfOk};
-ghost use Rattle.std.specs.Int.{to_le_bytes, w16, w32, w64};
-ghost use Rattle.fdp_base.specs.LogPages.{class_code, configurations_log, descriptor, descriptor_size, zeros};
-ghost use Rattle.fdp_base.specs.Placement.{group_bits};
+ghost use Rattle.std.specs.Prelude.{◌≡◌, ◌++◌, flat_map, OnOk, IfOk};
+ghost use Rattle.fdp_rules.specs.LogPages.{configurations_log, descriptor};
 ghost use Rattle.fdp_tables.specs.Sound.{IsSound};
 
-use crate::bytes::{push_low_u32, push_padded, push_u16, push_u32, push_u64, push_zeros};
 use crate::state::Kept;
-use fdp_base::Class;
+use fdp_logs::{configurations_head, push_descriptor};
 use std::alloc::{AllocError, Global};
 
 impl Kept {
@@ -18,11 +15,9 @@ impl Kept {
         let count = self.config.fdp.as_slice().len();
         let mut descriptors = Vec::new(alloc);
         self.push_descriptors(&mut descriptors)?;
+        let size = (16 + descriptors.len() as u64) % 0x1_0000_0000;
         let mut log = Vec::new(alloc);
-        push_u16(&mut log, count as u16 - 1)?;
-        push_zeros(&mut log, 2)?;
-        push_low_u32(&mut log, 16 + descriptors.len() as u64)?;
-        push_zeros(&mut log, 8)?;
+        log.extend_from_slice(&configurations_head(count as u16 - 1, size as u32))?;
         log.extend_from_slice(descriptors.as_slice())?;
         Ok(log)
     }
@@ -33,59 +28,8 @@ impl Kept {
     {
         let count = self.config.fdp.as_slice().len() as u8;
         for index in 0..count {
-            let classes = self.config.classes(true, index);
-            let handles = self.config.handle_count(true, index);
-            self.push_configuration(log, classes, u16::from(handles))?;
+            push_descriptor(log, &self.config, self.config.classes(true, index))?;
         }
         Ok(())
-    }
-
-    /// Appends a configuration: its size; the bits of a group and the valid bit; no vendor bytes; groups; handles; placement
-    /// identifiers of an update, from 0 on; namespaces; bytes of a unit; no time limit; the class of each handle.
-    fn push_configuration(
-        &self,
-        log: &mut Vec<u8>,
-        classes: &[Class],
-        handles: u16,
-    ) -> Result<(), AllocError>
-        requires sound { IsSound self.now }
-        requires few { handles ≤ 16 }
-        requires handles { handles ≡ length classes.now }
-        ensures { OnOk result (log.new.items ≡ log.old.items ++ descriptor self.now.config classes.now) }
-    {
-        let size = (64 + 4 * handles + 7) / 8 * 8;
-        push_u16(log, size)?;
-        log.extend_from_slice(&[128 + self.config.group_bits(), 0])?;
-        push_u32(log, u32::from(self.config.groups))?;
-        push_u16(log, handles)?;
-        push_u16(log, 63)?;
-        push_u32(log, 16)?;
-        push_u64(
-            log,
-            u64::from(self.config.unit_pages) * u64::from(self.config.block),
-        )?;
-        push_u32(log, 0)?;
-        push_zeros(log, 36)?;
-        push_classes(log, classes)?;
-        push_zeros(log, u32::from(size - (64 + 4 * handles)))?;
-        Ok(())
-    }
-}
-
-fn push_classes(log: &mut Vec<u8>, classes: &[Class]) -> Result<(), AllocError>
-    ensures { OnOk result (log.new.items ≡ log.old.items ++ flat_map (λ class. class_code class ∷ zeros 3) classes.now) }
-{
-    for class in classes {
-        push_padded(log, code_of_class(*class), 3)?;
-    }
-    Ok(())
-}
-
-fn code_of_class(class: Class) -> u8
-    ensures { result ≡ class_code class }
-{
-    match class {
-        Class::Initial => 1,
-        Class::Persistent => 2,
     }
 }

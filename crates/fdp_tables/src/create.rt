@@ -1,6 +1,6 @@
 ghost use Rattle.std.specs.Prelude.{◌≡◌, ℕ, ◌+◌, ◌<◌, ◌&&◌, nat_lt, Bool, List, Some, None, length, replicate, IfOk};
 ghost use Rattle.fdp_base.specs.declared.command.Command.TheVariants as commands;
-ghost use Rattle.fdp_base.specs.Effect.{chosen_handles, created, effect_of, lowest_free};
+ghost use Rattle.fdp_rules.specs.Effect.{chosen_handles, created, effect_of, lowest_free};
 ghost use Rattle.fdp_tables.specs.Spaces.{IsMade};
 ghost use Rattle.fdp_tables.specs.State.{namespace_of, plain_of, row};
 

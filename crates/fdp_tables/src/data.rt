@@ -1,6 +1,6 @@
 ghost use Rattle.std.specs.Prelude.{◌≡◌, ℕ, ◌+◌, ◌≤◌, IfOk};
-ghost use Rattle.fdp_base.specs.Answer.{data_of};
-ghost use Rattle.fdp_base.specs.Room.{size_of};
+ghost use Rattle.fdp_rules.specs.Answer.{data_of};
+ghost use Rattle.fdp_rules.specs.Room.{size_of};
 ghost use Rattle.fdp_tables.specs.Sound.{IsSound};
 ghost use Rattle.fdp_tables.specs.State.{plain_of, point_kept};
 

@@ -1,6 +1,6 @@
 ghost use Rattle.std.specs.Prelude.{◌≡◌, ℕ, ◌+◌, ◌-◌, ◌<◌, ◌≤◌, ◌==◌, ◌&&◌, if◌then◌else◌, true, None, length, option_map};
 ghost use Rattle.fdp_base.specs.declared.command.Command.TheVariants as commands;
-ghost use Rattle.fdp_base.specs.Effect.{effect_of, is_in_ranges, without_blocks};
+ghost use Rattle.fdp_rules.specs.Effect.{effect_of, is_in_ranges, without_blocks};
 ghost use Rattle.fdp_base.specs.Numbers.{is_among, with_at};
 ghost use Rattle.fdp_tables.specs.Spaces.{block_in};
 ghost use Rattle.fdp_tables.specs.State.{namespace_of, plain_of, row};
@@ -21,7 +21,7 @@ impl Kept {
     }
 
     /// Deletes a namespace.
-    #[tactic(auto, unfolding(fdp_base::specs::Effect::effect_of))]
+    #[tactic(auto, unfolding(fdp_rules::specs::Effect::effect_of))]
     pub fn delete(&mut self, nsid: u32)
         requires { nsid < length self.old.spaces.items }
         ensures state { (queue : ℕ) → plain_of self.new ≡ effect_of self.old.config (plain_of self.old) queue (commands.Delete nsid) }
@@ -44,7 +44,7 @@ impl Kept {
     }
 
     /// Zeroes blocks.
-    #[tactic(auto, unfolding(fdp_base::specs::Effect::effect_of))]
+    #[tactic(auto, unfolding(fdp_rules::specs::Effect::effect_of))]
     pub fn zero(&mut self, nsid: u32, slba: u64, count: u32)
         ensures state { (queue : ℕ) → plain_of self.new ≡ effect_of self.old.config (plain_of self.old) queue (commands.Zero nsid slba count) }
         ensures rest { self.new ≡ record self.old { spaces = self.new.spaces } }
@@ -60,7 +60,7 @@ impl Kept {
     }
 
     /// Deallocates blocks.
-    #[tactic(auto, unfolding(fdp_base::specs::Effect::effect_of))]
+    #[tactic(auto, unfolding(fdp_rules::specs::Effect::effect_of))]
     pub fn dealloc(&mut self, nsid: u32, deallocate: bool, ranges: &[Range])
         ensures state { (queue : ℕ) → plain_of self.new ≡ effect_of self.old.config (plain_of self.old) queue (commands.Dealloc nsid deallocate ranges.now) }
         ensures rest { self.new ≡ record self.old { spaces = self.new.spaces } }

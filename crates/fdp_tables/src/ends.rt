@@ -1,9 +1,9 @@
 ghost use Rattle.std.specs.Prelude.{◌≡◌, ◌<◌, ◌⊎◌, IsTrue, IsFalse, Decides, Some, false, true, option_map};
 ghost use Rattle.fdp_base.specs.declared.status.TheConstants.Status as statuses;
-ghost use Rattle.fdp_base.specs.Answer.{bare, IsSuccess};
-ghost use Rattle.fdp_base.specs.Sites.{is_there};
-ghost use Rattle.fdp_base.specs.Step.{exceeds_budget, HasEachPage, IsEnd, IsNewMoment, IsOnTarget, IsWriteFault, MaySucceed};
-ghost use Rattle.fdp_base.specs.Totals.{blocks_written};
+ghost use Rattle.fdp_rules.specs.Answer.{bare, IsSuccess};
+ghost use Rattle.fdp_rules.specs.Sites.{is_there};
+ghost use Rattle.fdp_rules.specs.Step.{exceeds_budget, HasEachPage, IsEnd, IsNewMoment, IsOnTarget, IsWriteFault, MaySucceed};
+ghost use Rattle.fdp_rules.specs.Totals.{blocks_written};
 ghost use Rattle.fdp_tables.specs.Judging.{IsWritten};
 ghost use Rattle.fdp_tables.specs.Sound.{IsSound};
 ghost use Rattle.fdp_tables.specs.State.{going_of, plain_of, point_kept, target_at};

@@ -1,5 +1,5 @@
 ghost use Rattle.std.specs.Prelude.{Decides, IfOk, true};
-ghost use Rattle.fdp_base.specs.Step.{Follows};
+ghost use Rattle.fdp_rules.specs.Step.{Follows};
 ghost use Rattle.fdp_tables.specs.Sound.{IsSound};
 ghost use Rattle.fdp_tables.specs.State.{point_kept};
 
@@ -10,7 +10,7 @@ use std::alloc::{AllocError, Global};
 impl Kept {
     /// Whether an entry may follow. Only want of memory keeps it from an answer. An opening never follows: this run began
     /// fresh.
-    #[tactic(auto, unfolding(fdp_base::specs::Step::Follows))]
+    #[tactic(auto, unfolding(fdp_rules::specs::Step::Follows))]
     pub fn judge(&self, alloc: Global, entry: &Entry) -> Result<bool, AllocError>
         requires { IsSound self.now }
         ensures { IfOk result (λ answer. Decides answer (Follows true self.now.config (point_kept self.now) entry.now)) }

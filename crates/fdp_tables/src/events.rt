@@ -1,9 +1,21 @@
 ghost use Rattle.std.specs.Prelude.{◌≡◌, ◌+◌, ◌^◌, ◌<◌};
-ghost use Rattle.fdp_base.specs.Events.{handle_event, invalid_identifier, not_fully_written};
+ghost use Rattle.fdp_rules.specs.Events.{handle_event, invalid_identifier, not_fully_written};
 ghost use Rattle.fdp_tables.specs.State.{going_of, keeps, plain_of, target_at};
 
 use crate::state::{Destination, Kept, KeptGoing, KeptReports};
-use fdp_base::{Event, EventKind};
+use fdp_base::{Event, EventFlags, EventKind};
+
+const ALL_VALID: EventFlags = EventFlags {
+    pid_valid: true,
+    nsid_valid: true,
+    location_valid: true,
+};
+
+const ONLY_LOCATION_VALID: EventFlags = EventFlags {
+    pid_valid: false,
+    nsid_valid: false,
+    location_valid: true,
+};
 
 impl Kept {
     /// Whether an event that is made now is kept.
@@ -30,7 +42,7 @@ impl Kept {
     {
         Event {
             kind: EventKind::NotFullyWritten,
-            flags: 7,
+            flags: ALL_VALID,
             pid,
             position: self.next_position(),
             nsid,
@@ -47,7 +59,7 @@ impl Kept {
     {
         Event {
             kind: EventKind::InvalidPlacementIdentifier,
-            flags: 7,
+            flags: ALL_VALID,
             pid,
             position: self.next_position(),
             nsid,
@@ -64,7 +76,7 @@ impl Kept {
     {
         Event {
             kind,
-            flags: 4,
+            flags: ONLY_LOCATION_VALID,
             pid: 0,
             position: self.next_position(),
             nsid: 0,

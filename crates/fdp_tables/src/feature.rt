@@ -2,10 +2,10 @@ ghost use Rattle.std.specs.Prelude.{◌≡◌, ℕ, ◌+◌, ◌^◌, ◌<◌, �
 ghost use Rattle.std.specs.List.{list_any};
 ghost use Rattle.fdp_base.specs.declared.command.Command.TheVariants as commands;
 ghost use Rattle.fdp_base.specs.declared.event.EventKind.{EventKind};
-ghost use Rattle.fdp_base.specs.Effect.{effect_of, reporting, without_references};
-ghost use Rattle.fdp_base.specs.LogPages.{kind_code};
+ghost use Rattle.fdp_rules.specs.Effect.{effect_of, reporting, without_references};
+ghost use Rattle.fdp_base.specs.EventCodes.{kind_code};
 ghost use Rattle.fdp_base.specs.Numbers.{with_at};
-ghost use Rattle.fdp_base.specs.Room.{handles_of};
+ghost use Rattle.fdp_rules.specs.Room.{handles_of};
 ghost use Rattle.fdp_tables.specs.Reports.{no_reports};
 ghost use Rattle.fdp_tables.specs.State.{keeps, plain_of, reference_of};
 
@@ -32,7 +32,7 @@ impl Kept {
     }
 
     /// Sets whether placement is enabled, and its configuration.
-    #[tactic(auto, unfolding(fdp_base::specs::Effect::effect_of))]
+    #[tactic(auto, unfolding(fdp_rules::specs::Effect::effect_of))]
     pub fn set_fdp(&mut self, enable: bool, index: u8)
         requires { self.old.generation + 1 < 2 ^ 64 }
         ensures state { (queue group : ℕ) → plain_of self.new ≡ effect_of self.old.config (plain_of self.old) queue (commands.SetFdp group enable index) }
@@ -58,7 +58,7 @@ impl Kept {
     }
 
     /// Keeps events for a placement handle of a namespace, or no longer.
-    #[tactic(auto, unfolding(fdp_base::specs::Effect::effect_of))]
+    #[tactic(auto, unfolding(fdp_rules::specs::Effect::effect_of))]
     pub fn set_events(&mut self, nsid: u32, handle: u16, enable: bool, types: &[u8])
         requires handle { handle < length (handles_of (plain_of self.old) nsid) }
         requires ruh { slice_index (handles_of (plain_of self.old) nsid) handle < length self.old.reports.items }

@@ -1,6 +1,6 @@
 ghost use Rattle.std.specs.Prelude.{◌≡◌, ◌*◌, Decides, length};
 ghost use Rattle.fdp_base.specs.CommandKinds.{IsPayloadOf, IsWellFormed};
-ghost use Rattle.fdp_base.specs.Step.{IsQueue};
+ghost use Rattle.fdp_rules.specs.Step.{IsQueue};
 ghost use Rattle.fdp_tables.specs.Sound.{IsSound};
 
 use crate::state::Kept;

@@ -1,6 +1,6 @@
 ghost use Rattle.std.specs.Prelude.{◌≡◌, ℕ, ◌+◌, ◌^◌, ◌<◌, ◌==◌, if◌then◌else◌, Some, None, find, length, map, option_map};
 ghost use Rattle.std.specs.Option.{option_copied};
-ghost use Rattle.fdp_base.specs.Change.{going_with, holds_ticket, placed_going};
+ghost use Rattle.fdp_rules.specs.Change.{going_with, holds_ticket, placed_going};
 ghost use Rattle.fdp_base.specs.Numbers.{numbers_from, with_at};
 ghost use Rattle.fdp_tables.specs.Going.{HasRoomFor, counted};
 ghost use Rattle.fdp_tables.specs.State.{going_of, plain_of, row};

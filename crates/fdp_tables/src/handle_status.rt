@@ -1,15 +1,15 @@
 ghost use Rattle.std.specs.Prelude.{◌≡◌, ℕ, ◌+◌, ◌*◌, ◌^◌, ◌<◌, ◌≤◌, ◌++◌, ◌∷◌, [], Bool, List, length, flat_map, OnOk, IfOk};
 ghost use Rattle.std.specs.Int.{to_le_bytes, w16, w64};
 ghost use Rattle.std.specs.List.{enumerate_from};
-ghost use Rattle.fdp_base.specs.LogPages.{status_descriptor, handle_status, zeros};
+ghost use Rattle.fdp_rules.specs.LogPages.{status_descriptor, handle_status, zeros};
 ghost use Rattle.fdp_base.specs.Numbers.{numbers_below};
-ghost use Rattle.fdp_base.specs.Room.{handles_of};
-ghost use Rattle.fdp_base.specs.Target.{pid_of};
+ghost use Rattle.fdp_rules.specs.Room.{handles_of};
+ghost use Rattle.fdp_rules.specs.Target.{pid_of};
 ghost use Rattle.fdp_tables.specs.Sound.{IsSound};
 ghost use Rattle.fdp_tables.specs.State.{plain_of, point_kept};
 
-use crate::bytes::{push_u16, push_u64, push_zeros};
 use crate::state::Kept;
+use fdp_logs::{status_frame, status_head};
 use std::alloc::{AllocError, Global};
 
 impl Kept {
@@ -36,8 +36,7 @@ impl Kept {
     {
         let handles = self.handles_of(nsid);
         let mut bytes = Vec::new(alloc);
-        push_zeros(&mut bytes, 14)?;
-        push_u16(&mut bytes, handles.len() as u16 * self.config.groups)?;
+        bytes.extend_from_slice(&status_head(handles.len() as u16 * self.config.groups))?;
         self.push_handles(&mut bytes, handles)?;
         Ok(bytes)
     }
@@ -78,11 +77,8 @@ impl Kept {
         requires handle { handle < 16 }
         ensures { OnOk result (bytes.new.items ≡ bytes.old.items ++ status_descriptor self.now.config (plain_of self.now) handle ruh rg) }
     {
-        push_u16(bytes, self.pid_of(rg, handle))?;
-        push_u16(bytes, ruh)?;
-        push_zeros(bytes, 4)?;
-        push_u64(bytes, u64::from(self.reference(rg, ruh).left))?;
-        push_zeros(bytes, 16)?;
+        let left = u64::from(self.reference(rg, ruh).left);
+        bytes.extend_from_slice(&status_frame(self.pid_of(rg, handle), ruh, left))?;
         Ok(())
     }
 }

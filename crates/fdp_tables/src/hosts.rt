@@ -1,9 +1,9 @@
 ghost use Rattle.std.specs.Prelude.{◌≡◌, IsTrue, IsFalse, Contains, Decides, IfOk, None, Some, false};
 ghost use Rattle.fdp_base.specs.CommandKinds.{is_write, IsWellFormed};
-ghost use Rattle.fdp_base.specs.Room.{handles_of};
+ghost use Rattle.fdp_rules.specs.Room.{handles_of};
 ghost use Rattle.fdp_base.specs.declared.status.Status.{Status};
-ghost use Rattle.fdp_base.specs.Answer.{bare};
-ghost use Rattle.fdp_base.specs.Step.{IsQueue, IsStarted};
+ghost use Rattle.fdp_rules.specs.Answer.{bare};
+ghost use Rattle.fdp_rules.specs.Step.{IsQueue, IsStarted};
 ghost use Rattle.fdp_tables.specs.Judging.{IsPlaceFor};
 ghost use Rattle.fdp_tables.specs.Sound.{IsSound};
 ghost use Rattle.fdp_tables.specs.State.{plain_of, point_kept};

@@ -1,8 +1,8 @@
 ghost use Rattle.std.specs.Prelude.{◌≡◌, ◌≢◌, ℕ, ◌+◌, ◌*◌, ◌<◌, ◌≤◌, Decides, Some, length};
-ghost use Rattle.fdp_base.specs.PlainState.{PageName.written};
-ghost use Rattle.fdp_base.specs.Sites.{group_of, is_there, site_of};
+ghost use Rattle.fdp_rules.specs.PlainState.{PageName.written};
+ghost use Rattle.fdp_rules.specs.Sites.{group_of, is_there, site_of};
 ghost use Rattle.fdp_base.specs.Geometry.{IsWithin};
-ghost use Rattle.fdp_base.specs.Step.{IsAside, IsCopied, IsDataUnit, IsErasable, IsHandle, IsNextPage, IsPage, IsPlaced, IsUnreferenced};
+ghost use Rattle.fdp_rules.specs.Step.{IsAside, IsCopied, IsDataUnit, IsErasable, IsHandle, IsNextPage, IsPage, IsPlaced, IsUnreferenced};
 ghost use Rattle.fdp_tables.specs.Judging.{EachIn, IsEmptyUnit, IsFreeOf, IsNextBlock, IsNextIn, IsNextOf, IsNextSpot, IsOutside, Leaves};
 ghost use Rattle.fdp_tables.specs.Sound.{IsSound};
 ghost use Rattle.fdp_tables.specs.State.{going_of, plain_of, point_kept, site_at};

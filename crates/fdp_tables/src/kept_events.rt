@@ -1,5 +1,5 @@
 ghost use Rattle.std.specs.Prelude.{◌≡◌, ◌++◌, ◌∷◌, [], List, OnOk};
-ghost use Rattle.fdp_base.specs.Events.{command_events, kept_of_entry, write_events};
+ghost use Rattle.fdp_rules.specs.Events.{command_events, kept_of_entry, write_events};
 ghost use Rattle.fdp_tables.specs.Keeping.{HasEvents, kept_of};
 ghost use Rattle.fdp_tables.specs.Sound.{IsSound};
 ghost use Rattle.fdp_tables.specs.State.{plain_of};
@@ -10,7 +10,7 @@ use std::alloc::{AllocError, Global};
 
 impl Kept {
     /// The events of an entry that is next, of those that are kept, behind what was there. Nothing else changes.
-    #[tactic(auto, unfolding(fdp_base::specs::Events::kept_of_entry, fdp_base::specs::Events::events_of_entry))]
+    #[tactic(auto, unfolding(fdp_rules::specs::Events::kept_of_entry, fdp_rules::specs::Events::events_of_entry))]
     pub fn push_kept(
         &self,
         alloc: Global,

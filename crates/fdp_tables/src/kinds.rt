@@ -1,6 +1,6 @@
 ghost use Rattle.std.specs.Prelude.{◌≡◌};
 ghost use Rattle.fdp_base.specs.CommandKinds.{is_read, is_saved, is_write, nsid_of};
-ghost use Rattle.fdp_base.specs.Totals.{blocks_written};
+ghost use Rattle.fdp_rules.specs.Totals.{blocks_written};
 
 use fdp_base::Command;
 

@@ -1,7 +1,7 @@
 ghost use Rattle.std.specs.Prelude.{◌≡◌, ◌==◌, ◌%◌, ℕ, ◌+◌, ◌-◌, ◌*◌, ◌≤◌, ◌++◌, ◌∷◌, [], Bool, not, List, length, drop, filter, OnOk, IfOk, if◌then◌else◌};
 ghost use Rattle.fdp_base.specs.declared.event.Event.{Event};
-ghost use Rattle.fdp_base.specs.Events.{is_host_event, latest};
-ghost use Rattle.fdp_base.specs.LogPages.{events_log, log_page};
+ghost use Rattle.fdp_rules.specs.Events.{is_host_event, latest};
+ghost use Rattle.fdp_rules.specs.LogPages.{events_log, log_page};
 ghost use Rattle.fdp_tables.specs.Sound.{IsSound};
 ghost use Rattle.fdp_tables.specs.State.{plain_of, point_kept};
 

@@ -1,7 +1,7 @@
 ghost use Rattle.std.specs.Prelude.{◌≡◌, ℕ, ◌+◌, ◌*◌, ◌^◌, ◌<◌, ◌≤◌, length, slice_get, option_and_then};
 ghost use Rattle.std.specs.Option.{option_copied, option_flatten};
-ghost use Rattle.fdp_base.specs.Refusal.{is_absent};
-ghost use Rattle.fdp_base.specs.Room.{size_of, handles_of, handles_in_force, lost_in, budget};
+ghost use Rattle.fdp_rules.specs.Refusal.{is_absent};
+ghost use Rattle.fdp_rules.specs.Room.{size_of, handles_of, handles_in_force, lost_in, budget};
 ghost use Rattle.fdp_tables.specs.Sound.{IsSound};
 ghost use Rattle.fdp_tables.specs.State.{row, space_at, block_at, reference_at, reference_of, going_of, plain_of};
 

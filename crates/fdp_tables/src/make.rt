@@ -1,5 +1,5 @@
 ghost use Rattle.std.specs.Prelude.{◌≡◌, ◌+◌, Bool, List, ℕ, IfOk};
-ghost use Rattle.fdp_base.specs.Change.{birth_of, started};
+ghost use Rattle.fdp_rules.specs.Change.{birth_of, started};
 ghost use Rattle.fdp_base.specs.CommandKinds.{IsWellFormed};
 ghost use Rattle.fdp_tables.specs.Making.{AreBlocksOf, IsCreated, IsSpaceOf};
 ghost use Rattle.fdp_tables.specs.Sound.{IsSound};

@@ -1,7 +1,7 @@
 ghost use Rattle.std.specs.Prelude.{◌≡◌, ℕ, ◌++◌, ◌∷◌, [], Decides, IfOk, OnOk, if◌then◌else◌, map};
 ghost use Rattle.fdp_base.specs.declared.entry.BlockName.{BlockName};
-ghost use Rattle.fdp_base.specs.Sites.{blocks_at, blocks_in, moved_blocks, pass_in, site_of, stands_at};
-ghost use Rattle.fdp_base.specs.Step.{IsMoved};
+ghost use Rattle.fdp_rules.specs.Sites.{blocks_at, blocks_in, moved_blocks, pass_in, site_of, stands_at};
+ghost use Rattle.fdp_rules.specs.Step.{IsMoved};
 ghost use Rattle.fdp_tables.specs.State.{copy_of, point_kept};
 
 use crate::room::NAMESPACE_IDS;

@@ -1,13 +1,13 @@
 ghost use Rattle.std.specs.Prelude.{◌≡◌, ◌++◌, ◌∷◌, [], List, length, filter, flat_map, if◌then◌else◌, IfOk, OnOk};
-ghost use Rattle.fdp_base.specs.Events.{is_of_handle, reallocated, told_moved};
+ghost use Rattle.fdp_rules.specs.Events.{is_of_handle, reallocated, told_moved};
 ghost use Rattle.fdp_base.specs.Numbers.{numbers_below};
-ghost use Rattle.fdp_base.specs.Room.{handles_in_force};
+ghost use Rattle.fdp_rules.specs.Room.{handles_in_force};
 ghost use Rattle.fdp_tables.specs.Keeping.{kept_of};
 ghost use Rattle.fdp_tables.specs.Sound.{IsSound};
 ghost use Rattle.fdp_tables.specs.State.{plain_of};
 
 use crate::state::Kept;
-use fdp_base::{BlockName, Event, EventKind};
+use fdp_base::{BlockName, Event, EventFlags, EventKind};
 use std::alloc::{AllocError, Global};
 
 /// How many blocks were moved, as an event tells it.
@@ -67,7 +67,11 @@ impl Kept {
     {
         Event {
             kind: EventKind::MediaReallocated,
-            flags: 6,
+            flags: EventFlags {
+                pid_valid: false,
+                nsid_valid: true,
+                location_valid: true,
+            },
             pid: 0,
             position: self.next_position(),
             nsid: first.nsid,

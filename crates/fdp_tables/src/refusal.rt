@@ -1,6 +1,6 @@
 ghost use Rattle.std.specs.Prelude.{IfOk, ◌≡◌, ◌==◌};
 ghost use Rattle.std.specs.List.{list_any};
-ghost use Rattle.fdp_base.specs.Refusal.{is_served_opcode, refusal_of};
+ghost use Rattle.fdp_rules.specs.Refusal.{is_served_opcode, refusal_of};
 ghost use Rattle.fdp_tables.specs.Sound.{IsSound};
 ghost use Rattle.fdp_tables.specs.State.{point_kept};
 
@@ -82,7 +82,7 @@ impl Kept {
         }
     }
 
-    #[tactic(auto, unfolding(fdp_base::specs::Refusal::checks_of, fdp_base::specs::Refusal::refusal_of))]
+    #[tactic(auto, unfolding(fdp_rules::specs::Refusal::checks_of, fdp_rules::specs::Refusal::refusal_of))]
     fn refuse_other(&self, admin: bool, opcode: u8, flags: u8, feature: u8) -> Option<Status>
         ensures { result ≡ refusal_of self.now.config (point_kept self.now) (Command.Other admin opcode flags feature) }
     {

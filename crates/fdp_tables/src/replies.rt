@@ -1,8 +1,8 @@
 ghost use Rattle.std.specs.Prelude.{◌≡◌, ◌⊎◌, IsTrue, Decides, length, [], false, true};
 ghost use Rattle.fdp_base.specs.declared.status.TheConstants.Status as statuses;
-ghost use Rattle.fdp_base.specs.Answer.{bare};
+ghost use Rattle.fdp_rules.specs.Answer.{bare};
 ghost use Rattle.fdp_base.specs.CommandKinds.{is_read, is_saved};
-ghost use Rattle.fdp_base.specs.Step.{IsMediaError, IsNewMoment, IsWriteFault};
+ghost use Rattle.fdp_rules.specs.Step.{IsMediaError, IsNewMoment, IsWriteFault};
 ghost use Rattle.fdp_tables.specs.State.{plain_of};
 
 use crate::kinds::{is_read, is_saved};

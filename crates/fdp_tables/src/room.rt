@@ -1,9 +1,9 @@
 ghost use Rattle.std.specs.Prelude.{◌≡◌, ℕ, ◌+◌, ◌*◌, ◌^◌, ◌<◌, ◌≤◌, Bool, true, not, ◌&&◌, ◌==◌, length, sum_by, count_by};
 ghost use Rattle.fdp_base.specs.Numbers.{count_below, is_among, numbers_below};
 ghost use Rattle.std.specs.List.{list_any};
-ghost use Rattle.fdp_base.specs.Effect.{lowest_free};
-ghost use Rattle.fdp_base.specs.Refusal.{exceeds_capacity};
-ghost use Rattle.fdp_base.specs.Room.{size_of, handles_of, handles_in_force, lost_in, budget, lies_in, stored_where, stored, is_over_budget, has_more_room, roomiest, namespace_ids};
+ghost use Rattle.fdp_rules.specs.Effect.{lowest_free};
+ghost use Rattle.fdp_rules.specs.Refusal.{exceeds_capacity};
+ghost use Rattle.fdp_rules.specs.Room.{size_of, handles_of, handles_in_force, lost_in, budget, lies_in, stored_where, stored, is_over_budget, has_more_room, roomiest, namespace_ids};
 ghost use Rattle.fdp_tables.specs.Sound.{IsSound};
 ghost use Rattle.fdp_tables.specs.State.{block_of, block_at, plain_of};
 

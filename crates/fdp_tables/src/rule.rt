@@ -1,7 +1,7 @@
 ghost use Rattle.std.specs.Prelude.{◌≡◌};
 ghost use Rattle.fdp_base.specs.declared.entry.Entry.{Entry};
-ghost use Rattle.fdp_base.specs.Change.{is_media_error};
-ghost use Rattle.fdp_base.specs.PlainState.{PlainState};
+ghost use Rattle.fdp_rules.specs.Change.{is_media_error};
+ghost use Rattle.fdp_rules.specs.PlainState.{PlainState};
 ghost use Rattle.fdp_tables.specs.declared.rule.Rule.{Rule};
 ghost use Rattle.fdp_tables.specs.Rules.{FallsUnder, IsRuleOfHost, IsRuleOfWrite, number_of};
 ghost use Rattle.fdp_tables.specs.State.{plain_of};

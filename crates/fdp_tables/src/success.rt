@@ -1,8 +1,8 @@
 ghost use Rattle.std.specs.Prelude.{◌≡◌, Decides, IfOk, None, true};
 ghost use Rattle.fdp_base.specs.declared.status.TheConstants.Status as statuses;
-ghost use Rattle.fdp_base.specs.Answer.{data_of, dword0_of, IsSuccess};
+ghost use Rattle.fdp_rules.specs.Answer.{data_of, dword0_of, IsSuccess};
 ghost use Rattle.fdp_base.specs.CommandKinds.{is_saved};
-ghost use Rattle.fdp_base.specs.Refusal.{refusal_of};
+ghost use Rattle.fdp_rules.specs.Refusal.{refusal_of};
 ghost use Rattle.fdp_tables.specs.Sound.{IsSound};
 ghost use Rattle.fdp_tables.specs.State.{plain_of, point_kept};
 

@@ -1,8 +1,8 @@
 ghost use Rattle.std.specs.Prelude.{◌≡◌, ℕ, ◌+◌, ◌-◌, ◌*◌, ◌/◌, ◌%◌, ◌^◌, ◌<◌, ◌≤◌, option_map, slice_index};
 ghost use Rattle.fdp_base.specs.Placement.{group_bits};
-ghost use Rattle.fdp_base.specs.Room.{handles_of, roomiest};
-ghost use Rattle.fdp_base.specs.Refusal.{has_no_room};
-ghost use Rattle.fdp_base.specs.Target.{named_by, default_target, target_of};
+ghost use Rattle.fdp_rules.specs.Room.{handles_of, roomiest};
+ghost use Rattle.fdp_rules.specs.Refusal.{has_no_room};
+ghost use Rattle.fdp_rules.specs.Target.{named_by, default_target, target_of};
 ghost use Rattle.fdp_tables.specs.Sound.{IsSound};
 ghost use Rattle.fdp_tables.specs.State.{plain_of, target_at};
 

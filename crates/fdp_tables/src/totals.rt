@@ -1,5 +1,5 @@
 ghost use Rattle.std.specs.Prelude.{◌≡◌, ◌+◌, ◌^◌, ◌<◌, ◌≤◌};
-ghost use Rattle.fdp_base.specs.Totals.{erases_of, host_blocks_of, media_blocks_of};
+ghost use Rattle.fdp_rules.specs.Totals.{erases_of, host_blocks_of, media_blocks_of};
 ghost use Rattle.fdp_tables.specs.Counted.{HasCountRoom};
 
 use crate::kinds::blocks_written;

@@ -2,8 +2,8 @@ ghost use Rattle.std.specs.Prelude.{◌≡◌, ℕ, ◌+◌, ◌*◌, ◌<◌, �
 ghost use Rattle.std.specs.Option.{IfSome};
 ghost use Rattle.std.specs.Vec.{vec_items, vec_len, vec_capacity};
 ghost use Rattle.fdp_base.specs.Numbers.{with_at};
-ghost use Rattle.fdp_base.specs.PlainState.{PageName.written};
-ghost use Rattle.fdp_base.specs.Sites.{ascends, group_of, last_run, moved_by, outside, traced_by};
+ghost use Rattle.fdp_rules.specs.PlainState.{PageName.written};
+ghost use Rattle.fdp_rules.specs.Sites.{ascends, group_of, last_run, moved_by, outside, traced_by};
 ghost use Rattle.fdp_tables.specs.Places.{HasGroupOf, HasPlaces};
 ghost use Rattle.fdp_tables.specs.Rows.{KeepsPlaces};
 ghost use Rattle.fdp_tables.specs.State.{copies_at, copy_of, point_kept, site_at};
@@ -76,7 +76,7 @@ impl Kept {
     }
 
     /// Where pages stand after an entry, and what was copied. An erase and a move look at each page.
-    #[tactic(auto, unfolding(fdp_base::specs::Sites::traced_by))]
+    #[tactic(auto, unfolding(fdp_rules::specs::Sites::traced_by))]
     pub fn trace(&mut self, entry: &Entry)
         requires { HasPlaces self.old entry.now }
         ensures sites { (t i : ℕ) → site_at self.new (written t i) ≡ (traced_by self.old.config (point_kept self.old).trail entry.now).site (written t i) }

@@ -1,9 +1,9 @@
 ghost use Rattle.std.specs.Prelude.{◌≡◌, ℕ, ◌+◌, ◌*◌, ◌^◌, ◌<◌, ◌≤◌, ◌++◌, ◌∷◌, [], Bool, List, length, take, drop, flat_map, OnOk, IfOk, unwrap_or};
-ghost use Rattle.fdp_base.specs.Answer.{dword0_of, read_block};
-ghost use Rattle.fdp_base.specs.Effect.{lowest_free};
-ghost use Rattle.fdp_base.specs.LogPages.{transfer_of, zeros};
+ghost use Rattle.fdp_rules.specs.Answer.{dword0_of, read_block};
+ghost use Rattle.fdp_rules.specs.Effect.{lowest_free};
+ghost use Rattle.fdp_rules.specs.LogPages.{transfer_of, zeros};
 ghost use Rattle.fdp_base.specs.Numbers.{numbers_from};
-ghost use Rattle.fdp_base.specs.Room.{size_of};
+ghost use Rattle.fdp_rules.specs.Room.{size_of};
 ghost use Rattle.fdp_tables.specs.Sound.{IsSound};
 ghost use Rattle.fdp_tables.specs.State.{plain_of, point_kept};
 

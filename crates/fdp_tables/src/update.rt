@@ -1,6 +1,6 @@
 ghost use Rattle.std.specs.Prelude.{◌≡◌, ℕ, ◌+◌, ◌*◌, ◌<◌, fold, length};
 ghost use Rattle.fdp_base.specs.declared.command.Command.TheVariants as commands;
-ghost use Rattle.fdp_base.specs.Effect.{effect_of, is_partly_written, updated_at, updated_by};
+ghost use Rattle.fdp_rules.specs.Effect.{effect_of, is_partly_written, updated_at, updated_by};
 ghost use Rattle.fdp_tables.specs.Sound.{IsSound};
 ghost use Rattle.fdp_tables.specs.State.{plain_of, reference_at, reference_of, target_at};
 

@@ -1,11 +1,11 @@
 ghost use Rattle.std.specs.Prelude.{◌≡◌, ℕ, ◌+◌, ◌-◌, ◌*◌, ◌%◌, ◌<◌, ◌≤◌, if◌then◌else◌, ◌==◌, ◌&&◌, Some, length, option_map, IfOk};
 ghost use Rattle.fdp_base.specs.declared.command.Command.TheVariants as commands;
 ghost use Rattle.fdp_base.specs.declared.payload.Payload.{Payload};
-ghost use Rattle.fdp_base.specs.Effect.{effect_of};
+ghost use Rattle.fdp_rules.specs.Effect.{effect_of};
 ghost use Rattle.fdp_base.specs.Numbers.{is_among};
 ghost use Rattle.fdp_base.specs.Pattern.{HasBlock};
-ghost use Rattle.fdp_base.specs.PlainState.{Going};
-ghost use Rattle.fdp_base.specs.Room.{size_of};
+ghost use Rattle.fdp_rules.specs.PlainState.{Going};
+ghost use Rattle.fdp_rules.specs.Room.{size_of};
 ghost use Rattle.fdp_tables.specs.Spaces.{AreMade, block_in, size_in, written_block};
 ghost use Rattle.fdp_tables.specs.State.{block_of, going_of, namespace_of, plain_of, row};
 

@@ -1,6 +1,6 @@
 ghost use Rattle.std.specs.Prelude.{◌≡◌, Decides, IfOk, MatchOption, true};
-ghost use Rattle.fdp_base.specs.PlainState.{Going};
-ghost use Rattle.fdp_base.specs.Step.{IsGoing, IsWriteReply};
+ghost use Rattle.fdp_rules.specs.PlainState.{Going};
+ghost use Rattle.fdp_rules.specs.Step.{IsGoing, IsWriteReply};
 ghost use Rattle.fdp_tables.specs.Sound.{IsSound};
 ghost use Rattle.fdp_tables.specs.State.{going_of, plain_of, point_kept};
 

@@ -3,7 +3,7 @@ ghost use Rattle.std.specs.List.{list_any};
 ghost use Rattle.fdp_base.specs.declared.payload.Payload.{Payload};
 ghost use Rattle.fdp_base.specs.declared.command.Command.TheVariants as commands;
 ghost use Rattle.fdp_base.specs.CommandKinds.{directed_by};
-ghost use Rattle.fdp_base.specs.Refusal.{is_present, has_no_room, is_past_end, is_range_past_end, refusal_of};
+ghost use Rattle.fdp_rules.specs.Refusal.{is_present, has_no_room, is_past_end, is_range_past_end, refusal_of};
 ghost use Rattle.fdp_tables.specs.Sound.{IsSound};
 ghost use Rattle.fdp_tables.specs.State.{plain_of, point_kept};
 
@@ -39,7 +39,7 @@ impl Kept {
     }
 
     /// The status with which a read or a zeroing is refused, if it is.
-    #[tactic(auto, unfolding(fdp_base::specs::Refusal::checks_of, fdp_base::specs::Refusal::refusal_of))]
+    #[tactic(auto, unfolding(fdp_rules::specs::Refusal::checks_of, fdp_rules::specs::Refusal::refusal_of))]
     pub(super) fn refuse_blocks(&self, nsid: u32, slba: u64, count: u32) -> Option<Status>
         ensures read { result ≡ refusal_of self.now.config (point_kept self.now) (commands.Read nsid slba count) }
         ensures zero { result ≡ refusal_of self.now.config (point_kept self.now) (commands.Zero nsid slba count) }
@@ -71,7 +71,7 @@ impl Kept {
         self.has_no_room(nsid, slba, count, directed_by(dtype, dspec))
     }
 
-    #[tactic(auto, unfolding(fdp_base::specs::Refusal::checks_of, fdp_base::specs::Refusal::refusal_of))]
+    #[tactic(auto, unfolding(fdp_rules::specs::Refusal::checks_of, fdp_rules::specs::Refusal::refusal_of))]
     pub(super) fn refuse_write(
         &self,
         nsid: u32,
@@ -96,7 +96,7 @@ impl Kept {
         }
     }
 
-    #[tactic(auto, unfolding(fdp_base::specs::Refusal::checks_of, fdp_base::specs::Refusal::refusal_of))]
+    #[tactic(auto, unfolding(fdp_rules::specs::Refusal::checks_of, fdp_rules::specs::Refusal::refusal_of))]
     pub(super) fn refuse_dealloc(
         &self,
         nsid: u32,
@@ -116,7 +116,7 @@ impl Kept {
         }
     }
 
-    #[tactic(auto, unfolding(fdp_base::specs::Refusal::checks_of, fdp_base::specs::Refusal::refusal_of))]
+    #[tactic(auto, unfolding(fdp_rules::specs::Refusal::checks_of, fdp_rules::specs::Refusal::refusal_of))]
     pub(super) fn refuse_flush(&self, nsid: u32) -> Option<Status>
         ensures { result ≡ refusal_of self.now.config (point_kept self.now) (commands.Flush nsid) }
     {

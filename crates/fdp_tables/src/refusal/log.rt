@@ -1,7 +1,7 @@
 ghost use Rattle.std.specs.Prelude.{IfOk, ◌%◌, ◌≡◌, nat_lt, not, ◌||◌, ◌==◌};
 ghost use Rattle.fdp_base.specs.declared.command.Command.TheVariants as commands;
-ghost use Rattle.fdp_base.specs.Refusal.{refusal_of};
-ghost use Rattle.fdp_base.specs.LogPages.{log_page};
+ghost use Rattle.fdp_rules.specs.Refusal.{refusal_of};
+ghost use Rattle.fdp_rules.specs.LogPages.{log_page};
 ghost use Rattle.fdp_tables.specs.Sound.{IsSound};
 ghost use Rattle.fdp_tables.specs.State.{point_kept};
 
@@ -27,7 +27,7 @@ impl Kept {
     }
 
     /// The status with which a log is refused, given its page.
-    #[tactic(auto, unfolding(fdp_base::specs::Refusal::checks_of, fdp_base::specs::Refusal::refusal_of))]
+    #[tactic(auto, unfolding(fdp_rules::specs::Refusal::checks_of, fdp_rules::specs::Refusal::refusal_of))]
     fn refuse_log_at(
         &self,
         lid: u8,

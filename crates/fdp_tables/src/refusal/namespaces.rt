@@ -1,17 +1,18 @@
 ghost use Rattle.std.specs.Prelude.{◌≡◌, ◌+◌, ◌<◌, length, nat_le, nat_lt, drop, slice_index, ◌||◌, ◌==◌};
 ghost use Rattle.std.specs.List.{list_any, list_all};
 ghost use Rattle.fdp_base.specs.declared.command.Command.TheVariants as commands;
-ghost use Rattle.fdp_base.specs.Refusal.{is_present, has_repeat, refusal_of};
-ghost use Rattle.fdp_base.specs.Room.{namespace_ids};
+ghost use Rattle.fdp_base.specs.Numbers.{has_repeat};
+ghost use Rattle.fdp_rules.specs.Refusal.{is_present, refusal_of};
+ghost use Rattle.fdp_rules.specs.Room.{namespace_ids};
 ghost use Rattle.fdp_tables.specs.Sound.{IsSound};
 ghost use Rattle.fdp_tables.specs.State.{plain_of, point_kept};
 
 use crate::room::NAMESPACE_IDS;
 use crate::state::Kept;
-use fdp_base::Status;
+use fdp_base::{Status, has_repeat};
 
 impl Kept {
-    #[tactic(auto, unfolding(fdp_base::specs::Refusal::checks_of, fdp_base::specs::Refusal::refusal_of))]
+    #[tactic(auto, unfolding(fdp_rules::specs::Refusal::checks_of, fdp_rules::specs::Refusal::refusal_of))]
     pub(super) fn refuse_delete(&self, nsid: u32) -> Option<Status>
         ensures { result ≡ refusal_of self.now.config (point_kept self.now) (commands.Delete nsid) }
     {
@@ -34,7 +35,7 @@ impl Kept {
         ids.iter().all(|nsid| self.is_present(*nsid))
     }
 
-    #[tactic(auto, unfolding(fdp_base::specs::Refusal::checks_of, fdp_base::specs::Refusal::refusal_of))]
+    #[tactic(auto, unfolding(fdp_rules::specs::Refusal::checks_of, fdp_rules::specs::Refusal::refusal_of))]
     pub(super) fn refuse_create(&self, size: u64, given: bool, list: &[u16]) -> Option<Status>
         requires { IsSound self.now }
         ensures { result ≡ refusal_of self.now.config (point_kept self.now) (commands.Create size given list.now) }
@@ -70,29 +71,4 @@ fn names_unknown(bound: u16, list: &[u16]) -> bool
     ensures { result ≡ list_any (nat_le bound) list.now }
 {
     list.iter().any(|ruh| bound <= *ruh)
-}
-
-fn has_repeat(list: &[u16]) -> bool
-    ensures { result ≡ has_repeat list.now }
-{
-    for i in 0..list.len() {
-        if stands_again(list, i) {
-            return true;
-        }
-    }
-    false
-}
-
-fn stands_again(list: &[u16], i: usize) -> bool
-    requires { i < length list.now }
-    ensures { result ≡ list_any (λ other. other == slice_index list.now i) (drop (i + 1) list.now) }
-{
-    let ruh = list[i];
-    stands_in(ruh, &list[i + 1..])
-}
-
-fn stands_in(ruh: u16, list: &[u16]) -> bool
-    ensures { result ≡ list_any (λ other. other == ruh) list.now }
-{
-    list.iter().any(|other| *other == ruh)
 }

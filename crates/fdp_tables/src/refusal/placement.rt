@@ -1,9 +1,9 @@
 ghost use Rattle.std.specs.Prelude.{◌≡◌, is_none};
 ghost use Rattle.std.specs.List.{list_any, list_all};
 ghost use Rattle.fdp_base.specs.declared.command.Command.TheVariants as commands;
-ghost use Rattle.fdp_base.specs.Refusal.{is_present, is_event_type, refusal_of};
-ghost use Rattle.fdp_base.specs.Room.{namespace_ids};
-ghost use Rattle.fdp_base.specs.Target.{named_by};
+ghost use Rattle.fdp_rules.specs.Refusal.{is_present, is_event_type, refusal_of};
+ghost use Rattle.fdp_rules.specs.Room.{namespace_ids};
+ghost use Rattle.fdp_rules.specs.Target.{named_by};
 ghost use Rattle.fdp_tables.specs.Sound.{IsSound};
 ghost use Rattle.fdp_tables.specs.State.{plain_of, point_kept};
 
@@ -16,7 +16,7 @@ use fdp_base::Status;
 const EVENT_TYPES: [u8; 6] = [0x00, 0x01, 0x02, 0x03, 0x80, 0x81];
 
 impl Kept {
-    #[tactic(auto, unfolding(fdp_base::specs::Refusal::checks_of, fdp_base::specs::Refusal::refusal_of))]
+    #[tactic(auto, unfolding(fdp_rules::specs::Refusal::checks_of, fdp_rules::specs::Refusal::refusal_of))]
     pub(super) fn refuse_status(&self, nsid: u32, mo: u8, dwords: u32) -> Option<Status>
         ensures { result ≡ refusal_of self.now.config (point_kept self.now) (commands.Status nsid mo dwords) }
     {
@@ -45,7 +45,7 @@ impl Kept {
         pids.iter().any(|pid| self.names_nothing(nsid, *pid))
     }
 
-    #[tactic(auto, unfolding(fdp_base::specs::Refusal::checks_of, fdp_base::specs::Refusal::refusal_of))]
+    #[tactic(auto, unfolding(fdp_rules::specs::Refusal::checks_of, fdp_rules::specs::Refusal::refusal_of))]
     pub(super) fn refuse_update(&self, nsid: u32, mo: u8, pids: &[u16]) -> Option<Status>
         requires { IsSound self.now }
         ensures { result ≡ refusal_of self.now.config (point_kept self.now) (commands.Update nsid mo pids.now) }
@@ -75,7 +75,7 @@ impl Kept {
         ids.iter().any(|nsid| self.is_present(*nsid))
     }
 
-    #[tactic(auto, unfolding(fdp_base::specs::Refusal::checks_of, fdp_base::specs::Refusal::refusal_of))]
+    #[tactic(auto, unfolding(fdp_rules::specs::Refusal::checks_of, fdp_rules::specs::Refusal::refusal_of))]
     pub(super) fn refuse_set_fdp(&self, group: u16, enable: bool, index: u8) -> Option<Status>
         ensures { result ≡ refusal_of self.now.config (point_kept self.now) (commands.SetFdp group enable index) }
     {
@@ -88,7 +88,7 @@ impl Kept {
         }
     }
 
-    #[tactic(auto, unfolding(fdp_base::specs::Refusal::checks_of, fdp_base::specs::Refusal::refusal_of))]
+    #[tactic(auto, unfolding(fdp_rules::specs::Refusal::checks_of, fdp_rules::specs::Refusal::refusal_of))]
     pub(super) fn refuse_get_fdp(&self, group: u16) -> Option<Status>
         ensures { result ≡ refusal_of self.now.config (point_kept self.now) (commands.GetFdp group) }
     {
@@ -99,7 +99,7 @@ impl Kept {
         }
     }
 
-    #[tactic(auto, unfolding(fdp_base::specs::Refusal::checks_of, fdp_base::specs::Refusal::refusal_of))]
+    #[tactic(auto, unfolding(fdp_rules::specs::Refusal::checks_of, fdp_rules::specs::Refusal::refusal_of))]
     pub(super) fn refuse_set_events(
         &self,
         nsid: u32,

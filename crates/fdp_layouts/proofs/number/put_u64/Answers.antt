@@ -3,5 +3,5 @@ use Rattle.byteorder.specs.Endian.{little_bytes}
 use Rattle.fdp_layouts.proofs.Placing.{wrote}
 use Rattle.fdp_layouts.proofs.number.put_u64.Goals as goal
 
-pub returns : goal.returns
-returns c = wrote c.args.at c.args.frame.now _ (little_bytes 8 c.args.n) (omega arith) c.write_u64.ensures
+pub returns-clause-placed : goal.returns-clause-placed
+returns-clause-placed c = wrote c.args.at c.args.frame.now _ (little_bytes 8 c.args.n) (omega arith) c.write_u64.ensures

@@ -1,5 +1,5 @@
 use Rattle.std.specs.Prelude.{None, if◌then◌else◌}
-use Rattle.fdp_base.specs.Effect.{is_in_ranges}
+use Rattle.fdp_rules.specs.Effect.{is_in_ranges}
 use Rattle.fdp_tables.proofs.Walks.{IsPut}
 use Rattle.fdp_tables.proofs.effect.clear_blocks.Given as goal
 

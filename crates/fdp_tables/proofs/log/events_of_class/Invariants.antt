@@ -1,7 +1,7 @@
 use Rattle.std.proofs.Common.{not}
 use Rattle.std.specs.Prelude.{if◌then◌else◌}
 use Rattle.fdp_base.specs.declared.event.Event.{Event}
-use Rattle.fdp_base.specs.Events.{is_host_event}
+use Rattle.fdp_rules.specs.Events.{is_host_event}
 use Rattle.fdp_tables.proofs.Choosing.{IsChoosing}
 use Rattle.fdp_tables.proofs.log.events_of_class.Given as goal
 

@@ -1,5 +1,5 @@
-use Rattle.fdp_base.specs.LogPages.{event_bytes}
-use Rattle.fdp_tables.proofs.Appending.{IsAppendingOver}
+use Rattle.fdp_rules.specs.LogPages.{event_bytes}
+use Rattle.fdp_logs.proofs.Appending.{IsAppendingOver}
 use Rattle.fdp_tables.proofs.logs.push_events.Given as goal
 
 abbrev pub invariant-loop-event : goal.invariant-loop-event

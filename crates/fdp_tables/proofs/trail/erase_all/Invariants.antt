@@ -1,7 +1,7 @@
 use Rattle.std.proofs.Common.{map}
 use Rattle.std.specs.Vec.{vec_items}
 use Rattle.std.specs.Prelude.{option_and_then}
-use Rattle.fdp_base.specs.Sites.{outside}
+use Rattle.fdp_rules.specs.Sites.{outside}
 use Rattle.fdp_tables.proofs.Walks.{IsMapped}
 use Rattle.fdp_tables.proofs.trail.erase_all.Given as goal
 

@@ -1,6 +1,6 @@
 use Rattle.std.proofs.Common.{None}
 use Rattle.std.specs.Prelude.{option_and_then}
-use Rattle.fdp_base.specs.Sites.{outside}
+use Rattle.fdp_rules.specs.Sites.{outside}
 use Rattle.fdp_tables.proofs.Walks.{mapped_step}
 use Rattle.fdp_tables.proofs.trail.erase_pages.Goals as goal
 

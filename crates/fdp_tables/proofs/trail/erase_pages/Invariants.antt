@@ -1,5 +1,5 @@
 use Rattle.std.specs.Prelude.{option_and_then}
-use Rattle.fdp_base.specs.Sites.{outside}
+use Rattle.fdp_rules.specs.Sites.{outside}
 use Rattle.fdp_tables.proofs.Walks.{IsMapped}
 use Rattle.fdp_tables.proofs.trail.erase_pages.Given as goal
 

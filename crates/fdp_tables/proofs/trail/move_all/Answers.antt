@@ -2,7 +2,7 @@ use Rattle.std.proofs.Common.{map, arith, ap, subst, sym, ◌∙◌, ◌≡◌, 
 use Rattle.std.specs.Vec.{vec_items}
 use Rattle.std.proofs.lemmas.List.{with_items_is}
 use Rattle.std.specs.Prelude.{option_map}
-use Rattle.fdp_base.specs.Sites.{moved_by}
+use Rattle.fdp_rules.specs.Sites.{moved_by}
 use Rattle.fdp_tables.specs.State.{copy_of}
 use Rattle.fdp_tables.proofs.Walks.{IsMapped, mapped_end_by, mapped_start, mapped_step_by}
 use Rattle.fdp_tables.proofs.trail.move_all.Goals as goal

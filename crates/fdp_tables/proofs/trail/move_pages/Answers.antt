@@ -1,6 +1,6 @@
 use Rattle.std.proofs.Common.{None, map}
 use Rattle.std.specs.Prelude.{option_map}
-use Rattle.fdp_base.specs.Sites.{moved_by}
+use Rattle.fdp_rules.specs.Sites.{moved_by}
 use Rattle.fdp_tables.specs.State.{copy_of}
 use Rattle.fdp_tables.proofs.Walks.{mapped_step}
 use Rattle.fdp_tables.proofs.trail.move_pages.Goals as goal

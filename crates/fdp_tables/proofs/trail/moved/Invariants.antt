@@ -1,4 +1,4 @@
-use Rattle.fdp_base.specs.Sites.{is_spot}
+use Rattle.fdp_rules.specs.Sites.{is_spot}
 use Rattle.fdp_tables.proofs.Walks.{IsSeekingCopy}
 use Rattle.fdp_tables.proofs.trail.moved.Given as goal
 

@@ -1,6 +1,6 @@
 use Rattle.std.proofs.Common.{true, ◌∙◌, sym}
 use Rattle.std.proofs.lemmas.Bool.{false≢true}
-use Rattle.fdp_base.specs.Step.{Follows}
+use Rattle.fdp_rules.specs.Step.{Follows}
 use Rattle.fdp_tables.specs.State.{point_kept}
 use Rattle.fdp_plain.proofs.Refusing.{cause_of}
 use Rattle.fdp_plain.proofs.Sound.{history_sound}

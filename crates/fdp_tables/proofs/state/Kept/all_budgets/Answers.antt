@@ -1,5 +1,5 @@
 use Rattle.std.proofs.Common.{ℕ, ◌+◌, ◌∙◌, arith, subst, sym}
-use Rattle.fdp_base.specs.Room.{budget}
+use Rattle.fdp_rules.specs.Room.{budget}
 use Rattle.fdp_tables.specs.State.{plain_of}
 use Rattle.fdp_tables.proofs.Counting.{IsSumming, summing_end, summing_next}
 use Rattle.fdp_tables.proofs.state.Kept.all_budgets.Goals as goal

@@ -1,5 +1,5 @@
 use Rattle.std.proofs.Common.{◌≤◌, ◌*◌, ◌^◌}
-use Rattle.fdp_base.specs.Room.{budget}
+use Rattle.fdp_rules.specs.Room.{budget}
 use Rattle.fdp_tables.specs.State.{plain_of}
 use Rattle.fdp_tables.proofs.Counting.{IsSumming}
 use Rattle.fdp_tables.proofs.state.Kept.all_budgets.Given as goal

@@ -1,4 +1,4 @@
-use Rattle.fdp_base.specs.Room.{size_of}
+use Rattle.fdp_rules.specs.Room.{size_of}
 use Rattle.fdp_tables.specs.State.{plain_of}
 use Rattle.fdp_tables.proofs.Counting.{IsSummedOver}
 use Rattle.fdp_tables.proofs.state.Kept.all_sizes.Given as goal

@@ -1,5 +1,5 @@
 use Rattle.std.proofs.Common.{arith}
-use Rattle.fdp_base.specs.Events.{is_of_handle}
+use Rattle.fdp_rules.specs.Events.{is_of_handle}
 use Rattle.fdp_tables.specs.State.{plain_of}
 use Rattle.fdp_tables.proofs.Choosing.{choosing_end, choosing_next}
 use Rattle.fdp_tables.proofs.state.Kept.blocks_of_handle.Goals as goal

@@ -1,4 +1,4 @@
-use Rattle.fdp_base.specs.Events.{is_of_handle}
+use Rattle.fdp_rules.specs.Events.{is_of_handle}
 use Rattle.fdp_tables.specs.State.{plain_of}
 use Rattle.fdp_tables.proofs.Choosing.{IsChoosing}
 use Rattle.fdp_tables.proofs.state.Kept.blocks_of_handle.Given as goal

@@ -1,6 +1,6 @@
 use Rattle.std.proofs.Common.{◌<◌, ◌≤◌, ◌∙◌, ap, arith, length, None}
 use Rattle.std.specs.Prelude.{if◌then◌else◌, option_map}
-use Rattle.fdp_base.specs.Effect.{is_in_ranges}
+use Rattle.fdp_rules.specs.Effect.{is_in_ranges}
 use Rattle.fdp_tables.specs.Spaces.{block_in}
 use Rattle.fdp_tables.specs.State.{namespace_of, plain_of}
 use Rattle.fdp_tables.proofs.Spaces.{space_absent, space_changed}

@@ -1,9 +1,9 @@
 use Rattle.std.proofs.Common.{ℕ, ◌∙◌, ◌∷◌, List, None, Option, ap, cond}
-use Rattle.fdp_base.specs.Change.{is_media_error}
+use Rattle.fdp_rules.specs.Change.{is_media_error}
 use Rattle.fdp_base.specs.CommandKinds.{is_write}
-use Rattle.fdp_base.specs.Effect.{effect_of}
+use Rattle.fdp_rules.specs.Effect.{effect_of}
 use Rattle.fdp_base.specs.Numbers.{with_at}
-use Rattle.fdp_base.specs.PlainState.{Going}
+use Rattle.fdp_rules.specs.PlainState.{Going}
 use Rattle.fdp_tables.specs.declared.state.Kept.{Kept}
 use Rattle.fdp_tables.specs.State.{plain_of}
 use Rattle.fdp_tables.proofs.Completing.{completed}

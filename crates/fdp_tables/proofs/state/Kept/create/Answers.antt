@@ -1,10 +1,10 @@
 use Rattle.std.proofs.Common.{◌≡◌, ◌∙◌, ℕ, ap, sym, Some}
 use Rattle.std.specs.Prelude.{◌==◌, if◌then◌else◌, option_map, unwrap_or}
-use Rattle.fdp_base.specs.Effect.{created, effect_of}
+use Rattle.fdp_rules.specs.Effect.{created, effect_of}
 use Rattle.fdp_base.specs.Numbers.{with_at}
-use Rattle.fdp_base.specs.PlainState.{Block, PlainState}
-use Rattle.fdp_base.specs.Refusal.{is_absent}
-use Rattle.fdp_base.specs.Room.{namespace_ids}
+use Rattle.fdp_rules.specs.PlainState.{Block, PlainState}
+use Rattle.fdp_rules.specs.Refusal.{is_absent}
+use Rattle.fdp_rules.specs.Room.{namespace_ids}
 use Rattle.fdp_tables.specs.Spaces.{block_in}
 use Rattle.fdp_tables.specs.State.{block_of, plain_of, row}
 use Rattle.fdp_tables.proofs.Spaces.{absent_row, blocks_in, find_passes, none_of, with_at_same}

@@ -1,6 +1,6 @@
 use Rattle.std.proofs.Common.{◌≡◌, None, subst}
 use Rattle.fdp_base.specs.declared.command.Command.{Command}
-use Rattle.fdp_base.specs.Refusal.{refusal_of}
+use Rattle.fdp_rules.specs.Refusal.{refusal_of}
 use Rattle.fdp_tables.specs.State.{point_kept}
 use Rattle.fdp_tables.proofs.Accepted.{log_is_short, read_fits, status_is_short}
 use Rattle.fdp_tables.proofs.state.Kept.data_of.Goals as goal

@@ -1,6 +1,6 @@
 use Rattle.std.proofs.Common.{ap, ◌∙◌, ◌≡◌, []}
 use Rattle.fdp_base.specs.Numbers.{with_at}
-use Rattle.fdp_base.specs.Sites.{group_of}
+use Rattle.fdp_rules.specs.Sites.{group_of}
 use Rattle.fdp_tables.specs.State.{copies_at}
 use Rattle.fdp_tables.proofs.state.Kept.empty.Goals as goal
 

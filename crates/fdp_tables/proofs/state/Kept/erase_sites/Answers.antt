@@ -1,7 +1,7 @@
 use Rattle.std.proofs.Common.{refl}
 use Rattle.std.specs.Prelude.{option_and_then}
 use Rattle.std.specs.Vec.{vec_items}
-use Rattle.fdp_base.specs.Sites.{outside}
+use Rattle.fdp_rules.specs.Sites.{outside}
 use Rattle.fdp_tables.proofs.Placing.{count_of_rows}
 use Rattle.fdp_tables.proofs.Walks.{row_of_rows}
 use Rattle.fdp_tables.proofs.state.Kept.erase_sites.Goals as goal

@@ -1,6 +1,6 @@
 use Rattle.std.proofs.Common.{ℕ, ◌<◌}
 use Rattle.std.specs.Prelude.{IsSome}
-use Rattle.fdp_base.specs.PlainState.{PageName.written}
+use Rattle.fdp_rules.specs.PlainState.{PageName.written}
 use Rattle.fdp_tables.specs.State.{site_at}
 use Rattle.fdp_tables.proofs.state.Kept.has_each_page.Given as goal
 

@@ -1,6 +1,6 @@
 use Rattle.std.proofs.Common.{◌∙◌, ap, sym}
 use Rattle.std.specs.List.{list_any}
-use Rattle.fdp_base.specs.Refusal.{is_present}
+use Rattle.fdp_rules.specs.Refusal.{is_present}
 use Rattle.fdp_tables.specs.State.{plain_of}
 use Rattle.fdp_tables.proofs.Counting.{namespace_ids_are}
 use Rattle.fdp_tables.proofs.state.Kept.has_namespace.Goals as goal

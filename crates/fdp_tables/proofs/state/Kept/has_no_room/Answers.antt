@@ -1,6 +1,6 @@
 use Rattle.std.proofs.Common.{ℕ, ◌∙◌, ap}
-use Rattle.fdp_base.specs.Room.{is_over_budget}
-use Rattle.fdp_base.specs.Target.{Target, target_of}
+use Rattle.fdp_rules.specs.Room.{is_over_budget}
+use Rattle.fdp_rules.specs.Target.{Target, target_of}
 use Rattle.fdp_tables.specs.State.{plain_of}
 use Rattle.fdp_tables.proofs.state.Kept.has_no_room.Goals as goal
 

@@ -1,6 +1,6 @@
 use Rattle.std.proofs.Common.{ℕ, ◌∙◌, ap}
 use Rattle.std.specs.Prelude.{Option}
-use Rattle.fdp_base.specs.Refusal.{has_no_room}
+use Rattle.fdp_rules.specs.Refusal.{has_no_room}
 use Rattle.fdp_tables.specs.State.{plain_of}
 use Rattle.fdp_tables.proofs.state.Kept.has_no_room_for.Goals as goal
 

@@ -1,5 +1,5 @@
 use Rattle.std.proofs.Common.{ℕ, ◌∙◌, Bool, arith, sym}
-use Rattle.fdp_base.specs.Room.{has_more_room}
+use Rattle.fdp_rules.specs.Room.{has_more_room}
 use Rattle.fdp_tables.specs.State.{plain_of}
 use Rattle.fdp_tables.specs.declared.state.Kept.{Kept}
 use Rattle.fdp_tables.proofs.Counting.{asking_end, asking_found, asking_next}

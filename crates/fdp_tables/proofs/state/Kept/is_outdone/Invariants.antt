@@ -1,4 +1,4 @@
-use Rattle.fdp_base.specs.Room.{has_more_room}
+use Rattle.fdp_rules.specs.Room.{has_more_room}
 use Rattle.fdp_tables.specs.State.{plain_of}
 use Rattle.fdp_tables.proofs.Counting.{IsAsking}
 use Rattle.fdp_tables.proofs.state.Kept.is_outdone.Given as goal

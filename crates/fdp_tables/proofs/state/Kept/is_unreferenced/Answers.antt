@@ -2,7 +2,7 @@ use Rattle.std.proofs.Common.{◌∙◌, List, arith, refl, subst, sym}
 use mathlib.Core.Bool.{true≢false}
 use Rattle.fdp_tables.specs.declared.state.KeptReference.{KeptReference}
 use Rattle.fdp_tables.specs.Judging.{EachIn, IsFreeOf}
-use Rattle.fdp_base.specs.Step.{IsUnreferenced}
+use Rattle.fdp_rules.specs.Step.{IsUnreferenced}
 use Rattle.fdp_tables.specs.State.{plain_of}
 use Rattle.fdp_tables.proofs.Referenced.{each_free, none_names}
 use Rattle.fdp_tables.proofs.Scanning.{at_place, each_at_first, each_at_last, each_next}

@@ -1,7 +1,7 @@
 use Rattle.std.proofs.Common.{true, subst, sym}
 use Rattle.std.specs.Prelude.{Decides, IfOk}
 use Rattle.fdp_base.specs.declared.entry.Entry.{Entry}
-use Rattle.fdp_base.specs.Step.{Follows}
+use Rattle.fdp_rules.specs.Step.{Follows}
 use Rattle.fdp_tables.specs.State.{point_kept}
 use Rattle.fdp_tables.proofs.state.Kept.judge.Goals as goal
 

@@ -1,6 +1,6 @@
 use Rattle.std.proofs.Common.{◌∙◌, ap, arith, sym}
 use Rattle.std.specs.Prelude.{find}
-use Rattle.fdp_base.specs.Refusal.{is_absent}
+use Rattle.fdp_rules.specs.Refusal.{is_absent}
 use Rattle.fdp_tables.specs.State.{plain_of}
 use Rattle.fdp_tables.proofs.Counting.{namespace_ids_are, seeking_in_end, seeking_in_found, seeking_in_next}
 use Rattle.fdp_tables.proofs.state.Kept.lowest_free.Goals as goal

@@ -1,4 +1,4 @@
-use Rattle.fdp_base.specs.Refusal.{is_absent}
+use Rattle.fdp_rules.specs.Refusal.{is_absent}
 use Rattle.fdp_tables.specs.State.{plain_of}
 use Rattle.fdp_tables.proofs.Counting.{IsSeekingIn}
 use Rattle.fdp_tables.proofs.state.Kept.lowest_free.Given as goal

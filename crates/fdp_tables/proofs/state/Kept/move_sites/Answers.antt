@@ -2,8 +2,8 @@ use Rattle.std.proofs.Common.{refl, map, ap, sym, ◌∙◌, ◌≡◌, length, 
 use Rattle.std.specs.Option.{option_map_or, option_map}
 use Rattle.std.specs.Vec.{vec_items}
 use Rattle.std.proofs.lemmas.Option.{slice_get_read}
-use Rattle.fdp_base.specs.PlainState.PageName.{written}
-use Rattle.fdp_base.specs.Sites.{last_run, moved_by}
+use Rattle.fdp_rules.specs.PlainState.PageName.{written}
+use Rattle.fdp_rules.specs.Sites.{last_run, moved_by}
 use Rattle.fdp_tables.specs.State.{copies_at, copy_of, site_at}
 use Rattle.fdp_tables.proofs.Placing.{count_of_rows}
 use Rattle.fdp_tables.proofs.Walks.{row_of_rows}

@@ -1,8 +1,8 @@
 use Rattle.std.proofs.Common.{◌∙◌, List, [], ap, arith, flat_map, sym}
 use Rattle.fdp_base.specs.declared.entry.BlockName.{BlockName}
 use Rattle.fdp_base.specs.declared.entry.Spot.{Spot}
-use Rattle.fdp_base.specs.Point.{Copy}
-use Rattle.fdp_base.specs.Sites.{blocks_at}
+use Rattle.fdp_rules.specs.Point.{Copy}
+use Rattle.fdp_rules.specs.Sites.{blocks_at}
 use Rattle.fdp_tables.specs.State.{copy_of, point_kept}
 use Rattle.fdp_tables.proofs.Collecting.{collecting_in_end, flat_map-map}
 use Rattle.fdp_tables.proofs.state.Kept.moved_blocks.Goals as goal

@@ -1,6 +1,6 @@
 use Rattle.std.proofs.Common.{[]}
 use Rattle.fdp_base.specs.declared.entry.Spot.{Spot}
-use Rattle.fdp_base.specs.Sites.{blocks_at}
+use Rattle.fdp_rules.specs.Sites.{blocks_at}
 use Rattle.fdp_tables.specs.State.{point_kept}
 use Rattle.fdp_tables.proofs.Collecting.{IsCollectingIn}
 use Rattle.fdp_tables.proofs.state.Kept.moved_blocks.Given as goal

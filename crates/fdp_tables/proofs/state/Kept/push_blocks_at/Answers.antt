@@ -1,6 +1,6 @@
 use Rattle.std.proofs.Common.{ℕ, ◌∙◌, ◌++◌, List, ap, arith, flat_map, sym}
 use Rattle.fdp_base.specs.declared.entry.BlockName.{BlockName}
-use Rattle.fdp_base.specs.Sites.{blocks_in}
+use Rattle.fdp_rules.specs.Sites.{blocks_in}
 use Rattle.fdp_tables.specs.State.{point_kept}
 use Rattle.fdp_tables.proofs.Collecting.{collecting_in_end, collecting_in_next}
 use Rattle.fdp_tables.proofs.Counting.{namespace_ids_are}

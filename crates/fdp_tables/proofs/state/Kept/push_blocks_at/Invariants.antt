@@ -1,4 +1,4 @@
-use Rattle.fdp_base.specs.Sites.{blocks_in}
+use Rattle.fdp_rules.specs.Sites.{blocks_in}
 use Rattle.fdp_tables.specs.State.{point_kept}
 use Rattle.fdp_tables.proofs.Collecting.{IsCollectingIn}
 use Rattle.fdp_tables.proofs.state.Kept.push_blocks_at.Given as goal

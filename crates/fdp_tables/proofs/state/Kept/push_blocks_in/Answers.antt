@@ -1,8 +1,8 @@
 use Rattle.std.proofs.Common.{ℕ, ◌∙◌, ◌++◌, List, ap, arith, sym}
 use Rattle.fdp_base.specs.declared.entry.BlockName.{BlockName}
 use Rattle.fdp_base.specs.Numbers.{numbers_below}
-use Rattle.fdp_base.specs.Room.{size_of}
-use Rattle.fdp_base.specs.Sites.{site_of, stands_at}
+use Rattle.fdp_rules.specs.Room.{size_of}
+use Rattle.fdp_rules.specs.Sites.{site_of, stands_at}
 use Rattle.fdp_tables.specs.State.{plain_of, point_kept}
 use Rattle.fdp_tables.proofs.Collecting.{collecting_end, collecting_next, filtered}
 use Rattle.fdp_tables.proofs.state.Kept.push_blocks_in.Invariants.{there}

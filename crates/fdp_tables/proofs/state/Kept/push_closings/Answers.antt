@@ -1,6 +1,6 @@
 use Rattle.std.proofs.Common.{◌≡◌, ◌++◌, List, ap, arith}
 use Rattle.std.specs.List.{each_same}
-use Rattle.fdp_base.specs.Events.{update_events}
+use Rattle.fdp_rules.specs.Events.{update_events}
 use Rattle.fdp_tables.specs.declared.state.KeptReference.{KeptReference}
 use Rattle.fdp_tables.specs.Keeping.{kept_of, references_in}
 use Rattle.fdp_tables.specs.State.{plain_of, reference_at}

@@ -1,5 +1,5 @@
-use Rattle.fdp_base.specs.LogPages.{descriptor}
-use Rattle.fdp_tables.proofs.Appending.{IsAppendingOver}
+use Rattle.fdp_rules.specs.LogPages.{descriptor}
+use Rattle.fdp_logs.proofs.Appending.{IsAppendingOver}
 use Rattle.fdp_tables.proofs.state.Kept.push_descriptors.Given as goal
 
 abbrev pub invariant-loop-index : goal.invariant-loop-index

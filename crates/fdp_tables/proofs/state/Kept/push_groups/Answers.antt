@@ -1,5 +1,5 @@
 use Rattle.std.proofs.Common.{ℕ, ◌+◌, List, arith, subst, sym}
-use Rattle.fdp_base.specs.LogPages.{status_descriptor}
+use Rattle.fdp_rules.specs.LogPages.{status_descriptor}
 use Rattle.fdp_tables.specs.State.{plain_of}
 use Rattle.fdp_tables.proofs.Appending.{IsAppending, appending_end, appending_next}
 use Rattle.fdp_tables.proofs.state.Kept.push_groups.Goals as goal

@@ -1,4 +1,4 @@
-use Rattle.fdp_base.specs.LogPages.{status_descriptor}
+use Rattle.fdp_rules.specs.LogPages.{status_descriptor}
 use Rattle.fdp_tables.specs.State.{plain_of}
 use Rattle.fdp_tables.proofs.Appending.{IsAppending}
 use Rattle.fdp_tables.proofs.state.Kept.push_groups.Given as goal

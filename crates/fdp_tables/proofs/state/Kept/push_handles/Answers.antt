@@ -1,6 +1,6 @@
 use Rattle.std.proofs.Common.{ℕ, List, arith}
 use Rattle.std.specs.Prelude.{flat_map}
-use Rattle.fdp_base.specs.LogPages.{status_descriptor}
+use Rattle.fdp_rules.specs.LogPages.{status_descriptor}
 use Rattle.fdp_base.specs.Numbers.{numbers_below}
 use Rattle.fdp_tables.specs.State.{plain_of}
 use Rattle.fdp_tables.specs.declared.state.Kept.{Kept}

@@ -1,9 +1,9 @@
 use Rattle.std.proofs.Common.{ℕ, ◌∙◌, ◌++◌, List, ap, arith}
 use Rattle.std.specs.Prelude.{filter}
 use Rattle.fdp_base.specs.declared.event.Event.{Event}
-use Rattle.fdp_base.specs.Events.{is_of_handle, reallocated}
+use Rattle.fdp_rules.specs.Events.{is_of_handle, reallocated}
 use Rattle.fdp_base.specs.Numbers.{numbers_below}
-use Rattle.fdp_base.specs.Room.{handles_in_force}
+use Rattle.fdp_rules.specs.Room.{handles_in_force}
 use Rattle.fdp_tables.specs.State.{plain_of}
 use Rattle.fdp_tables.proofs.Closing.{kept_pieces}
 use Rattle.fdp_tables.proofs.Collecting.{collecting_end, collecting_next}

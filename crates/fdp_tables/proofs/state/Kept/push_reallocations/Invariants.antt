@@ -2,8 +2,8 @@ use Rattle.std.proofs.Common.{ℕ, List}
 use Rattle.std.specs.Prelude.{filter}
 use Rattle.fdp_base.specs.declared.entry.BlockName.{BlockName}
 use Rattle.fdp_base.specs.declared.event.Event.{Event}
-use Rattle.fdp_base.specs.Events.{is_of_handle, reallocated}
-use Rattle.fdp_base.specs.Room.{handles_in_force}
+use Rattle.fdp_rules.specs.Events.{is_of_handle, reallocated}
+use Rattle.fdp_rules.specs.Room.{handles_in_force}
 use Rattle.fdp_tables.specs.declared.state.Kept.{Kept}
 use Rattle.fdp_tables.specs.Keeping.{kept_of}
 use Rattle.fdp_tables.specs.State.{plain_of}

@@ -1,5 +1,5 @@
 use Rattle.std.proofs.Common.{ℕ, ◌+◌, List, ◌∷◌, ◌++◌, ◌∙◌, ap, arith, subst, sym}
-use Rattle.fdp_base.specs.LogPages.{usage_of, zeros}
+use Rattle.fdp_rules.specs.LogPages.{usage_of, zeros}
 use Rattle.fdp_tables.specs.State.{plain_of}
 use Rattle.fdp_tables.proofs.Appending.{IsAppending, appending_end, appending_next}
 use Rattle.fdp_tables.proofs.state.Kept.push_usages.Goals as goal
@@ -11,7 +11,7 @@ loop-ruh-preserved c =
     let out = c.loop-ruh.log.items in
     let next = appending_next piece c.args.handles c.loop-ruh.ruh start out (omega arith) c.loop-ruh.invariant in
     subst (λ (x : List ℕ). IsAppending piece c.args.handles (c.loop-ruh.ruh + 1) start x)
-    (sym (c.in_ok-push_padded.ensures ∙ ap (λ (u : ℕ). out ++ u ∷ zeros 7) c.usage_of.ensures)) next
+    (sym (c.in_ok-extend_from_slice.ensures.items ∙ ap (λ (x : List ℕ). out ++ x) (c.usage_frame.ensures ∙ ap (λ (u : ℕ). u ∷ zeros 7) c.usage_of.ensures))) next
 
 pub returns : goal.returns
 returns c =

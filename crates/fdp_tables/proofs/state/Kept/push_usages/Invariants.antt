@@ -1,5 +1,5 @@
 use Rattle.std.proofs.Common.{◌∷◌}
-use Rattle.fdp_base.specs.LogPages.{usage_of, zeros}
+use Rattle.fdp_rules.specs.LogPages.{usage_of, zeros}
 use Rattle.fdp_tables.specs.State.{plain_of}
 use Rattle.fdp_tables.proofs.Appending.{IsAppending}
 use Rattle.fdp_tables.proofs.state.Kept.push_usages.Given as goal

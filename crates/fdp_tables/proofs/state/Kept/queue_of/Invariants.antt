@@ -1,4 +1,4 @@
-use Rattle.fdp_base.specs.Change.{holds_ticket}
+use Rattle.fdp_rules.specs.Change.{holds_ticket}
 use Rattle.fdp_tables.specs.State.{plain_of}
 use Rattle.fdp_tables.proofs.Walks.{IsSeekingQueue}
 use Rattle.fdp_tables.proofs.state.Kept.queue_of.Given as goal

@@ -1,5 +1,5 @@
 use Rattle.std.proofs.Common.{◌+◌, [], arith}
-use Rattle.fdp_base.specs.Answer.{read_block}
+use Rattle.fdp_rules.specs.Answer.{read_block}
 use Rattle.fdp_tables.specs.State.{plain_of}
 use Rattle.fdp_tables.proofs.Appending.{appending_from_end, appending_from_next}
 use Rattle.fdp_tables.proofs.state.Kept.read.Goals as goal

@@ -1,5 +1,5 @@
 use Rattle.std.proofs.Common.{◌+◌, []}
-use Rattle.fdp_base.specs.Answer.{read_block}
+use Rattle.fdp_rules.specs.Answer.{read_block}
 use Rattle.fdp_tables.specs.State.{plain_of}
 use Rattle.fdp_tables.proofs.Appending.{IsAppendingFrom}
 use Rattle.fdp_tables.proofs.state.Kept.read.Given as goal

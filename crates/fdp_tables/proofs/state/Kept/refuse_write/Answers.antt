@@ -1,5 +1,5 @@
 use Rattle.std.proofs.Common.{◌∙◌, sym}
-use Rattle.fdp_base.specs.Refusal.{checks_of, refusal_of}
+use Rattle.fdp_rules.specs.Refusal.{checks_of, refusal_of}
 use Rattle.fdp_tables.proofs.Refusing.{refuses_none, refuses_room}
 use Rattle.fdp_tables.proofs.state.Kept.refuse_write.Goals as goal
 

@@ -2,7 +2,7 @@ use Rattle.std.proofs.Common.{ℕ, ◌∙◌, Bool, not, arith, sym, ap}
 use Rattle.std.specs.Prelude.{unwrap_or}
 use Rattle.std.specs.List.{list_any}
 use Rattle.fdp_base.specs.Numbers.{numbers_below}
-use Rattle.fdp_base.specs.Room.{has_more_room}
+use Rattle.fdp_rules.specs.Room.{has_more_room}
 use Rattle.fdp_tables.specs.State.{plain_of}
 use Rattle.fdp_tables.specs.declared.state.Kept.{Kept}
 use Rattle.fdp_tables.proofs.Counting.{seeking_end, seeking_found, seeking_next}

@@ -1,7 +1,7 @@
 use Rattle.std.proofs.Common.{not}
 use Rattle.std.specs.List.{list_any}
 use Rattle.fdp_base.specs.Numbers.{numbers_below}
-use Rattle.fdp_base.specs.Room.{has_more_room}
+use Rattle.fdp_rules.specs.Room.{has_more_room}
 use Rattle.fdp_tables.specs.State.{plain_of}
 use Rattle.fdp_tables.proofs.Counting.{IsSeeking}
 use Rattle.fdp_tables.proofs.state.Kept.roomiest.Given as goal

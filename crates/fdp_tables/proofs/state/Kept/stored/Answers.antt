@@ -1,5 +1,5 @@
 use Rattle.std.proofs.Common.{◌∙◌, ap}
-use Rattle.fdp_base.specs.Room.{stored_where}
+use Rattle.fdp_rules.specs.Room.{stored_where}
 use Rattle.fdp_tables.specs.State.{plain_of}
 use Rattle.fdp_tables.proofs.Counting.{none_among}
 use Rattle.fdp_tables.proofs.state.Kept.stored.Goals as goal

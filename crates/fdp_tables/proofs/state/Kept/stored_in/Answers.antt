@@ -1,6 +1,6 @@
 use Rattle.std.proofs.Common.{◌≡◌, ℕ, ◌+◌, Bool, not, ◌&&◌, ◌==◌, arith, cond, subst, sym}
 use Rattle.fdp_base.specs.Numbers.{is_among}
-use Rattle.fdp_base.specs.Room.{lies_in, size_of}
+use Rattle.fdp_rules.specs.Room.{lies_in, size_of}
 use Rattle.fdp_tables.specs.State.{plain_of}
 use Rattle.fdp_tables.proofs.Counting.{IsCounting, byte_is, counting_end, counting_next}
 use Rattle.fdp_tables.proofs.state.Kept.stored_in.Goals as goal

@@ -1,6 +1,6 @@
 use Rattle.std.proofs.Common.{ℕ, not, ◌&&◌, ◌==◌}
 use Rattle.fdp_base.specs.Numbers.{count_below, is_among}
-use Rattle.fdp_base.specs.Room.{lies_in, size_of}
+use Rattle.fdp_rules.specs.Room.{lies_in, size_of}
 use Rattle.fdp_tables.specs.declared.state.Kept.{Kept}
 use Rattle.fdp_tables.specs.State.{plain_of}
 use Rattle.fdp_tables.proofs.Counting.{IsSummedOver}

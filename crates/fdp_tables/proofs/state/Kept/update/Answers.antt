@@ -1,8 +1,8 @@
 use Rattle.std.proofs.Common.{◌≡◌, ◌∙◌, ap, sym, take}
 use Rattle.std.specs.Prelude.{fold}
 use Rattle.std.proofs.lemmas.List.{take_all}
-use Rattle.fdp_base.specs.Effect.{References, effect_of, updated_by}
-use Rattle.fdp_base.specs.PlainState.{PlainState}
+use Rattle.fdp_rules.specs.Effect.{References, effect_of, updated_by}
+use Rattle.fdp_rules.specs.PlainState.{PlainState}
 use Rattle.fdp_tables.specs.State.{plain_of, reference_at}
 use Rattle.fdp_tables.proofs.Sounds.{referenced_sound}
 use Rattle.fdp_tables.proofs.state.Kept.update.Goals as goal

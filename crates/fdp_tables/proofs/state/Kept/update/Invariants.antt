@@ -1,6 +1,6 @@
 use Rattle.std.proofs.Common.{◌≡◌, take, length}
 use Rattle.std.specs.Prelude.{fold}
-use Rattle.fdp_base.specs.Effect.{updated_by}
+use Rattle.fdp_rules.specs.Effect.{updated_by}
 use Rattle.fdp_tables.specs.State.{plain_of, reference_at}
 use Rattle.fdp_tables.proofs.state.Kept.update.Given as goal
 

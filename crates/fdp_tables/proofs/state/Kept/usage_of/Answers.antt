@@ -1,8 +1,8 @@
 use Rattle.std.proofs.Common.{◌≡◌, Bool, true, false, ◌∙◌, ap, sym}
 use Rattle.std.specs.Prelude.{if◌then◌else◌}
 use Rattle.std.specs.List.{list_any}
-use Rattle.fdp_base.specs.LogPages.{gives_handle, lists_handle}
-use Rattle.fdp_base.specs.Room.{namespace_ids}
+use Rattle.fdp_rules.specs.LogPages.{gives_handle, lists_handle}
+use Rattle.fdp_rules.specs.Room.{namespace_ids}
 use Rattle.fdp_tables.specs.State.{plain_of}
 use Rattle.fdp_tables.proofs.Counting.{namespace_ids_are}
 use Rattle.fdp_tables.proofs.state.Kept.usage_of.Goals as goal

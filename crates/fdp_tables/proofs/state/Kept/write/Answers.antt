@@ -1,6 +1,6 @@
 use Rattle.std.proofs.Common.{◌≡◌, ◌∙◌, ◌-◌, ℕ, ap, cond, length, sym, Some}
 use Rattle.std.specs.Prelude.{◌==◌, ◌&&◌, if◌then◌else◌, option_map}
-use Rattle.fdp_base.specs.Effect.{block_of_write, effect_of}
+use Rattle.fdp_rules.specs.Effect.{block_of_write, effect_of}
 use Rattle.fdp_base.specs.Numbers.{is_among}
 use Rattle.fdp_tables.specs.State.{block_of, plain_of, row}
 use Rattle.fdp_tables.proofs.Spaces.{if_same, offset_among}

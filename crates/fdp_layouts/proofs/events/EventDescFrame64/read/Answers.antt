@@ -1,0 +1,5 @@
+use Rattle.fdp_layouts.proofs.EventsApart.{event_desc_by_numbers}
+use Rattle.fdp_layouts.proofs.events.EventDescFrame64.read.Goals as goal
+
+pub returns-clause-known : goal.returns-clause-known
+returns-clause-known c = event_desc_by_numbers _
