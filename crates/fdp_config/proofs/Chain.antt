@@ -9,18 +9,21 @@ use Rattle.fdp_config.proofs.Checks.{option_or-none}
 use Rattle.fdp_base.specs.declared.config.Class.{Class}
 use Rattle.toml.specs.Data.{Members}
 use Rattle.fdp_config.specs.Document.{elements_of, truth_of, value_at}
-use Rattle.fdp_config.specs.Reading.{amount_at, classes_in, config_in}
-use Rattle.fdp_config.specs.Faults.{IsInByteOrder, first_range_fault}
+use Rattle.fdp_config.specs.Document.{amount_at}
+use Rattle.fdp_config.specs.Reader.Config.{classes_in, config_in}
+use Rattle.fdp_config.specs.Faults.{IsInByteOrder}
+use Rattle.fdp_config.specs.Reader.First.{first_range_fault}
 use Rattle.fdp_config.specs.Ranges.{configurations_fault, listable, namespaces_fault, range_fault}
+use Rattle.fdp_config.specs.Reader.Checks.{read_fault}
 
 -- each of these keys is in its range
 abbrev pub AllPast : Members → List Key → Type 0
 AllPast doc [] = Unit {0}
-AllPast doc (key ∷ rest) = (range_fault doc key ≡ None) × AllPast doc rest
+AllPast doc (key ∷ rest) = (read_fault doc key ≡ None) × AllPast doc rest
 
 -- behind keys that are in range the next one's fault is told
 pub stop_after : (doc : Members) (before after : List Key) (key : Key) (told : ℕ) (fault : ConfigFault)
-    → AllPast doc before → range_fault doc key ≡ Some told → fault ≡ Range key told → first_range_fault doc (before ++ (key ∷ after)) ≡ Some fault
+    → AllPast doc before → read_fault doc key ≡ Some told → fault ≡ Range key told → first_range_fault doc (before ++ (key ∷ after)) ≡ Some fault
 unfolding first_range_fault
 stop_after doc [] after key told fault past fails is = rw (fails, is) refl
 stop_after doc (k ∷ before) after key told fault past fails is = rw past.0 (stop_after doc before after key told fault past.1 fails is)
@@ -39,17 +42,17 @@ pub past_all : (doc : Members) (keys : List Key) → first_range_fault doc keys 
 unfolding first_range_fault
 past_all doc [] none = tt
 past_all doc (key ∷ rest) none =
-    let (here, more) = none_past key (range_fault doc key) (first_range_fault doc rest) none in (here, past_all doc rest more)
+    let (here, more) = none_past key (read_fault doc key) (first_range_fault doc rest) none in (here, past_all doc rest more)
 
-pub enabled_range : (doc : Members) → range_fault doc Enabled ≡ None
+pub enabled_range : (doc : Members) → read_fault doc Enabled ≡ None
 unfolding range_fault
 enabled_range doc = refl
 
-pub fdp_range : (doc : Members) → range_fault doc Fdp ≡ configurations_fault (elements_of (value_at doc Fdp))
+pub fdp_range : (doc : Members) → read_fault doc Fdp ≡ configurations_fault (elements_of (value_at doc Fdp))
 unfolding range_fault
 fdp_range doc = option_or-none (configurations_fault (elements_of (value_at doc Fdp)))
 
-pub namespaces_range : (doc : Members) (count : ℕ) → count ≡ listable (config_in doc) → range_fault doc Namespaces ≡ namespaces_fault count (elements_of (value_at doc Namespaces))
+pub namespaces_range : (doc : Members) (count : ℕ) → count ≡ listable (config_in doc) → read_fault doc Namespaces ≡ namespaces_fault count (elements_of (value_at doc Namespaces))
 unfolding range_fault
 namespaces_range doc count same = rw (← same) (option_or-none (namespaces_fault count (elements_of (value_at doc Namespaces))))
 
@@ -58,7 +61,7 @@ pub listable_is : (doc : Members) (fdp : List (List Class)) (enabled : Bool) (in
     → fdp ≡ map classes_in (elements_of (value_at doc Fdp)) → enabled ≡ truth_of (value_at doc Enabled) → index ≡ amount_at doc Index → count ≡ listable (config_in doc)
 listable_is doc fdp enabled index count is same truth at = rw (is, same, truth, at) refl
 
-range_told : (key : Key) (here : Option ℕ) (rest : Option ConfigFault) (fault : ConfigFault) → option_or (option_map (Range key) here) rest ≡ Some fault
+pub range_told : (key : Key) (here : Option ℕ) (rest : Option ConfigFault) (fault : ConfigFault) → option_or (option_map (Range key) here) rest ≡ Some fault
     → ((told : ℕ) × (fault ≡ Range key told)) ⊎ (rest ≡ Some fault)
 range_told key None rest fault is = inr is
 range_told key (Some told) rest fault is = let same : fault ≡ Range key told = cc in inl (told, same)
@@ -68,7 +71,7 @@ no_word : (doc : Members) (ks : List Key) (word : List ℕ) → first_range_faul
 unfolding first_range_fault
 no_word doc [] word is = cc
 no_word doc (key ∷ rest) word is =
-    elim (range_told key (range_fault doc key) (first_range_fault doc rest) (Unknown word) is) [
+    elim (range_told key (read_fault doc key) (first_range_fault doc rest) (Unknown word) is) [
       | inl here ↦ let same = here.1 in cc
       | inr later ↦ no_word doc rest word later
     ]

@@ -4,7 +4,7 @@ use Rattle.std.specs.Option.{option_or}
 use Rattle.fdp_config.specs.declared.fault.ConfigFault.{ConfigFault}
 use Rattle.fdp_config.specs.declared.fault.ConfigFault.TheVariants.{Range}
 use Rattle.fdp_config.specs.declared.key.Key.{Key}
-use Rattle.fdp_config.specs.Ranges.{checked}
+use Rattle.fdp_config.specs.Reader.Checks.{checked}
 
 -- the fault of a first check is that of both
 pub checked_err : {A B : Type 0} (key : Key) (a : A) (b : B) (o p : Option ℕ) (fault : ConfigFault) → Err fault ≡ checked key a o → Err fault ≡ checked key b (option_or o p)

@@ -14,10 +14,13 @@ use Rattle.fdp_base.specs.Placement.{geometry_of, handle_count}
 use Rattle.toml.specs.Data.{Data, Members, get}
 use Rattle.fdp_config.proofs.Chain.{fdp_range, namespaces_range, past_all}
 use Rattle.fdp_config.specs.Document.{elements, elements_of, natural, number_of, value_at}
-use Rattle.fdp_config.specs.Faults.{first_range_fault}
+use Rattle.fdp_config.specs.Reader.First.{first_range_fault}
 use Rattle.fdp_config.specs.Kinds.{blocks_word, handles_word}
-use Rattle.fdp_config.specs.Ranges.{above, blocks_fault, class_fault, classes_fault, configurations_fault, first_of, handles_fault, has_repeat, is_handle, is_handle_list, is_within, listable, namespace_fault, namespaces_fault, outside, own_fault, range_fault, further_fault}
-use Rattle.fdp_config.specs.Reading.{amount_at, amount_of, classes_in, config_in, given, namespace_in}
+use Rattle.fdp_base.specs.Numbers.{has_repeat}
+use Rattle.fdp_config.specs.Ranges.{above, blocks_fault, class_fault, classes_fault, configurations_fault, first_of, handles_fault, is_handle, is_handle_list, is_within, listable, namespace_fault, namespaces_fault, outside, range_fault, further_fault}
+use Rattle.fdp_config.specs.Reader.Checks.{own_fault, read_fault}
+use Rattle.fdp_config.specs.Document.{amount_at, amount_of}
+use Rattle.fdp_config.specs.Reader.Config.{classes_in, config_in, given, namespace_in}
 use Rattle.fdp_config.specs.Table.{keys, row_of}
 use Rattle.fdp_config.specs.declared.key.Key.{Key}
 use Rattle.fdp_config.specs.declared.key.Key.TheVariants.{Block, UnitPages, Groups, Units, AreaUnits, Queues, BlocksPerCommand, Fdp, Index, Namespaces, QueueDepth, Collectors, Turns}
@@ -43,11 +46,11 @@ inside low high place (pos n) is = within low high n (unless (is_within low high
 inside low high place (negsuc n) is = absurd (cc)
 
 -- a number of the document that is in the range of its row
-number_range : (doc : Members) (key : Key) (low high : ℕ) → (row_of key).shape ≡ Number low high → range_fault doc key ≡ None
-    → IsWithin low high (amount_at doc key) × (further_fault (config_in doc) key ≡ None)
+number_range : (doc : Members) (key : Key) (low high : ℕ) → (row_of key).shape ≡ Number low high → read_fault doc key ≡ None
+    → IsWithin low high (amount_at doc key) × (further_fault doc (config_in doc) key ≡ None)
 unfolding range_fault
 number_range doc key low high shape none =
-    let (own, more) = option_or_none (own_fault doc key) (further_fault (config_in doc) key) none in
+    let (own, more) = option_or_none (own_fault doc key) (further_fault doc (config_in doc) key) none in
     let alone : outside low high 0 (number_of (value_at doc key)) ≡ None = rw shape at own in
     (inside low high 0 (number_of (value_at doc key)) alone, more)
 

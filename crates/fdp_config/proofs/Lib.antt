@@ -5,6 +5,7 @@ pub mod Handles
 pub mod InRange
 pub mod Order
 pub mod Passing
+pub mod Relation
 pub mod Spelled
 pub mod Told
 pub mod Views

@@ -11,13 +11,16 @@ use Rattle.fdp_base.specs.declared.config.DriveConfig.{DriveConfig}
 use Rattle.fdp_base.specs.Config.{HasRoom}
 use Rattle.toml.specs.Data.{Data, string, integer, float, boolean, datetime, array, table, Items, no_items, item, Members, get_member, as_bool}
 use Rattle.toml.specs.View.{items_of}
-use Rattle.fdp_config.proofs.Chain.{fdp_range, namespaces_range, past_all}
+use Rattle.fdp_config.proofs.Chain.{AllPast, fdp_range, namespaces_range, past_all}
 use Rattle.fdp_config.proofs.InRange.{handle_list_parts, if_then, in_range, option_or_none, unless}
 use Rattle.fdp_config.specs.Document.{elements_of, items_list, number_of, truth_of, value_at, words_in}
-use Rattle.fdp_config.specs.Faults.{fault_of, first_range_fault, room_fault}
+use Rattle.fdp_config.specs.Reader.First.{fault_of, first_range_fault, room_fault}
 use Rattle.fdp_config.specs.Kinds.{blocks_word, handles_word, is_array_of, is_key, is_missing, is_namespace, is_namespace_key, is_number, is_of_other_kind, is_text}
-use Rattle.fdp_config.specs.Ranges.{blocks_fault, class_fault, classes_fault, configurations_fault, first_of, handles_fault, is_handle, is_handle_list, is_within, listable, namespace_fault, namespaces_fault, outside, own_fault, further_fault, range_fault}
-use Rattle.fdp_config.specs.Reading.{amount_of, class_named, class_of, classes_in, config_in, given, namespace_in}
+use Rattle.fdp_config.specs.Ranges.{blocks_fault, class_fault, classes_fault, configurations_fault, first_of, handles_fault, is_handle, is_handle_list, is_within, listable, namespace_fault, namespaces_fault, outside, further_fault, range_fault}
+use Rattle.fdp_config.specs.Reader.Checks.{own_fault, read_fault}
+use Rattle.fdp_config.specs.Document.{amount_of}
+use Rattle.fdp_config.specs.Ranges.{class_named, class_of}
+use Rattle.fdp_config.specs.Reader.Config.{classes_in, config_in, given, namespace_in}
 use Rattle.fdp_config.specs.Spelling.{IsConfigOf, Spells, SpellsHandles, SpellsNamespace, SpellsNamespaces, array_of, class_word, classes_array, number}
 use Rattle.fdp_config.specs.Table.{keys, row_of}
 use Rattle.fdp_config.specs.declared.fault.ConfigFault.{ConfigFault}
@@ -26,7 +29,7 @@ use Rattle.fdp_config.specs.declared.key.Key.TheVariants.{Block, UnitPages, Grou
 use Rattle.fdp_config.specs.declared.key.Shape.TheVariants.{Number}
 
 -- none fails, so all pass
-all_pass : {X : Type 0} (test : X → Bool) (xs : List X) → find (λ x. not (test x)) xs ≡ None → list_all test xs ≡ true
+pub all_pass : {X : Type 0} (test : X → Bool) (xs : List X) → find (λ x. not (test x)) xs ≡ None → list_all test xs ≡ true
 all_pass test [] none = refl
 all_pass test (x ∷ xs) none =
     elim (test x) as (λ b. (if not b then Some x else find (λ y. not (test y)) xs) ≡ None → (b && list_all test xs) ≡ true) [
@@ -35,7 +38,7 @@ all_pass test (x ∷ xs) none =
     ] none
 
 -- none passes
-abbrev AllFail : {X : Type 0} → (X → Bool) → List X → Type 0
+abbrev pub AllFail : {X : Type 0} → (X → Bool) → List X → Type 0
 AllFail test [] = Unit {0}
 AllFail test (x ∷ xs) = (test x ≡ false) × AllFail test xs
 
@@ -43,12 +46,12 @@ found_none : {X : Type 0} (b : Bool) (x : X) (rest : Option X) → (if b then So
 found_none true x rest is = absurd (cc)
 found_none false x rest is = (refl, is)
 
-all_fail : {X : Type 0} (test : X → Bool) (xs : List X) → find test xs ≡ None → AllFail test xs
+pub all_fail : {X : Type 0} (test : X → Bool) (xs : List X) → find test xs ≡ None → AllFail test xs
 all_fail test [] none = tt
 all_fail test (x ∷ xs) none = let (here, rest) = found_none (test x) x (find test xs) none in (here, all_fail test xs rest)
 
 -- what fails at all keys fails at each
-at_key : (test : Key → Bool) → AllFail test keys → (key : Key) → test key ≡ false
+pub at_key : (test : Key → Bool) → AllFail test keys → (key : Key) → test key ≡ false
 at_key test f Block = f.0
 at_key test f UnitPages = f.1.0
 at_key test f Groups = f.1.1.0
@@ -237,32 +240,54 @@ namespaces_there count (Some (datetime dt)) kind free = absurd (cc)
 namespaces_there count (Some (table ms)) kind free = absurd (cc)
 
 -- the range of a row of numbers
-own_range : (doc : Members) (key : Key) (low high : ℕ) → (row_of key).shape ≡ Number low high → range_fault doc key ≡ None → outside low high 0 (number_of (value_at doc key)) ≡ None
+own_range : (doc : Members) (key : Key) (low high : ℕ) → (row_of key).shape ≡ Number low high → read_fault doc key ≡ None → outside low high 0 (number_of (value_at doc key)) ≡ None
 unfolding range_fault
 own_range doc key low high shape none =
-    let (own, _) = option_or_none (own_fault doc key) (further_fault (config_in doc) key) none in rw shape at own
+    let (own, _) = option_or_none (own_fault doc key) (further_fault doc (config_in doc) key) none in rw shape at own
 
-spelled_at : (doc : Members) → AllFail (is_missing doc) keys → AllFail (is_of_other_kind doc) keys → first_range_fault doc keys ≡ None → (key : Key) → Spells (config_in doc) key (value_at doc key)
-spelled_at doc m k r Block = number_there 512 4096 (value_at doc Block) m.0 k.0 (own_range doc Block 512 4096 refl (past_all doc keys r).0)
-spelled_at doc m k r UnitPages = number_there 2 256 (value_at doc UnitPages) m.1.0 k.1.0 (own_range doc UnitPages 2 256 refl (past_all doc keys r).1.0)
-spelled_at doc m k r Groups = number_there 1 16 (value_at doc Groups) m.1.1.0 k.1.1.0 (own_range doc Groups 1 16 refl (past_all doc keys r).1.1.0)
-spelled_at doc m k r Units = number_there 1 131072 (value_at doc Units) m.1.1.1.0 k.1.1.1.0 (own_range doc Units 1 131072 refl (past_all doc keys r).1.1.1.0)
-spelled_at doc m k r AreaUnits = number_there 1 65536 (value_at doc AreaUnits) m.1.1.1.1.0 k.1.1.1.1.0 (own_range doc AreaUnits 1 65536 refl (past_all doc keys r).1.1.1.1.0)
-spelled_at doc m k r Queues = number_there 1 16 (value_at doc Queues) m.1.1.1.1.1.0 k.1.1.1.1.1.0 (own_range doc Queues 1 16 refl (past_all doc keys r).1.1.1.1.1.0)
-spelled_at doc m k r BlocksPerCommand = number_there 1 64 (value_at doc BlocksPerCommand) m.1.1.1.1.1.1.0 k.1.1.1.1.1.1.0 (own_range doc BlocksPerCommand 1 64 refl (past_all doc keys r).1.1.1.1.1.1.0)
-spelled_at doc m k r Fdp = configurations_there (value_at doc Fdp) m.1.1.1.1.1.1.1.0 k.1.1.1.1.1.1.1.0 (sym (fdp_range doc) ∙ (past_all doc keys r).1.1.1.1.1.1.1.0)
-spelled_at doc m k r Enabled = truth_there (value_at doc Enabled) m.1.1.1.1.1.1.1.1.0 k.1.1.1.1.1.1.1.1.0
-spelled_at doc m k r Index = number_there 0 3 (value_at doc Index) m.1.1.1.1.1.1.1.1.1.0 k.1.1.1.1.1.1.1.1.1.0 (own_range doc Index 0 3 refl (past_all doc keys r).1.1.1.1.1.1.1.1.1.0)
-spelled_at doc m k r Namespaces = namespaces_there (listable (config_in doc)) (value_at doc Namespaces) k.1.1.1.1.1.1.1.1.1.1.0 (sym (namespaces_range doc _ refl) ∙ (past_all doc keys r).1.1.1.1.1.1.1.1.1.1.0)
-spelled_at doc m k r QueueDepth = number_there 2 1024 (value_at doc QueueDepth) m.1.1.1.1.1.1.1.1.1.1.1.0 k.1.1.1.1.1.1.1.1.1.1.1.0 (own_range doc QueueDepth 2 1024 refl (past_all doc keys r).1.1.1.1.1.1.1.1.1.1.1.0)
-spelled_at doc m k r Collectors = number_there 0 8 (value_at doc Collectors) m.1.1.1.1.1.1.1.1.1.1.1.1.0 k.1.1.1.1.1.1.1.1.1.1.1.1.0 (own_range doc Collectors 0 8 refl (past_all doc keys r).1.1.1.1.1.1.1.1.1.1.1.1.0)
-spelled_at doc m k r Turns = number_there 0 4294967295 (value_at doc Turns) m.1.1.1.1.1.1.1.1.1.1.1.1.1.0 k.1.1.1.1.1.1.1.1.1.1.1.1.1.0 (own_range doc Turns 0 4294967295 refl (past_all doc keys r).1.1.1.1.1.1.1.1.1.1.1.1.1.0)
+-- a key that is there, of its kind and in its range has the value that was read
+pub spelled_at : (doc : Members) → AllFail (is_missing doc) keys → AllFail (is_of_other_kind doc) keys → (key : Key) → read_fault doc key ≡ None → Spells (config_in doc) key (value_at doc key)
+spelled_at doc m k Block r = number_there 512 4096 (value_at doc Block) m.0 k.0 (own_range doc Block 512 4096 refl r)
+spelled_at doc m k UnitPages r = number_there 2 256 (value_at doc UnitPages) m.1.0 k.1.0 (own_range doc UnitPages 2 256 refl r)
+spelled_at doc m k Groups r = number_there 1 16 (value_at doc Groups) m.1.1.0 k.1.1.0 (own_range doc Groups 1 16 refl r)
+spelled_at doc m k Units r = number_there 1 131072 (value_at doc Units) m.1.1.1.0 k.1.1.1.0 (own_range doc Units 1 131072 refl r)
+spelled_at doc m k AreaUnits r = number_there 1 65536 (value_at doc AreaUnits) m.1.1.1.1.0 k.1.1.1.1.0 (own_range doc AreaUnits 1 65536 refl r)
+spelled_at doc m k Queues r = number_there 1 16 (value_at doc Queues) m.1.1.1.1.1.0 k.1.1.1.1.1.0 (own_range doc Queues 1 16 refl r)
+spelled_at doc m k BlocksPerCommand r = number_there 1 64 (value_at doc BlocksPerCommand) m.1.1.1.1.1.1.0 k.1.1.1.1.1.1.0 (own_range doc BlocksPerCommand 1 64 refl r)
+spelled_at doc m k Fdp r = configurations_there (value_at doc Fdp) m.1.1.1.1.1.1.1.0 k.1.1.1.1.1.1.1.0 (sym (fdp_range doc) ∙ r)
+spelled_at doc m k Enabled r = truth_there (value_at doc Enabled) m.1.1.1.1.1.1.1.1.0 k.1.1.1.1.1.1.1.1.0
+spelled_at doc m k Index r = number_there 0 3 (value_at doc Index) m.1.1.1.1.1.1.1.1.1.0 k.1.1.1.1.1.1.1.1.1.0 (own_range doc Index 0 3 refl r)
+spelled_at doc m k Namespaces r = namespaces_there (listable (config_in doc)) (value_at doc Namespaces) k.1.1.1.1.1.1.1.1.1.1.0 (sym (namespaces_range doc _ refl) ∙ r)
+spelled_at doc m k QueueDepth r = number_there 2 1024 (value_at doc QueueDepth) m.1.1.1.1.1.1.1.1.1.1.1.0 k.1.1.1.1.1.1.1.1.1.1.1.0 (own_range doc QueueDepth 2 1024 refl r)
+spelled_at doc m k Collectors r = number_there 0 8 (value_at doc Collectors) m.1.1.1.1.1.1.1.1.1.1.1.1.0 k.1.1.1.1.1.1.1.1.1.1.1.1.0 (own_range doc Collectors 0 8 refl r)
+spelled_at doc m k Turns r = number_there 0 4294967295 (value_at doc Turns) m.1.1.1.1.1.1.1.1.1.1.1.1.1.0 k.1.1.1.1.1.1.1.1.1.1.1.1.1.0 (own_range doc Turns 0 4294967295 refl r)
 
-either_none : {X : Type 0} (a b : Option X) → option_or a b ≡ None → (a ≡ None) × (b ≡ None)
+-- where all keys are in their ranges, each is
+past_at : (doc : Members) → AllPast doc keys → (key : Key) → read_fault doc key ≡ None
+past_at doc past Block = past.0
+past_at doc past UnitPages = past.1.0
+past_at doc past Groups = past.1.1.0
+past_at doc past Units = past.1.1.1.0
+past_at doc past AreaUnits = past.1.1.1.1.0
+past_at doc past Queues = past.1.1.1.1.1.0
+past_at doc past BlocksPerCommand = past.1.1.1.1.1.1.0
+past_at doc past Fdp = past.1.1.1.1.1.1.1.0
+past_at doc past Enabled = past.1.1.1.1.1.1.1.1.0
+past_at doc past Index = past.1.1.1.1.1.1.1.1.1.0
+past_at doc past Namespaces = past.1.1.1.1.1.1.1.1.1.1.0
+past_at doc past QueueDepth = past.1.1.1.1.1.1.1.1.1.1.1.0
+past_at doc past Collectors = past.1.1.1.1.1.1.1.1.1.1.1.1.0
+past_at doc past Turns = past.1.1.1.1.1.1.1.1.1.1.1.1.1.0
+
+-- where all keys are in their ranges, all are spelled
+pub spelled_all : (doc : Members) → AllFail (is_missing doc) keys → AllFail (is_of_other_kind doc) keys → first_range_fault doc keys ≡ None → (key : Key) → Spells (config_in doc) key (value_at doc key)
+spelled_all doc missing others free key = spelled_at doc missing others key (past_at doc (past_all doc keys free) key)
+
+pub either_none : {X : Type 0} (a b : Option X) → option_or a b ≡ None → (a ≡ None) × (b ≡ None)
 either_none None b is = (refl, is)
 either_none (Some x) b is = absurd (cc)
 
-map_none : {X Y : Type 0} (f : X → Y) (o : Option X) → option_map f o ≡ None → o ≡ None
+pub map_none : {X Y : Type 0} (f : X → Y) (o : Option X) → option_map f o ≡ None → o ≡ None
 map_none f None is = refl
 map_none f (Some x) is = absurd (cc)
 
@@ -287,6 +312,6 @@ spelled doc none =
     let (range, room) = either_none _ _ r3 in
     record {
       known = all_pass is_key (words_in doc) (map_none _ _ unknown);
-      spelled = spelled_at doc (all_fail (is_missing doc) keys (map_none _ _ missing)) (all_fail (is_of_other_kind doc) keys (map_none _ _ kind)) range;
+      spelled = spelled_all doc (all_fail (is_missing doc) keys (map_none _ _ missing)) (all_fail (is_of_other_kind doc) keys (map_none _ _ kind)) range;
       valid = record { ranges = in_range doc range; room = room_there (config_in doc) room };
     }

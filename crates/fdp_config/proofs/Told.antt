@@ -9,17 +9,21 @@ use Rattle.fdp_base.specs.declared.config.Class.TheVariants.{Initial, Persistent
 use Rattle.fdp_base.specs.declared.config.DriveConfig.{DriveConfig}
 use Rattle.fdp_base.specs.declared.config.NamespaceConfig.{NamespaceConfig}
 use Rattle.fdp_base.specs.Config.{HasNoRepeat, HasRoom, IsHandleList, IsInRange, IsValidNamespace}
-use Rattle.fdp_base.specs.Geometry.{IsWithin}
-use Rattle.fdp_base.specs.Placement.{handle_count}
+use Rattle.fdp_base.specs.Geometry.{IsWithin, all_pages}
+use Rattle.fdp_base.specs.Placement.{geometry_of, handle_count}
 use Rattle.toml.specs.Data.{Data, boolean, Members, get_member, get, as_bool}
 use Rattle.toml.specs.View.{items_of}
 use Rattle.fdp_config.proofs.Chain.{all_past}
 use Rattle.fdp_config.proofs.Views.{counted}
 use Rattle.fdp_config.specs.Document.{elements, elements_of, items_list, number_of, truth_of, value_at, words_in}
-use Rattle.fdp_config.specs.Faults.{fault_of, first_range_fault, room_fault}
+use Rattle.fdp_config.specs.Faults.{HasKinds, IsRanged}
+use Rattle.fdp_config.specs.Reader.First.{fault_of, first_range_fault, room_fault}
 use Rattle.fdp_config.specs.Kinds.{blocks_word, handles_word, is_array_of, is_key, is_missing, is_namespace, is_number, is_of_other_kind, is_text}
-use Rattle.fdp_config.specs.Ranges.{above, blocks_fault, class_fault, classes_fault, configurations_fault, first_of, handles_fault, has_repeat, is_handle, is_within, listable, namespace_fault, namespaces_fault, outside, further_fault, range_fault}
-use Rattle.fdp_config.specs.Reading.{amount_of, class_of, classes_in, config_in, given, namespace_in}
+use Rattle.fdp_base.specs.Numbers.{has_repeat}
+use Rattle.fdp_config.specs.Ranges.{above, blocks_fault, class_fault, classes_fault, configurations_fault, first_of, handles_fault, is_handle, is_within, listable, namespace_fault, namespaces_fault, outside, range_fault}
+use Rattle.fdp_config.specs.Document.{amount_of}
+use Rattle.fdp_config.specs.Ranges.{class_of}
+use Rattle.fdp_config.specs.Reader.Config.{classes_in, config_in, given, namespace_in}
 use Rattle.fdp_config.specs.Spelling.{IsConfigOf, SpellsHandles, SpellsNamespace, SpellsNamespaces, array_of, class_word, classes_array, number}
 use Rattle.fdp_config.specs.Table.{keys}
 use Rattle.fdp_config.specs.declared.key.Key.{Key}
@@ -35,7 +39,7 @@ map_back : {A : Type 0} (f : Data → A) (g : A → Data) (xs : List A) → ((x 
 map_back f g [] back = refl
 map_back f g (x ∷ xs) back = rw (back x, map_back f g xs back) refl
 
-amount_back : (v : Option Data) (n : ℕ) → v ≡ Some (number n) → amount_of v ≡ n
+pub amount_back : (v : Option Data) (n : ℕ) → v ≡ Some (number n) → amount_of v ≡ n
 amount_back v n is = rw is refl
 
 class_back : (x : Class) → unwrap_or (class_of (class_word x)) Initial ≡ x
@@ -45,7 +49,7 @@ class_back Persistent = refl
 classes_back : (xs : List Class) → classes_in (classes_array xs) ≡ xs
 classes_back xs = ap (map (λ w. unwrap_or (class_of w) Initial)) (items_of-list (map class_word xs)) ∙ map_back (λ w. unwrap_or (class_of w) Initial) class_word xs class_back
 
-configurations_back : (v : Option Data) (fdp : List (List Class)) → v ≡ Some (array_of (map classes_array fdp)) → map classes_in (elements_of v) ≡ fdp
+pub configurations_back : (v : Option Data) (fdp : List (List Class)) → v ≡ Some (array_of (map classes_array fdp)) → map classes_in (elements_of v) ≡ fdp
 configurations_back v fdp is = rw is (ap (map classes_in) (items_of-list (map classes_array fdp)) ∙ map_back classes_in classes_array fdp classes_back)
 
 numbers_back : (hs : List ℕ) → map (λ d. amount_of (Some d)) (items_list (items_of (map number hs))) ≡ hs
@@ -91,11 +95,11 @@ namespaces_back c None ns valid spells = sym spells
 namespaces_back c (Some d) ns valid spells =
     let same : elements d ≡ spells.0 = rw spells.1 (items_of-list spells.0) in ap (map namespace_in) same ∙ zip_back c spells.0 ns valid spells.2
 
-truth_back : (v : Option Data) (b : Bool) → v ≡ Some (boolean b) → truth_of v ≡ b
+pub truth_back : (v : Option Data) (b : Bool) → v ≡ Some (boolean b) → truth_of v ≡ b
 truth_back v b is = rw is refl
 
 -- it reads as the configuration that it spells
-pub reads_as : (doc : Members) (c : DriveConfig) → IsConfigOf doc c → config_in doc ≡ c
+pub reads_as : (doc : Members) (c : DriveConfig) → IsRanged doc c → config_in doc ≡ c
 reads_as doc c is =
     let block = amount_back (value_at doc Block) c.block (is.spelled Block) in
     let unit_pages = amount_back (value_at doc UnitPages) c.unit_pages (is.spelled UnitPages) in
@@ -107,7 +111,7 @@ reads_as doc c is =
     let fdp = configurations_back (value_at doc Fdp) c.fdp (is.spelled Fdp) in
     let enabled = truth_back (value_at doc Enabled) c.enabled (is.spelled Enabled) in
     let index = amount_back (value_at doc Index) c.index (is.spelled Index) in
-    let namespaces = namespaces_back c (value_at doc Namespaces) c.namespaces is.valid.ranges.each_namespace (is.spelled Namespaces) in
+    let namespaces = namespaces_back c (value_at doc Namespaces) c.namespaces is.ranges.each_namespace (is.spelled Namespaces) in
     let queue_depth = amount_back (value_at doc QueueDepth) c.queue_depth (is.spelled QueueDepth) in
     let collectors = amount_back (value_at doc Collectors) c.collectors (is.spelled Collectors) in
     let turns = amount_back (value_at doc Turns) c.turns (is.spelled Turns) in
@@ -150,7 +154,7 @@ and_false : (b : Bool) → (b && false) ≡ false
 and_false true = refl
 and_false false = refl
 
-not_missing : (doc : Members) (c : DriveConfig) → IsConfigOf doc c → (key : Key) → is_missing doc key ≡ false
+not_missing : (doc : Members) (c : DriveConfig) → IsRanged doc c → (key : Key) → is_missing doc key ≡ false
 not_missing doc c is Block = there (value_at doc Block) _ true (is.spelled Block)
 not_missing doc c is UnitPages = there (value_at doc UnitPages) _ true (is.spelled UnitPages)
 not_missing doc c is Groups = there (value_at doc Groups) _ true (is.spelled Groups)
@@ -214,7 +218,7 @@ namespaces_kind None ns spells = refl
 namespaces_kind (Some d) ns spells =
     let all : is_array_of is_namespace d ≡ true = rw spells.1 (ap (list_all is_namespace) (items_of-list spells.0) ∙ zip_kind spells.0 ns spells.2) in ap not all
 
-right_kind : (doc : Members) (c : DriveConfig) → IsConfigOf doc c → (key : Key) → is_of_other_kind doc key ≡ false
+right_kind : (doc : Members) (c : DriveConfig) → IsRanged doc c → (key : Key) → is_of_other_kind doc key ≡ false
 right_kind doc c is Block = number_kind (value_at doc Block) c.block (is.spelled Block)
 right_kind doc c is UnitPages = number_kind (value_at doc UnitPages) c.unit_pages (is.spelled UnitPages)
 right_kind doc c is Groups = number_kind (value_at doc Groups) c.groups (is.spelled Groups)
@@ -337,42 +341,56 @@ namespaces_free c (Some d) ranges spells =
     let few : nat_le (length spells.0) 16 ≡ true = rw many (le-leb (length c.namespaces) 16 ranges.namespaces) in
     rw (spells.1, items_of-list spells.0, few) free
 
+-- what is told of a configuration, where a document that spells it is told of
+
+abbrev block_told : DriveConfig → Option ℕ
+block_told c = if c.block == 512 || c.block == 4096 then None else Some c.block
+
+abbrev pages_told : DriveConfig → Option ℕ
+pages_told c = above 262144 (all_pages (geometry_of c))
+
+abbrev command_told : DriveConfig → Option ℕ
+command_told c = above c.unit_pages c.blocks_per_command
+
+abbrev index_told : DriveConfig → Option ℕ
+index_told c = above (length c.fdp - 1) c.index
+
 key_free : (own further : Option ℕ) → own ≡ None → further ≡ None → option_or own further ≡ None
 key_free own further p q = rw (p, q) refl
 
-block_free : (c : DriveConfig) → IsTrue (c.block == 512 || c.block == 4096) → further_fault c Block ≡ None
+block_free : (c : DriveConfig) → IsTrue (c.block == 512 || c.block == 4096) → block_told c ≡ None
 block_free c known = rw known refl
 
-index_free : (c : DriveConfig) → c.index < length c.fdp → further_fault c Index ≡ None
+index_free : (c : DriveConfig) → c.index < length c.fdp → index_told c ≡ None
 index_free c below = above_free (length c.fdp - 1) c.index (omega arith)
 
-no_range_fault : (doc : Members) (c : DriveConfig) → IsConfigOf doc c → first_range_fault doc keys ≡ None
+no_range_fault : (doc : Members) (c : DriveConfig) → IsRanged doc c → first_range_fault doc keys ≡ None
 unfolding range_fault
 no_range_fault doc c is =
     let same = reads_as doc c is in
-    let ranges = is.valid.ranges in
+    let ranges = is.ranges in
     let few_configurations : length c.fdp ≤ 4 = ranges.configurations.1 in
     let index_range : IsWithin 0 3 c.index = (omega arith, let below : c.index < length c.fdp = ranges.index in omega arith) in
     all_past doc keys (
-      key_free _ _ (number_free 512 4096 (value_at doc Block) c.block (is.spelled Block) (block_range c.block ranges.block)) (ap (λ x. further_fault x Block) same ∙ block_free c ranges.block),
+      key_free _ _ (number_free 512 4096 (value_at doc Block) c.block (is.spelled Block) (block_range c.block ranges.block)) (ap block_told same ∙ block_free c ranges.block),
       (
         key_free _ _ (number_free 2 256 (value_at doc UnitPages) c.unit_pages (is.spelled UnitPages) (ranges.unit_pages)) (refl),
         (
           key_free _ _ (number_free 1 16 (value_at doc Groups) c.groups (is.spelled Groups) (ranges.groups)) (refl),
           (
-            key_free _ _ (number_free 1 131072 (value_at doc Units) c.units (is.spelled Units) (ranges.units)) (ap (λ x. further_fault x Units) same ∙ above_free 262144 _ ranges.pages),
+            key_free _ _ (number_free 1 131072 (value_at doc Units) c.units (is.spelled Units) (ranges.units)) (ap pages_told same ∙ above_free 262144 _ ranges.pages),
             (
               key_free _ _ (number_free 1 65536 (value_at doc AreaUnits) c.area_units (is.spelled AreaUnits) (ranges.area_units)) (refl),
               (
                 key_free _ _ (number_free 1 16 (value_at doc Queues) c.queues (is.spelled Queues) (ranges.queues)) (refl),
                 (
-                  key_free _ _ (number_free 1 64 (value_at doc BlocksPerCommand) c.blocks_per_command (is.spelled BlocksPerCommand) (ranges.blocks_per_command)) (ap (λ x. further_fault x BlocksPerCommand) same ∙ above_free c.unit_pages c.blocks_per_command ranges.command_in_unit),
+                  key_free _ _ (number_free 1 64 (value_at doc BlocksPerCommand) c.blocks_per_command (is.spelled BlocksPerCommand) (ranges.blocks_per_command)) (ap command_told same ∙ above_free c.unit_pages c.blocks_per_command ranges.command_in_unit),
                   (
                     key_free _ _ (configurations_free (value_at doc Fdp) c.fdp (is.spelled Fdp) ranges.configurations ranges.handles) refl,
                     (
                       refl,
                       (
-                        key_free _ _ (number_free 0 3 (value_at doc Index) c.index (is.spelled Index) index_range) (ap (λ x. further_fault x Index) same ∙ index_free c ranges.index),
+                        key_free _ _ (number_free 0 3 (value_at doc Index) c.index (is.spelled Index) index_range) (ap index_told same ∙ index_free c ranges.index),
                         (
                           key_free _ _ (ap (λ x. namespaces_fault (listable x) (elements_of (value_at doc Namespaces))) same ∙ namespaces_free c (value_at doc Namespaces) ranges (is.spelled Namespaces)) refl,
                           (
@@ -407,8 +425,23 @@ none_told : {X A B C : Type 0} (f : A → X) (g : B → X) (h : C → X) (a : Op
     → a ≡ None → b ≡ None → c ≡ None → d ≡ None → e ≡ None → option_or (option_map f a) (option_or (option_map g b) (option_or (option_map h c) (option_or d e))) ≡ None
 none_told f g h a b c d e p q r s t = rw (p, q, r, s, t) refl
 
+-- a configuration that is spelled has its values in their ranges
+pub ranged : (doc : Members) (c : DriveConfig) → IsConfigOf doc c → IsRanged doc c
+ranged doc c is = record { known = is.known; spelled = is.spelled; ranges = is.valid.ranges }
+
+-- a document whose values are in their ranges has no fault but that of room
+pub no_fault_of_values : (doc : Members) (c : DriveConfig) → IsRanged doc c → HasKinds doc × (first_range_fault doc keys ≡ None)
+no_fault_of_values doc c is = (
+  record {
+    known = none_found is_key (words_in doc) is.known;
+    there = no_key (is_missing doc) (not_missing doc c is);
+    kinds = no_key (is_of_other_kind doc) (right_kind doc c is);
+  },
+  no_range_fault doc c is,
+)
+
 -- it has no fault
 pub no_fault : (doc : Members) (c : DriveConfig) → IsConfigOf doc c → fault_of doc ≡ None
 no_fault doc c is =
-    none_told _ _ _ _ _ _ _ _ (none_found is_key (words_in doc) is.known) (no_key (is_missing doc) (not_missing doc c is)) (no_key (is_of_other_kind doc) (right_kind doc c is))
-    (no_range_fault doc c is) (ap room_fault (reads_as doc c is) ∙ room_free c is.valid.room)
+    let (values, range) = no_fault_of_values doc c (ranged doc c is) in
+    none_told _ _ _ _ _ _ _ _ values.known values.there values.kinds range (ap room_fault (reads_as doc c (ranged doc c is)) ∙ room_free c is.valid.room)

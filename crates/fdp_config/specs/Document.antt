@@ -44,3 +44,11 @@ truth_of v = unwrap_or (option_and_then as_bool v) false
 abbrev pub natural : ℤ → Option ℕ
 natural (pos n) = Some n
 natural (negsuc n) = None
+
+-- a number; 0 of another value and of a number below 0
+abbrev pub amount_of : Option Data → ℕ
+amount_of v = unwrap_or (natural (number_of v)) 0
+
+-- the number at a key
+abbrev pub amount_at : Members → Key → ℕ
+amount_at doc key = amount_of (value_at doc key)

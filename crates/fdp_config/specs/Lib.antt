@@ -2,7 +2,7 @@ pub mod Document
 pub mod Faults
 pub mod Kinds
 pub mod Ranges
-pub mod Reading
+pub mod Reader
 pub mod Spelling
 pub mod Table
 pub mod Words

@@ -1,21 +1,22 @@
 -- Where a value is out of its range, and the value that is told: the number, or, where it is no number or below 0, the
 -- position in the array that holds it.
-use Rattle.std.specs.Prelude.{ℕ, ℤ, pos, negsuc, ◌+◌, ◌-◌, Bool, false, not, ◌&&◌, ◌||◌, ◌==◌, nat_le, nat_lt, List, [], ◌∷◌, length, map, Option, Some, None, is_some, Result, Ok, Err, if◌then◌else◌, slice_index_or}
-use Rattle.std.specs.List.{list_any, list_all}
+use Rattle.std.specs.Prelude.{ℕ, ℤ, pos, negsuc, ◌+◌, ◌-◌, Bool, false, not, ◌&&◌, ◌||◌, ◌==◌, nat_le, nat_lt, List, [], ◌∷◌, length, map, Option, Some, None, is_some, option_and_then, codes, if◌then◌else◌, slice_index_or}
+use Rattle.std.specs.List.{list_all}
+use Rattle.std.specs.Str.{bytes_eq}
 use Rattle.std.specs.Option.{option_or, option_map_or}
+use Rattle.fdp_base.specs.declared.config.Class.{Class}
+use Rattle.fdp_base.specs.declared.config.Class.TheVariants.{Initial, Persistent}
 use Rattle.fdp_base.specs.declared.config.DriveConfig.{DriveConfig}
 use Rattle.fdp_base.specs.Geometry.{all_pages}
+use Rattle.fdp_base.specs.Numbers.{has_repeat}
 use Rattle.fdp_base.specs.Placement.{geometry_of}
-use Rattle.toml.specs.Data.{Data, Members, get}
-use Rattle.fdp_config.specs.declared.fault.ConfigFault.{ConfigFault}
-use Rattle.fdp_config.specs.declared.fault.ConfigFault.TheVariants.{Range}
+use Rattle.toml.specs.Data.{Data, Members, get, as_str}
 use Rattle.fdp_config.specs.declared.key.Key.{Key}
 use Rattle.fdp_config.specs.declared.key.Key.TheVariants.{Block, UnitPages, Groups, Units, AreaUnits, Queues, BlocksPerCommand, Fdp, Enabled, Index, Namespaces as NamespacesKey, QueueDepth, Collectors, Turns}
 use Rattle.fdp_config.specs.declared.key.Shape.{Shape}
 use Rattle.fdp_config.specs.declared.key.Shape.TheVariants.{Number, Truth, Configurations, Namespaces}
-use Rattle.fdp_config.specs.Document.{value_at, elements, elements_of, number_of, natural}
+use Rattle.fdp_config.specs.Document.{value_at, elements, elements_of, number_of, natural, amount_of, amount_at}
 use Rattle.fdp_config.specs.Kinds.{blocks_word, handles_word}
-use Rattle.fdp_config.specs.Reading.{class_of, amount_of, config_in}
 use Rattle.fdp_config.specs.Table.{row_of}
 
 -- a number from low to high
@@ -35,6 +36,17 @@ above limit n = if nat_le n limit then None else Some n
 unfoldable pub first_of : (ℕ → Data → Option ℕ) → ℕ → List Data → Option ℕ
 first_of fault place [] = None
 first_of fault place (d ∷ ds) = option_or (fault place d) (first_of fault (place + 1) ds)
+
+-- the class with this word
+abbrev pub class_named : List ℕ → Option Class
+class_named word =
+    if bytes_eq word (codes "initial") then Some Initial
+    else if bytes_eq word (codes "persistent") then Some Persistent
+    else None
+
+-- the class that a text names
+abbrev pub class_of : Data → Option Class
+class_of d = option_and_then class_named (as_str d)
 
 -- a word that is no class
 abbrev pub class_fault : ℕ → Data → Option ℕ
@@ -56,11 +68,6 @@ blocks_fault place (negsuc n) = Some place
 -- a handle below the count
 abbrev pub is_handle : ℕ → Data → Bool
 is_handle count d = option_map_or (λ ruh. nat_lt ruh count) (natural (number_of (Some d))) false
-
--- a number stands twice in the list
-unfoldable pub has_repeat : List ℕ → Bool
-has_repeat [] = false
-has_repeat (x ∷ xs) = list_any (λ y. y == x) xs || has_repeat xs
 
 -- a list of handles that a namespace may have: at most sixteen, each known, none twice
 abbrev pub is_handle_list : ℕ → List Data → Bool
@@ -91,55 +98,24 @@ shape_fault c v Truth = None
 shape_fault c v Configurations = configurations_fault (elements_of v)
 shape_fault c v Namespaces = namespaces_fault (listable c) (elements_of v)
 
--- what the value at a key owes to its row
-abbrev pub own_fault : Members → Key → Option ℕ
-own_fault doc key = shape_fault (config_in doc) (value_at doc key) (row_of key).shape
+-- what more some keys owe, beside the keys before them: a block of 512 or 4,096 bytes, at most 262,144 pages in all, no
+-- command larger than a unit, and an index of an FDP configuration
+abbrev pub further_fault : Members → DriveConfig → Key → Option ℕ
+further_fault doc c Block = if amount_at doc Block == 512 || amount_at doc Block == 4096 then None else Some (amount_at doc Block)
+further_fault doc c UnitPages = None
+further_fault doc c Groups = None
+further_fault doc c Units = above 262144 (all_pages (geometry_of (record c { units = amount_at doc Units; area_units = amount_at doc AreaUnits })))
+further_fault doc c AreaUnits = None
+further_fault doc c Queues = None
+further_fault doc c BlocksPerCommand = above c.unit_pages (amount_at doc BlocksPerCommand)
+further_fault doc c Fdp = None
+further_fault doc c Enabled = None
+further_fault doc c Index = above (length c.fdp - 1) (amount_at doc Index)
+further_fault doc c NamespacesKey = None
+further_fault doc c QueueDepth = None
+further_fault doc c Collectors = None
+further_fault doc c Turns = None
 
--- what more some keys owe: a block of 512 or 4,096 bytes, at most 262,144 pages in all, no command larger than a unit,
--- and an index of an FDP configuration
-abbrev pub further_fault : DriveConfig → Key → Option ℕ
-further_fault c Block = if c.block == 512 || c.block == 4096 then None else Some c.block
-further_fault c UnitPages = None
-further_fault c Groups = None
-further_fault c Units = above 262144 (all_pages (geometry_of c))
-further_fault c AreaUnits = None
-further_fault c Queues = None
-further_fault c BlocksPerCommand = above c.unit_pages c.blocks_per_command
-further_fault c Fdp = None
-further_fault c Enabled = None
-further_fault c Index = above (length c.fdp - 1) c.index
-further_fault c NamespacesKey = None
-further_fault c QueueDepth = None
-further_fault c Collectors = None
-further_fault c Turns = None
-
--- the value that is told where a key is out of its range
-unfoldable pub range_fault : Members → Key → Option ℕ
-range_fault doc key = option_or (own_fault doc key) (further_fault (config_in doc) key)
-
--- a value, or the fault that tells of its range
-abbrev pub checked : {A : Type 0} → Key → A → Option ℕ → Result A ConfigFault
-checked key value None = Ok value
-checked key value (Some told) = Err (Range key told)
-
--- a number stands at the key
-abbrev pub ShapeIsNumber : Shape → Type 0
-ShapeIsNumber (Number low high) = Unit {0}
-ShapeIsNumber Truth = ⊥
-ShapeIsNumber Configurations = ⊥
-ShapeIsNumber Namespaces = ⊥
-
--- the row of the key is one of numbers
-abbrev pub IsNumber : Key → Type 0
-IsNumber key = ShapeIsNumber (row_of key).shape
-
--- the highest number of a row
-abbrev pub highest : Shape → ℕ
-highest (Number low high) = high
-highest Truth = 0
-highest Configurations = 0
-highest Namespaces = 0
-
--- the highest number at the key
-abbrev pub high_of : Key → ℕ
-high_of key = highest (row_of key).shape
+-- the value that is told where a key is out of its range, beside the keys before it, whose values are those of a configuration
+unfoldable pub range_fault : Members → DriveConfig → Key → Option ℕ
+range_fault doc c key = option_or (shape_fault c (value_at doc key) (row_of key).shape) (further_fault doc c key)

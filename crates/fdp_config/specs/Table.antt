@@ -30,3 +30,20 @@ row_of Turns = record { word = codes "turns"; shape = Number 0 4294967295 }
 -- all keys, in order
 abbrev pub keys : List Key
 keys = Block ∷ UnitPages ∷ Groups ∷ Units ∷ AreaUnits ∷ Queues ∷ BlocksPerCommand ∷ Fdp ∷ Enabled ∷ Index ∷ NamespacesKey ∷ QueueDepth ∷ Collectors ∷ Turns ∷ []
+
+-- the place of a key among them, from 0
+abbrev pub place_of : Key → ℕ
+place_of Block = 0
+place_of UnitPages = 1
+place_of Groups = 2
+place_of Units = 3
+place_of AreaUnits = 4
+place_of Queues = 5
+place_of BlocksPerCommand = 6
+place_of Fdp = 7
+place_of Enabled = 8
+place_of Index = 9
+place_of NamespacesKey = 10
+place_of QueueDepth = 11
+place_of Collectors = 12
+place_of Turns = 13

@@ -4,8 +4,10 @@ ghost use Rattle.fdp_base.specs.Geometry.{IsWithin};
 ghost use Rattle.toml.specs.View.{view, table_view};
 ghost use Rattle.fdp_config.specs.Document.{value_at, elements, elements_of};
 ghost use Rattle.fdp_config.specs.Faults.{Gives};
-ghost use Rattle.fdp_config.specs.Ranges.{classes_fault, configurations_fault, checked};
-ghost use Rattle.fdp_config.specs.Reading.{class_of, classes_in};
+ghost use Rattle.fdp_config.specs.Ranges.{classes_fault, configurations_fault};
+ghost use Rattle.fdp_config.specs.Reader.Checks.{checked};
+ghost use Rattle.fdp_config.specs.Ranges.{class_of};
+ghost use Rattle.fdp_config.specs.Reader.Config.{classes_in};
 
 use crate::document::{elements_of, value_at};
 use crate::fault::ConfigFault;

@@ -3,7 +3,7 @@ ghost use Rattle.std.specs.Prelude.{◌≡◌, map, option_map};
 ghost use Rattle.toml.specs.Data.{get_member};
 ghost use Rattle.toml.specs.View.{view, table_view};
 ghost use Rattle.fdp_config.specs.Document.{value_at, number_of, truth_of, elements_of, natural};
-ghost use Rattle.fdp_config.specs.Reading.{amount_at};
+ghost use Rattle.fdp_config.specs.Document.{amount_at};
 
 use crate::key::Key;
 use toml::{Table, Value};

@@ -10,8 +10,6 @@ mod namespaces;
 mod numbers;
 mod read;
 mod room;
-#[cfg(test)]
-mod tests;
 
 pub use fault::{ConfigFault, NoConfig, Word};
 pub use key::{Key, Shape};

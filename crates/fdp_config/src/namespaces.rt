@@ -3,13 +3,15 @@ ghost use Rattle.std.specs.Prelude.{◌≡◌, ◌≤◌, map, option_map, Some,
 ghost use Rattle.toml.specs.View.{view, table_view};
 ghost use Rattle.fdp_config.specs.Document.{value_at, elements_of, number_of};
 ghost use Rattle.fdp_config.specs.Faults.{Gives};
-ghost use Rattle.fdp_config.specs.Ranges.{has_repeat, is_handle, handles_fault, blocks_fault, namespace_fault, namespaces_fault, checked};
-ghost use Rattle.fdp_config.specs.Reading.{amount_of, given, namespace_in};
+ghost use Rattle.fdp_config.specs.Ranges.{is_handle, handles_fault, blocks_fault, namespace_fault, namespaces_fault};
+ghost use Rattle.fdp_config.specs.Reader.Checks.{checked};
+ghost use Rattle.fdp_config.specs.Document.{amount_of};
+ghost use Rattle.fdp_config.specs.Reader.Config.{given, namespace_in};
 
 use crate::document::{elements_of, natural, number_of, value_at};
 use crate::fault::ConfigFault;
 use crate::key::Key;
-use fdp_base::{HandleList, NamespaceConfig, Sequence};
+use fdp_base::{HandleList, NamespaceConfig, Sequence, has_repeat};
 use std::alloc::Global;
 use toml::{Table, Value};
 
@@ -100,17 +102,6 @@ fn handle(listable: usize, value: &Value) -> Option<u16>
     match natural(number_of(Some(value))) {
         Some(ruh) if ruh < listable as u64 => Some(ruh as u16),
         _ => None,
-    }
-}
-
-/// Whether a number stands twice in the list.
-#[tactic(auto, unfolding(crate::specs::Ranges::has_repeat))]
-fn has_repeat(list: &[u16]) -> bool
-    ensures { result ≡ has_repeat list.now }
-{
-    match list.split_first() {
-        Some((first, rest)) => rest.contains(first) || has_repeat(rest),
-        None => false,
     }
 }
 

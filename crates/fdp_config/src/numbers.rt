@@ -1,8 +1,10 @@
 //! The numbers of a configuration, each in its range.
 ghost use Rattle.std.specs.Prelude.{◌≡◌, ◌≤◌, IfOk, None};
 ghost use Rattle.toml.specs.View.{table_view};
-ghost use Rattle.fdp_config.specs.Ranges.{IsNumber, high_of, own_fault, further_fault, above, range_fault, checked};
-ghost use Rattle.fdp_config.specs.Reading.{amount_at, config_in};
+ghost use Rattle.fdp_config.specs.Reader.Checks.{IsNumber, high_of, own_fault, read_fault, checked};
+ghost use Rattle.fdp_config.specs.Ranges.{further_fault, above, range_fault};
+ghost use Rattle.fdp_config.specs.Document.{amount_at};
+ghost use Rattle.fdp_config.specs.Reader.Config.{config_in};
 
 use crate::document::{amount_at, natural, number_of, value_at};
 use crate::fault::ConfigFault;
@@ -34,8 +36,8 @@ fn number_in_row(table: &Table, key: Key) -> Result<u32, ConfigFault>
 /// The number at a key that has no more to keep than the range of its row.
 pub fn number(table: &Table, key: Key) -> Result<u32, ConfigFault>
     requires number { IsNumber key }
-    requires alone { further_fault (config_in (table_view table.now)) key ≡ None }
-    ensures value { result ≡ checked key (amount_at (table_view table.now) key) (range_fault (table_view table.now) key) }
+    requires alone { further_fault (table_view table.now) (config_in (table_view table.now)) key ≡ None }
+    ensures value { result ≡ checked key (amount_at (table_view table.now) key) (read_fault (table_view table.now) key) }
     ensures bound { IfOk result (λ n. n ≤ high_of key) }
 {
     number_in_row(table, key)
@@ -43,7 +45,7 @@ pub fn number(table: &Table, key: Key) -> Result<u32, ConfigFault>
 
 /// The bytes of a block, 512 or 4,096.
 pub fn block(table: &Table) -> Result<u32, ConfigFault>
-    ensures { result ≡ checked Key.Block (amount_at (table_view table.now) Key.Block) (range_fault (table_view table.now) Key.Block) }
+    ensures { result ≡ checked Key.Block (amount_at (table_view table.now) Key.Block) (read_fault (table_view table.now) Key.Block) }
 {
     let block = number_in_row(table, Key::Block)?;
     if block == 512 || block == 4096 {
@@ -62,7 +64,7 @@ pub fn units(table: &Table, unit_pages: u32, groups: u32) -> Result<u32, ConfigF
     requires groups { groups ≡ amount_at (table_view table.now) Key.Groups }
     requires few_pages { unit_pages ≤ 256 }
     requires few_groups { groups ≤ 16 }
-    ensures { result ≡ checked Key.Units (amount_at (table_view table.now) Key.Units) (range_fault (table_view table.now) Key.Units) }
+    ensures { result ≡ checked Key.Units (amount_at (table_view table.now) Key.Units) (read_fault (table_view table.now) Key.Units) }
 {
     let units = number_in_row(table, Key::Units)?;
     let area_units = amount_at(table, Key::AreaUnits);
@@ -81,8 +83,8 @@ pub fn units(table: &Table, unit_pages: u32, groups: u32) -> Result<u32, ConfigF
 /// A number that is at most `limit` too.
 pub fn limited(table: &Table, key: Key, limit: u32) -> Result<u32, ConfigFault>
     requires number { IsNumber key }
-    requires limit { further_fault (config_in (table_view table.now)) key ≡ above limit (amount_at (table_view table.now) key) }
-    ensures value { result ≡ checked key (amount_at (table_view table.now) key) (range_fault (table_view table.now) key) }
+    requires limit { further_fault (table_view table.now) (config_in (table_view table.now)) key ≡ above limit (amount_at (table_view table.now) key) }
+    ensures value { result ≡ checked key (amount_at (table_view table.now) key) (read_fault (table_view table.now) key) }
     ensures bound { IfOk result (λ n. n ≤ high_of key) }
     ensures limit { IfOk result (λ n. n ≤ limit) }
 {

@@ -1,7 +1,7 @@
 //! Room for the namespaces, and for a checkpoint.
 ghost use Rattle.std.specs.Prelude.{◌≡◌, ◌≤◌, length, sum_by};
 ghost use Rattle.fdp_base.specs.Config.{IsInRange};
-ghost use Rattle.fdp_config.specs.Faults.{room_fault};
+ghost use Rattle.fdp_config.specs.Reader.First.{room_fault};
 
 use crate::fault::ConfigFault;
 use fdp_base::{DriveConfig, NamespaceConfig};

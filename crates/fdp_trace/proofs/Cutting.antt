@@ -4,7 +4,8 @@ use Rattle.std.specs.List.{slice_split, onto_first}
 use Rattle.std.proofs.lemmas.List.{nil_from_length, length-drop, length-take, get_or-drop}
 use Rattle.std.proofs.lemmas.Bool.Decides.{nat_tests}
 use Rattle.std.proofs.Math.Seq.{take-length, drop-cons}
-use Rattle.fdp_trace.specs.Words.{is_blank, words_of, IsFront, is_line_feed}
+use Rattle.fdp_trace.specs.Words.{is_blank, words_of}
+use Rattle.fdp_trace.specs.Reader.FrontOf.{IsFront, is_line_feed}
 use Rattle.std.specs.Str.Lines.{lines, lines_of_parts, strip_carriage_return}
 
 abbrev onto_front : List ℕ → List (List ℕ) → List (List ℕ)

@@ -10,8 +10,8 @@ use Rattle.fdp_base.specs.declared.command.Command.{Command}
 use Rattle.fdp_base.specs.declared.command.Range.{Range}
 use Rattle.fdp_trace.specs.declared.command_word.CommandWord.{CommandWord}
 use Rattle.fdp_trace.specs.declared.command_word.CommandWord.TheVariants as words
-use Rattle.fdp_trace.specs.Numbers.{number_of}
-use Rattle.fdp_trace.specs.Shapes.{word_named, accepts, is_choice}
+use Rattle.fdp_trace.specs.Reader.NumberOf.{number_of}
+use Rattle.fdp_trace.specs.Reader.Shapes.{word_named, accepts, is_choice}
 use Rattle.fdp_trace.specs.Lines.{Part, Fixed, Number, range_parts, IsLine, write, write_placed, read, zeroes, dealloc, flush, status, update, log, log_ctrl, log_host, set_fdp, get_fdp, set_events, create, delete}
 use Rattle.fdp_trace.proofs.Numerals.{value}
 use Rattle.fdp_trace.proofs.Parts.{IsMadeFor}

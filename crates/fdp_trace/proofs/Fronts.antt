@@ -6,8 +6,8 @@ use Rattle.fdp_trace.specs.declared.fault.FaultKind.TheVariants as kinds
 use Rattle.fdp_trace.specs.declared.fault.LineError.{LineError}
 use Rattle.fdp_trace.specs.declared.fault.LineError.TheVariants as errors
 use Rattle.fdp_base.specs.declared.command.Range.{Range}
-use Rattle.fdp_trace.specs.Reading.{◌>>=◌, Fails, within}
-use Rattle.fdp_trace.specs.Commands.{numbers_of, range_of, ranges_of}
+use Rattle.fdp_trace.specs.Reader.Reading.{◌>>=◌, Fails, within}
+use Rattle.fdp_trace.specs.Reader.Commands.{numbers_of, range_of, ranges_of}
 
 -- what was read before, and what is still read
 abbrev pub with_front : {A : Type 0} → List A → Result (List A) FaultKind → Result (List A) FaultKind

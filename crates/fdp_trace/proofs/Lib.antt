@@ -1,5 +1,6 @@
 pub mod Cutting
 pub mod Fronts
+pub mod ReadText
 pub mod Steps
 pub mod Printed
 pub mod Spelling
@@ -10,3 +11,4 @@ pub mod Rows
 pub mod Finding
 pub mod Meaning
 pub mod Telling
+pub mod Answering

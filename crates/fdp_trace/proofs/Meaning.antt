@@ -8,8 +8,8 @@ use Rattle.fdp_trace.specs.declared.fault.FaultKind.{FaultKind}
 use Rattle.fdp_trace.specs.declared.fault.FaultKind.TheVariants as kinds
 use Rattle.fdp_trace.specs.declared.command_word.CommandWord.{CommandWord}
 use Rattle.fdp_trace.specs.declared.command_word.CommandWord.TheVariants as words
-use Rattle.fdp_trace.specs.Shapes.{word_named, accepts, words_fit, numbers_fit}
-use Rattle.fdp_trace.specs.Commands.{spelled, checked, command_from, command_of}
+use Rattle.fdp_trace.specs.Reader.Shapes.{word_named, accepts, words_fit, numbers_fit}
+use Rattle.fdp_trace.specs.Reader.Commands.{spelled, checked, command_from, command_of}
 use Rattle.fdp_trace.specs.Lines.{Part, Fixed, IsLine}
 use Rattle.fdp_trace.specs.Demands.{IsWordFor, IsNumberFor, IsInRange, HasFirst, HasCount, HasWords, HasNumbers, HasRanges, Meets, Spells, WordsLack}
 use Rattle.fdp_trace.proofs.Parts.{zip_weaker, zip_first, number_is_word, range_is_number, in_range, ranges_met, ranges_found, Follows, words_met, numbers_met, IsMadeFor, words_found, numbers_found, ranged}

@@ -5,7 +5,8 @@ use Rattle.std.specs.List.{list_all}
 use Rattle.std.specs.Char.{is_ascii_digit, is_ascii_hexdigit}
 use Rattle.std.proofs.lemmas.Bool.{cases_Bool}
 use Rattle.std.proofs.lemmas.Bool.Decides.{nat_tests}
-use Rattle.fdp_trace.specs.Numbers.{value_of, is_decimal, is_hexadecimal, number_of, IsHexadecimal, IsNumber}
+use Rattle.fdp_trace.specs.Numbers.{value_of, IsHexadecimal, IsNumber}
+use Rattle.fdp_trace.specs.Reader.NumberOf.{is_decimal, is_hexadecimal, number_of}
 
 decimal_tests : (len first : ℕ) (digits : Bool) → 0 < len → digits ≡ true → (first ≡ 48 → len ≡ 1) → (not (len == 0) && digits && ((len == 1) || not (first == 48))) ≡ true
 decimal_tests zero first digits some e lead = absurd (omega arith)

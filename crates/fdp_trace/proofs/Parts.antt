@@ -7,10 +7,11 @@ use Rattle.fdp_base.specs.declared.command.Range.{Range}
 use Rattle.fdp_trace.specs.declared.fault.FaultKind.{FaultKind}
 use Rattle.fdp_trace.specs.declared.fault.FaultKind.TheVariants as kinds
 use Rattle.fdp_trace.specs.declared.command_word.CommandWord.{CommandWord}
-use Rattle.fdp_trace.specs.Numbers.{number_of, IsNumber}
-use Rattle.fdp_trace.specs.Shapes.{is_fixed, is_choice, words_fit, numbers_fit}
-use Rattle.fdp_trace.specs.Reading.{◌>>=◌, within, field}
-use Rattle.fdp_trace.specs.Commands.{numbers_of, range_of, ranges_of}
+use Rattle.fdp_trace.specs.Numbers.{IsNumber}
+use Rattle.fdp_trace.specs.Reader.NumberOf.{number_of}
+use Rattle.fdp_trace.specs.Reader.Shapes.{is_fixed, is_choice, words_fit, numbers_fit}
+use Rattle.fdp_trace.specs.Reader.Reading.{◌>>=◌, within, field}
+use Rattle.fdp_trace.specs.Reader.Commands.{numbers_of, range_of, ranges_of}
 use Rattle.fdp_trace.specs.Lines.{Part, Fixed, Number, range_parts}
 use Rattle.fdp_trace.specs.Demands.{IsWordFor, IsNumberFor, IsInRange}
 use Rattle.fdp_trace.proofs.Numerals.{number_is, number_found, value}

@@ -9,8 +9,8 @@ use Rattle.std.proofs.lemmas.Bool.Decides.{nat_tests}
 use Rattle.std.proofs.lemmas.Slice.Eq.{bytes_eq-Decides}
 use Rattle.fdp_base.specs.Text.{digit, hex, line}
 use Rattle.fdp_base.specs.Pattern.{repeated}
-use Rattle.fdp_base.specs.Output.{pieces_of}
-use Rattle.fdp_trace.specs.Printing.{Extends}
+use Rattle.fdp_output.specs.Output.{pieces_of}
+use Rattle.fdp_trace.specs.Printer.{Extends}
 
 -- what follows where all went well
 pub when_ok : {T E : Type 0} (A B : Type 0) (r : Result T E) → (A → B) → OnOk r A → OnOk r B

@@ -13,9 +13,10 @@ use Rattle.std.proofs.lemmas.Fmt.{decimal_by_steps, IsAscii-decimal}
 use Rattle.std.proofs.lemmas.Str.{IsAscii-append}
 use Rattle.std.proofs.Math.Seq.{take-append_seam, drop-append_seam}
 use Rattle.fdp_base.specs.Text.{spaced}
-use Rattle.fdp_trace.specs.Words.{is_blank, words_of, IsFront}
+use Rattle.fdp_trace.specs.Words.{is_blank, words_of}
+use Rattle.fdp_trace.specs.Reader.FrontOf.{IsFront}
 use Rattle.fdp_trace.specs.Numbers.{value_of, IsNumber}
-use Rattle.fdp_trace.specs.CommandText.{spaced_behind}
+use Rattle.fdp_trace.specs.Printer.{spaced_behind}
 use Rattle.fdp_trace.proofs.Cutting.{words_cut, words_skip, no_words}
 
 -- ---- words

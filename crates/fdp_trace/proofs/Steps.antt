@@ -6,7 +6,8 @@ use Rattle.std.proofs.lemmas.List.{append-nil, nil_from_length}
 use Rattle.fdp_base.specs.declared.command.Command.{Command}
 use Rattle.fdp_trace.specs.declared.fault.FaultKind.{FaultKind}
 use Rattle.fdp_trace.specs.declared.fault.FaultKind.TheVariants as kinds
-use Rattle.fdp_trace.specs.Trace.{Tally, line_of, line_more, command_more, is_too_much, in_front, after_line, trace_from, ReadsLine, ReadsTrace}
+use Rattle.fdp_trace.proofs.ReadText.{Tally, line_more, command_more, is_too_much, in_front, after_line, trace_from, ReadsTrace}
+use Rattle.fdp_trace.specs.Reader.Line.{line_of, ReadsLine}
 use Rattle.fdp_trace.specs.declared.fault.TraceFault.{TraceFault}
 use Rattle.fdp_trace.specs.declared.fault.TraceFault.TheVariants as faults
 

@@ -12,9 +12,10 @@ use Rattle.fdp_base.specs.declared.command.Command.{Command}
 use Rattle.fdp_trace.specs.declared.fault.FaultKind.{FaultKind}
 use Rattle.fdp_trace.specs.declared.fault.FaultKind.TheVariants as kinds
 use Rattle.fdp_trace.specs.Words.{words_of}
-use Rattle.fdp_trace.specs.Reading.{◌>>=◌}
-use Rattle.fdp_trace.specs.Commands.{command_of}
-use Rattle.fdp_trace.specs.Trace.{line_of, Tally, line_more, command_more, is_too_much, in_front, after_line, trace_from, trace_of}
+use Rattle.fdp_trace.specs.Reader.Reading.{◌>>=◌}
+use Rattle.fdp_trace.specs.Reader.Commands.{command_of}
+use Rattle.fdp_trace.proofs.ReadText.{Tally, line_more, command_more, is_too_much, in_front, after_line, trace_from, trace_of}
+use Rattle.fdp_trace.specs.Reader.Line.{line_of}
 use Rattle.fdp_trace.specs.Demands.{WordsLack}
 use Rattle.fdp_trace.specs.Grammar.{is_skipped, blocks_read, IsReadable, Says, LineLacks, AreFew, IsTraceOf, IsBad, IsFaultOf}
 use Rattle.fdp_trace.proofs.Meaning.{ComesTo, comes, spells_is, lacks_is}

@@ -6,7 +6,7 @@ use Rattle.fdp_base.specs.declared.command.Range.{Range}
 use Rattle.fdp_base.specs.declared.payload.Payload.{Payload}
 use Rattle.fdp_base.specs.declared.payload.Payload.TheVariants.{Pattern, Bytes}
 use Rattle.fdp_base.specs.Text.{spaced}
-use Rattle.fdp_base.specs.Output.{word_of}
+use Rattle.fdp_base.specs.CommandKinds.{word_of}
 
 -- the word of a payload; no trace spells one of bytes
 abbrev pub payload_word : Payload → List ℕ
@@ -46,7 +46,3 @@ argument_words (commands.Other admin opcode flags feature) = decimal opcode ∷ 
 -- the line of a command, without an end
 abbrev pub command_text : Command → List ℕ
 command_text command = spaced (word_of command ∷ argument_words command)
-
--- words with a space in front of each
-abbrev pub spaced_behind : List (List ℕ) → List ℕ
-spaced_behind words = flat_map (λ word. 32 ∷ word) words

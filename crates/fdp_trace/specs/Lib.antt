@@ -4,9 +4,7 @@ pub mod CommandText
 pub mod Lines
 pub mod Demands
 pub mod Grammar
-pub mod Shapes
-pub mod Reading
-pub mod Commands
-pub mod Trace
-pub mod Printing
+pub mod Answer
 pub mod FaultWord
+pub mod Reader
+pub mod Printer

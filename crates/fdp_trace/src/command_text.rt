@@ -1,8 +1,9 @@
 //! Commands in the form of a trace.
 
 ghost use Rattle.std.specs.Prelude.{◌≡◌, ◌≤◌, ℕ, List, ◌++◌, ◌∷◌, false, length, OnOk, OnErr, map, flat_map, decimal, []};
-ghost use Rattle.fdp_trace.specs.CommandText.{payload_word, directive_words, range_words, on_word, class_words, argument_words, command_text, spaced_behind};
-ghost use Rattle.fdp_trace.specs.Printing.{Extends};
+ghost use Rattle.fdp_trace.specs.CommandText.{payload_word, directive_words, range_words, on_word, class_words, argument_words, command_text};
+ghost use Rattle.fdp_trace.specs.Printer.{spaced_behind};
+ghost use Rattle.fdp_trace.specs.Printer.{Extends};
 ghost use Rattle.fdp_trace.specs.Demands.{Spells};
 ghost use Rattle.fdp_trace.specs.Grammar.{is_skipped, Says};
 ghost use Rattle.fdp_base.specs.declared.command.Command.{Command};

@@ -1,5 +1,5 @@
 ghost use Rattle.std.specs.Prelude.{◌≡◌, bytes_eq};
-ghost use Rattle.fdp_trace.specs.Shapes.{word_named, accepts, is_fixed, is_choice};
+ghost use Rattle.fdp_trace.specs.Reader.Shapes.{word_named, accepts, is_fixed, is_choice};
 
 /// The first word of a line.
 #[derive(Clone, Copy, Debug, PartialEq, Eq)]
@@ -20,7 +20,7 @@ pub enum CommandWord {
 }
 
 impl CommandWord {
-    #[tactic(auto, unfolding(crate::specs::Shapes::word_named))]
+    #[tactic(auto, unfolding(crate::specs::Reader::Shapes::word_named))]
     pub fn from_text(text: &[u8]) -> Option<CommandWord>
         ensures { result ≡ word_named text.now }
     {

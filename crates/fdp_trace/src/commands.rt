@@ -2,8 +2,8 @@
 
 ghost use Rattle.std.specs.Prelude.{◌≡◌, ◌≤◌, ℕ, IfOk, codes};
 ghost use Rattle.fdp_trace.specs.Words.{words_of};
-ghost use Rattle.fdp_trace.specs.Reading.{Gives, field};
-ghost use Rattle.fdp_trace.specs.Commands.{field_8, field_16, field_32, field_64, field_count, choice, directive, class_of, write_of, read_of, zero_of, dealloc_of, flush_of, delete_of, status_of, update_of, log_of, set_fdp_of, set_events_of, create_of, spelled};
+ghost use Rattle.fdp_trace.specs.Reader.Reading.{Gives, field};
+ghost use Rattle.fdp_trace.specs.Reader.Commands.{field_8, field_16, field_32, field_64, field_count, choice, directive, class_of, write_of, read_of, zero_of, dealloc_of, flush_of, delete_of, status_of, update_of, log_of, set_fdp_of, set_events_of, create_of, spelled};
 
 use crate::command_word::{CommandWord, is_text};
 use crate::fault::{FaultKind, LineError};
@@ -13,7 +13,7 @@ use crate::words::next_word;
 use fdp_base::{Command, Payload};
 use std::alloc::Global;
 
-#[tactic(auto, unfolding(crate::specs::Reading::field))]
+#[tactic(auto, unfolding(crate::specs::Reader::Reading::field))]
 fn field(line: &[u8], low: u64, high: u64) -> Result<(u64, &[u8]), LineError>
     ensures gives { Gives (λ x. (x.0, words_of x.1.now)) result (field low high (words_of line.now)) }
     ensures bounds { IfOk result (λ x. (low ≤ x.0) × (x.0 ≤ high)) }
@@ -62,7 +62,7 @@ fn field_count(line: &[u8]) -> Result<(u32, &[u8]), LineError>
     Ok((number as u32, rest))
 }
 
-#[tactic(auto, unfolding(crate::specs::Commands::choice))]
+#[tactic(auto, unfolding(crate::specs::Reader::Commands::choice))]
 fn is_on(line: &[u8]) -> Result<(bool, &[u8]), LineError>
     ensures { Gives (λ x. (x.0, words_of x.1.now)) result (choice (codes "on") (words_of line.now)) }
 {
@@ -72,7 +72,7 @@ fn is_on(line: &[u8]) -> Result<(bool, &[u8]), LineError>
     }
 }
 
-#[tactic(auto, unfolding(crate::specs::Commands::directive))]
+#[tactic(auto, unfolding(crate::specs::Reader::Commands::directive))]
 fn directive(line: &[u8]) -> Result<(u8, u16), LineError>
     ensures { Gives (λ x. x) result (directive (words_of line.now)) }
 {
@@ -85,7 +85,7 @@ fn directive(line: &[u8]) -> Result<(u8, u16), LineError>
     }
 }
 
-#[tactic(auto, unfolding(crate::specs::Commands::class_of))]
+#[tactic(auto, unfolding(crate::specs::Reader::Commands::class_of))]
 fn class(line: &[u8]) -> Result<u8, LineError>
     ensures { Gives (λ x. x) result (class_of (words_of line.now)) }
 {
@@ -95,7 +95,7 @@ fn class(line: &[u8]) -> Result<u8, LineError>
     }
 }
 
-#[tactic(auto, unfolding(crate::specs::Commands::write_of))]
+#[tactic(auto, unfolding(crate::specs::Reader::Commands::write_of))]
 fn write(line: &[u8]) -> Result<Command, LineError>
     ensures { Gives (λ c. c) result (write_of (words_of line.now)) }
 {
@@ -115,7 +115,7 @@ fn write(line: &[u8]) -> Result<Command, LineError>
     })
 }
 
-#[tactic(auto, unfolding(crate::specs::Commands::read_of))]
+#[tactic(auto, unfolding(crate::specs::Reader::Commands::read_of))]
 fn read(line: &[u8]) -> Result<Command, LineError>
     ensures { Gives (λ c. c) result (read_of (words_of line.now)) }
 {
@@ -125,7 +125,7 @@ fn read(line: &[u8]) -> Result<Command, LineError>
     Ok(Command::Read { nsid, slba, count })
 }
 
-#[tactic(auto, unfolding(crate::specs::Commands::zero_of))]
+#[tactic(auto, unfolding(crate::specs::Reader::Commands::zero_of))]
 fn zero(line: &[u8]) -> Result<Command, LineError>
     ensures { Gives (λ c. c) result (zero_of (words_of line.now)) }
 {
@@ -135,7 +135,7 @@ fn zero(line: &[u8]) -> Result<Command, LineError>
     Ok(Command::Zero { nsid, slba, count })
 }
 
-#[tactic(auto, unfolding(crate::specs::Commands::dealloc_of))]
+#[tactic(auto, unfolding(crate::specs::Reader::Commands::dealloc_of))]
 fn dealloc(alloc: Global, line: &[u8]) -> Result<Command, LineError>
     ensures { Gives (λ c. c) result (dealloc_of (words_of line.now)) }
 {
@@ -149,7 +149,7 @@ fn dealloc(alloc: Global, line: &[u8]) -> Result<Command, LineError>
     })
 }
 
-#[tactic(auto, unfolding(crate::specs::Commands::flush_of))]
+#[tactic(auto, unfolding(crate::specs::Reader::Commands::flush_of))]
 fn flush(line: &[u8]) -> Result<Command, LineError>
     ensures { Gives (λ c. c) result (flush_of (words_of line.now)) }
 {
@@ -157,7 +157,7 @@ fn flush(line: &[u8]) -> Result<Command, LineError>
     Ok(Command::Flush { nsid })
 }
 
-#[tactic(auto, unfolding(crate::specs::Commands::delete_of))]
+#[tactic(auto, unfolding(crate::specs::Reader::Commands::delete_of))]
 fn delete(line: &[u8]) -> Result<Command, LineError>
     ensures { Gives (λ c. c) result (delete_of (words_of line.now)) }
 {
@@ -165,7 +165,7 @@ fn delete(line: &[u8]) -> Result<Command, LineError>
     Ok(Command::Delete { nsid })
 }
 
-#[tactic(auto, unfolding(crate::specs::Commands::status_of))]
+#[tactic(auto, unfolding(crate::specs::Reader::Commands::status_of))]
 fn status(line: &[u8]) -> Result<Command, LineError>
     ensures { Gives (λ c. c) result (status_of (words_of line.now)) }
 {
@@ -178,7 +178,7 @@ fn status(line: &[u8]) -> Result<Command, LineError>
     })
 }
 
-#[tactic(auto, unfolding(crate::specs::Commands::update_of))]
+#[tactic(auto, unfolding(crate::specs::Reader::Commands::update_of))]
 fn update(alloc: Global, line: &[u8]) -> Result<Command, LineError>
     ensures { Gives (λ c. c) result (update_of (words_of line.now)) }
 {
@@ -187,7 +187,7 @@ fn update(alloc: Global, line: &[u8]) -> Result<Command, LineError>
     Ok(Command::Update { nsid, mo: 1, pids })
 }
 
-#[tactic(auto, unfolding(crate::specs::Commands::log_of))]
+#[tactic(auto, unfolding(crate::specs::Reader::Commands::log_of))]
 fn log(line: &[u8]) -> Result<Command, LineError>
     ensures { Gives (λ c. c) result (log_of (words_of line.now)) }
 {
@@ -205,7 +205,7 @@ fn log(line: &[u8]) -> Result<Command, LineError>
     })
 }
 
-#[tactic(auto, unfolding(crate::specs::Commands::set_fdp_of))]
+#[tactic(auto, unfolding(crate::specs::Reader::Commands::set_fdp_of))]
 fn set_fdp(line: &[u8]) -> Result<Command, LineError>
     ensures { Gives (λ c. c) result (set_fdp_of (words_of line.now)) }
 {
@@ -218,7 +218,7 @@ fn set_fdp(line: &[u8]) -> Result<Command, LineError>
     })
 }
 
-#[tactic(auto, unfolding(crate::specs::Commands::set_events_of))]
+#[tactic(auto, unfolding(crate::specs::Reader::Commands::set_events_of))]
 fn set_events(alloc: Global, line: &[u8]) -> Result<Command, LineError>
     ensures { Gives (λ c. c) result (set_events_of (words_of line.now)) }
 {
@@ -234,7 +234,7 @@ fn set_events(alloc: Global, line: &[u8]) -> Result<Command, LineError>
     })
 }
 
-#[tactic(auto, unfolding(crate::specs::Commands::create_of))]
+#[tactic(auto, unfolding(crate::specs::Reader::Commands::create_of))]
 fn create(alloc: Global, line: &[u8]) -> Result<Command, LineError>
     ensures { Gives (λ c. c) result (create_of (words_of line.now)) }
 {

@@ -1,7 +1,8 @@
 ghost use Rattle.std.specs.Prelude.{◌≡◌, ◌++◌, ◌∷◌, [], OnOk, OnErr, decimal};
-ghost use Rattle.fdp_base.specs.Text.{hex, line};
-ghost use Rattle.fdp_base.specs.Output.{word_of, status_text, completion};
-ghost use Rattle.fdp_trace.specs.Printing.{Extends};
+ghost use Rattle.fdp_base.specs.Text.{hex, line, status_text};
+ghost use Rattle.fdp_base.specs.CommandKinds.{word_of};
+ghost use Rattle.fdp_output.specs.Output.{completion};
+ghost use Rattle.fdp_trace.specs.Printer.{Extends};
 
 use crate::data::push_data;
 use crate::decimal::push_decimal;

@@ -3,8 +3,8 @@
 ghost use Rattle.std.specs.Prelude.{◌≡◌, ◌/◌, ◌++◌, OnOk, OnErr, length, take, bytes_eq};
 ghost use Rattle.std.specs.Int.{from_le_bytes, w32};
 ghost use Rattle.fdp_base.specs.Pattern.{repeated};
-ghost use Rattle.fdp_trace.specs.Printing.{Extends};
-ghost use Rattle.fdp_base.specs.Output.{pieces_of, block_text, block_line, block_lines, data_line, data_lines, data_text};
+ghost use Rattle.fdp_trace.specs.Printer.{Extends};
+ghost use Rattle.fdp_output.specs.Output.{pieces_of, block_text, block_line, block_lines, data_line, data_lines, data_text};
 
 use crate::hex::{push_hex, push_hex_bytes};
 use fdp_base::Command;

@@ -2,7 +2,7 @@
 
 ghost use Rattle.std.specs.Prelude.{◌≡◌, ◌^◌, ◌<◌, ◌++◌, OnOk, OnErr};
 ghost use Rattle.fdp_base.specs.Text.{hex, hex_bytes};
-ghost use Rattle.fdp_trace.specs.Printing.{Extends};
+ghost use Rattle.fdp_trace.specs.Printer.{Extends};
 
 use fdp_base::hex_digit;
 use std::alloc::AllocError;

@@ -20,6 +20,3 @@ pub use completion::print_completion;
 pub use decimal::push_decimal;
 pub use fault::{FaultKind, TraceFault};
 pub use trace::read_trace;
-
-#[cfg(test)]
-mod tests;

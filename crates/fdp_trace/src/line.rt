@@ -2,11 +2,11 @@ ghost use Rattle.std.specs.Prelude.{◌≡◌, ℕ};
 ghost use Rattle.std.specs.List.{list_all};
 ghost use Rattle.std.specs.Str.{is_utf8};
 ghost use Rattle.fdp_trace.specs.Words.{is_blank, words_of};
-ghost use Rattle.fdp_trace.specs.Shapes.{words_fit, numbers_fit};
-ghost use Rattle.fdp_trace.specs.Reading.{Gives};
-ghost use Rattle.fdp_trace.specs.Commands.{checked, command_of};
+ghost use Rattle.fdp_trace.specs.Reader.Shapes.{words_fit, numbers_fit};
+ghost use Rattle.fdp_trace.specs.Reader.Reading.{Gives};
+ghost use Rattle.fdp_trace.specs.Reader.Commands.{checked, command_of};
 ghost use Rattle.fdp_trace.specs.Grammar.{is_skipped};
-ghost use Rattle.fdp_trace.specs.Trace.{line_of};
+ghost use Rattle.fdp_trace.specs.Reader.Line.{line_of};
 
 use crate::command_word::CommandWord;
 use crate::commands::spelled;
@@ -20,7 +20,7 @@ use std::str;
 const LONGEST: usize = 4096;
 
 /// The command of a line, or none where the line is skipped.
-#[tactic(auto, unfolding(crate::specs::Trace::line_of))]
+#[tactic(auto, unfolding(crate::specs::Reader::Line::line_of))]
 pub fn read_line(alloc: Global, line: &[u8]) -> Result<Option<Command>, LineError>
     ensures { Gives (λ c. c) result (line_of line.now) }
 {
@@ -58,7 +58,7 @@ fn is_text(line: &[u8]) -> bool
     }
 }
 
-#[tactic(auto, unfolding(crate::specs::Commands::command_of))]
+#[tactic(auto, unfolding(crate::specs::Reader::Commands::command_of))]
 fn command(alloc: Global, line: &[u8]) -> Result<Command, LineError>
     ensures { Gives (λ c. c) result (command_of (words_of line.now)) }
 {
@@ -71,7 +71,7 @@ fn command(alloc: Global, line: &[u8]) -> Result<Command, LineError>
     checked(alloc, word, rest)
 }
 
-#[tactic(auto, unfolding(crate::specs::Commands::checked))]
+#[tactic(auto, unfolding(crate::specs::Reader::Commands::checked))]
 fn checked(alloc: Global, word: CommandWord, line: &[u8]) -> Result<Command, LineError>
     ensures { Gives (λ c. c) result (checked word (words_of line.now)) }
 {
@@ -87,7 +87,7 @@ fn checked(alloc: Global, word: CommandWord, line: &[u8]) -> Result<Command, Lin
     spelled(alloc, word, line)
 }
 
-#[tactic(auto, unfolding(crate::specs::Shapes::words_fit))]
+#[tactic(auto, unfolding(crate::specs::Reader::Shapes::words_fit))]
 fn words_fit(word: CommandWord, line: &[u8]) -> bool
     ensures { result ≡ words_fit word 0 (words_of line.now) }
 {
@@ -103,7 +103,7 @@ fn words_fit(word: CommandWord, line: &[u8]) -> bool
     true
 }
 
-#[tactic(auto, unfolding(crate::specs::Shapes::numbers_fit))]
+#[tactic(auto, unfolding(crate::specs::Reader::Shapes::numbers_fit))]
 fn numbers_fit(word: CommandWord, line: &[u8]) -> bool
     ensures { result ≡ numbers_fit word 0 (words_of line.now) }
 {

@@ -1,7 +1,7 @@
 ghost use Rattle.std.specs.Prelude.{◌≡◌};
 ghost use Rattle.fdp_trace.specs.Words.{words_of};
-ghost use Rattle.fdp_trace.specs.Reading.{Gives};
-ghost use Rattle.fdp_trace.specs.Commands.{numbers_of, ranges_of, range_of};
+ghost use Rattle.fdp_trace.specs.Reader.Reading.{Gives};
+ghost use Rattle.fdp_trace.specs.Reader.Commands.{numbers_of, ranges_of, range_of};
 
 use crate::fault::{FaultKind, LineError};
 use crate::number::within;
@@ -37,7 +37,7 @@ pub fn event_types(alloc: Global, line: &[u8]) -> Result<EventTypes, LineError>
     Ok(Sequence::from_vec(numbers))
 }
 
-#[tactic(auto, unfolding(crate::specs::Commands::range_of))]
+#[tactic(auto, unfolding(crate::specs::Reader::Commands::range_of))]
 fn range(first: &[u8], second: &[u8]) -> Result<Range, LineError>
     ensures { Gives (λ range. range) result (range_of first.now second.now) }
 {

@@ -2,8 +2,9 @@ ghost use Rattle.std.specs.Prelude.{◌≡◌, ◌^◌, ◌≤◌, ℕ, min, len
 ghost use Rattle.std.specs.List.{list_all};
 ghost use Rattle.std.specs.Option.{option_map};
 ghost use Rattle.std.specs.Char.{digit_value, is_ascii_digit, is_ascii_hexdigit};
-ghost use Rattle.fdp_trace.specs.Numbers.{is_decimal, is_hexadecimal, number_of, value_of};
-ghost use Rattle.fdp_trace.specs.Reading.{Gives, within};
+ghost use Rattle.fdp_trace.specs.Numbers.{value_of};
+ghost use Rattle.fdp_trace.specs.Reader.NumberOf.{is_decimal, is_hexadecimal, number_of};
+ghost use Rattle.fdp_trace.specs.Reader.Reading.{Gives, within};
 
 use crate::fault::{FaultKind, LineError};
 
@@ -25,7 +26,7 @@ pub fn within(word: &[u8], low: u64, high: u64) -> Result<u64, LineError>
 }
 
 /// The number that a word spells, or `LIMIT` where it is at least that.
-#[tactic(auto, unfolding(crate::specs::Numbers::number_of))]
+#[tactic(auto, unfolding(crate::specs::Reader::NumberOf::number_of))]
 pub fn number(word: &[u8]) -> Option<u128>
     ensures { result ≡ option_map (min (2 ^ 64)) (number_of word.now) }
 {

@@ -1,8 +1,9 @@
-ghost use Rattle.std.specs.Prelude.{◌≡◌, ◌↔◌, ℕ, ◌<◌, ◌||◌, List, ◌∷◌, nat_lt, length, Ok, Err};
+ghost use Rattle.std.specs.Prelude.{◌≡◌, ℕ, ◌<◌, ◌||◌, List, ◌∷◌, nat_lt, length, IfOk, IfErr};
 ghost use Rattle.std.specs.Str.Lines.{lines, strip_carriage_return};
-ghost use Rattle.fdp_trace.specs.Words.{IsFront, is_line_feed};
+ghost use Rattle.fdp_trace.specs.Reader.FrontOf.{IsFront, is_line_feed};
 ghost use Rattle.fdp_trace.specs.Grammar.{blocks_read, IsTraceOf, IsFaultOf};
-ghost use Rattle.fdp_trace.specs.Trace.{trace_of, line_of, ReadsLine, ReadsTrace};
+ghost use Rattle.fdp_trace.specs.Answer.{IsCause, GivesCommands, GivesFault};
+ghost use Rattle.fdp_trace.specs.Reader.Line.{line_of, ReadsLine};
 ghost use Rattle.fdp_trace.specs.declared.fault.FaultKind.{FaultKind};
 ghost use Rattle.fdp_base.specs.declared.command.Command.{Command};
 
@@ -15,12 +16,15 @@ const MOST_COMMANDS: usize = 8192;
 
 const MOST_BLOCKS: u64 = 8192;
 
-/// The commands of a trace, in time that grows with the text. `trace_of` is what the grammar says of the text: its
-/// commands, or its first bad line, from 1, with the first thing that the line lacks.
+/// The commands of a trace, or its first bad line, from 1, with the first thing that the line lacks. It takes time that
+/// grows with the text.
 pub fn read_trace(alloc: Global, text: &[u8]) -> Result<Vec<Command>, TraceFault>
-    ensures answer { ReadsTrace (trace_of text.now) result }
-    ensures commands { (commands : List Command) → IsTraceOf text.now commands ↔ (trace_of text.now ≡ Ok commands) }
-    ensures faults { (line : ℕ) (kind : FaultKind) → IsFaultOf text.now line kind ↔ (trace_of text.now ≡ Err (line, kind)) }
+    ensures commands { IfOk result (λ commands. IsTraceOf text.now commands.items) }
+    ensures cause { IfErr result (IsCause text.now) }
+
+    // No trace is refused, and no fault passes, unless memory runs out.
+    ensures read { (commands : List Command) → IsTraceOf text.now commands → GivesCommands commands result }
+    ensures told { (line : ℕ) (kind : FaultKind) → IsFaultOf text.now line kind → GivesFault line kind result }
 {
     let mut commands = Vec::new(alloc);
     let mut number = 0;

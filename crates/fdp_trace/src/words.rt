@@ -1,5 +1,6 @@
 ghost use Rattle.std.specs.Prelude.{◌≡◌, ◌<◌, ◌≤◌, [], ◌∷◌, ◌||◌, MatchOption, IfSome, length};
-ghost use Rattle.fdp_trace.specs.Words.{is_blank, words_of, IsFront};
+ghost use Rattle.fdp_trace.specs.Words.{is_blank, words_of};
+ghost use Rattle.fdp_trace.specs.Reader.FrontOf.{IsFront};
 
 /// The first word of a line and what stands behind it.
 pub fn next_word(line: &[u8]) -> Option<(&[u8], &[u8])>

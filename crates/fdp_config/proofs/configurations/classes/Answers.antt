@@ -6,7 +6,7 @@ use Rattle.toml.specs.View.{view}
 use Rattle.fdp_config.proofs.Views.{reads_more, reads_stop, reads_all, counted, as_many}
 use Rattle.fdp_config.specs.Document.{elements}
 use Rattle.fdp_config.specs.Ranges.{first_of, class_fault, classes_fault}
-use Rattle.fdp_config.specs.Reading.{class_of}
+use Rattle.fdp_config.specs.Ranges.{class_of}
 use Rattle.fdp_config.proofs.configurations.classes.Goals as goal
 
 -- in an array of one to sixteen words the first fault is told

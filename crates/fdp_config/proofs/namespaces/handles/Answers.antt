@@ -7,8 +7,10 @@ use Rattle.fdp_config.proofs.Checks.{checked_fails, checked_passes}
 use Rattle.fdp_config.proofs.Handles.{handle_fault, list_all-handles, list_all-told}
 use Rattle.fdp_config.proofs.Views.{reads_more, reads_stop, reads_all}
 use Rattle.fdp_config.specs.declared.key.Key.TheVariants.{Namespaces}
-use Rattle.fdp_config.specs.Ranges.{first_of, has_repeat, is_handle, handles_fault}
-use Rattle.fdp_config.specs.Reading.{amount_of, given}
+use Rattle.fdp_base.specs.Numbers.{has_repeat}
+use Rattle.fdp_config.specs.Ranges.{first_of, is_handle, handles_fault}
+use Rattle.fdp_config.specs.Document.{amount_of}
+use Rattle.fdp_config.specs.Reader.Config.{given}
 use Rattle.fdp_config.proofs.namespaces.handles.Goals as goal
 
 unless_all : (few repeats : Bool) (place : ℕ) → (if (few && false) && not repeats then None else Some place) ≡ Some place

@@ -1,7 +1,7 @@
 use Rattle.std.proofs.Common.{Some}
 use Rattle.fdp_config.proofs.Views.{ReadsTo}
 use Rattle.fdp_config.proofs.Handles.{handle_fault}
-use Rattle.fdp_config.specs.Reading.{amount_of}
+use Rattle.fdp_config.specs.Document.{amount_of}
 use Rattle.fdp_config.proofs.namespaces.handles.Given as goal
 
 abbrev pub invariant-loop-value : goal.invariant-loop-value

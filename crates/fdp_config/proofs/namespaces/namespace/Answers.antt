@@ -6,7 +6,7 @@ use Rattle.fdp_config.proofs.Checks.{checked_fails, checked_free, checked_passes
 use Rattle.fdp_config.specs.Document.{elements_of, number_of}
 use Rattle.fdp_config.specs.Kinds.{blocks_word, handles_word}
 use Rattle.fdp_config.specs.Ranges.{blocks_fault, handles_fault, namespace_fault}
-use Rattle.fdp_config.specs.Reading.{namespace_in}
+use Rattle.fdp_config.specs.Reader.Config.{namespace_in}
 use Rattle.fdp_config.specs.declared.key.Key.TheVariants.{Namespaces}
 use Rattle.fdp_config.proofs.namespaces.namespace.Goals as goal
 

@@ -1,6 +1,6 @@
 use Rattle.fdp_config.proofs.Views.{ReadsTo}
 use Rattle.fdp_config.specs.Ranges.{namespace_fault}
-use Rattle.fdp_config.specs.Reading.{namespace_in}
+use Rattle.fdp_config.specs.Reader.Config.{namespace_in}
 use Rattle.fdp_config.proofs.namespaces.namespaces.Given as goal
 
 abbrev pub invariant-loop-place : goal.invariant-loop-place

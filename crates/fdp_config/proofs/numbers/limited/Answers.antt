@@ -3,7 +3,7 @@ use Rattle.std.proofs.lemmas.Bool.Decides.{nat_tests}
 use Rattle.std.proofs.lemmas.Result.{err_from_is_err_and}
 use Rattle.fdp_config.proofs.Checks.{checked_err, checked_both, checked_further, checked_value}
 use Rattle.fdp_config.specs.Ranges.{above, range_fault}
-use Rattle.fdp_config.specs.Reading.{amount_at}
+use Rattle.fdp_config.specs.Document.{amount_at}
 use Rattle.toml.specs.View.{table_view}
 use Rattle.fdp_config.proofs.numbers.limited.Goals as goal
 

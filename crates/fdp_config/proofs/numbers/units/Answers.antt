@@ -3,7 +3,7 @@ use Rattle.std.proofs.lemmas.Bool.Decides.{nat_tests}
 use Rattle.std.proofs.lemmas.Result.{err_from_is_err_and}
 use Rattle.fdp_config.proofs.Checks.{checked_err, checked_both, checked_further, checked_value}
 use Rattle.fdp_config.specs.Ranges.{further_fault, range_fault}
-use Rattle.fdp_config.specs.Reading.{config_in}
+use Rattle.fdp_config.specs.Reader.Config.{config_in}
 use Rattle.fdp_config.specs.declared.key.Key.TheVariants.{Units}
 use Rattle.toml.specs.View.{table_view}
 use Rattle.fdp_config.proofs.numbers.units.Goals as goal
@@ -18,12 +18,12 @@ pub returns-then-pages-le262144 : goal.returns-then-pages-le262144
 unfolding range_fault
 returns-then-pages-le262144 c =
     let same = checked_value Units _ _ _ c.in_ok-units.ensures.value in
-    let free : further_fault (config_in (table_view c.args.table.now)) Units ≡ None = grind (arith, nat_tests) in
+    let free : further_fault (table_view c.args.table.now) (config_in (table_view c.args.table.now)) Units ≡ None = grind (arith, nat_tests) in
     checked_both Units _ _ _ _ c.in_ok-units.ensures.value free
 
 pub returns-else-pages-le262144 : goal.returns-else-pages-le262144
 unfolding range_fault
 returns-else-pages-le262144 c =
     let same = checked_value Units _ _ _ c.in_ok-units.ensures.value in
-    let told : further_fault (config_in (table_view c.args.table.now)) Units ≡ Some (c.from-4.result * (c.from.result * c.from-2.result + 2 * c.from-3.result)) = grind (arith, nat_tests) in
+    let told : further_fault (table_view c.args.table.now) (config_in (table_view c.args.table.now)) Units ≡ Some (c.from-4.result * (c.from.result * c.from-2.result + 2 * c.from-3.result)) = grind (arith, nat_tests) in
     checked_further Units _ _ _ _ _ c.in_ok-units.ensures.value told

@@ -3,11 +3,16 @@ use Rattle.std.proofs.lemmas.Result.{err_from_is_err_and}
 use Rattle.toml.specs.View.{table_view}
 use Rattle.fdp_config.proofs.Chain.{stop_after, all_past, enabled_range, fdp_range, namespaces_range, listable_is}
 use Rattle.fdp_config.proofs.Checks.{checked_free, checked_told}
-use Rattle.fdp_config.specs.Document.{truth_of}
-use Rattle.fdp_config.specs.Reading.{config_in}
+use Rattle.fdp_config.specs.Document.{amount_at, truth_of}
+use Rattle.fdp_config.specs.Ranges.{above}
+use Rattle.fdp_config.specs.Reader.Config.{config_in}
 use Rattle.fdp_config.specs.Table.{keys}
 use Rattle.fdp_config.specs.declared.key.Key.TheVariants.{Block, UnitPages, Groups, Units, AreaUnits, Queues, BlocksPerCommand, Fdp, Enabled, Index, Namespaces, QueueDepth, Collectors, Turns}
 use Rattle.fdp_config.proofs.read.ranged_config.Goals as goal
+
+pub limited-requires-clause-limit : goal.limited-requires-clause-limit
+limited-requires-clause-limit c =
+    ap (λ pages. above pages (amount_at (table_view c.args.table.now) BlocksPerCommand)) (sym (checked_free UnitPages _ _ _ (sym c.in_ok-unit_pages.ensures.value)).1)
 
 pub returns-in_err-block-clause-fault : goal.returns-in_err-block-clause-fault
 returns-in_err-block-clause-fault c =

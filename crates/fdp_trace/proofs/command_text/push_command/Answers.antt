@@ -1,6 +1,7 @@
 use Rattle.std.proofs.Common.{List, ℕ, ◌++◌, append_assoc, ap, sym, ◌∙◌}
-use Rattle.fdp_base.specs.Output.{word_of}
-use Rattle.fdp_trace.specs.CommandText.{argument_words, spaced_behind}
+use Rattle.fdp_base.specs.CommandKinds.{word_of}
+use Rattle.fdp_trace.specs.CommandText.{argument_words}
+use Rattle.fdp_trace.specs.Printer.{spaced_behind}
 use Rattle.fdp_trace.proofs.Printed.{when_ok}
 use Rattle.fdp_trace.proofs.Spelling.{spaced_is}
 use Rattle.fdp_trace.proofs.command_text.push_command.Goals as goal

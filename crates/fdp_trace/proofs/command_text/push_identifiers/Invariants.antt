@@ -1,7 +1,7 @@
 use Rattle.std.proofs.Common.{◌≡◌, ◌++◌, take}
 use Rattle.std.specs.Prelude.{map, decimal}
-use Rattle.fdp_trace.specs.CommandText.{spaced_behind}
-use Rattle.fdp_trace.specs.Printing.{Extends}
+use Rattle.fdp_trace.specs.Printer.{spaced_behind}
+use Rattle.fdp_trace.specs.Printer.{Extends}
 use Rattle.fdp_trace.proofs.command_text.push_identifiers.Given as goal
 
 abbrev pub invariant-loop-number : goal.invariant-loop-number

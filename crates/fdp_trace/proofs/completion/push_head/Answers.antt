@@ -1,6 +1,7 @@
 use Rattle.std.proofs.Common.{ap, ◌∙◌, List, ℕ, ◌++◌, decimal}
 use Rattle.fdp_base.specs.Text.{hex}
-use Rattle.fdp_base.specs.Output.{word_of, status_text}
+use Rattle.fdp_base.specs.Text.{status_text}
+use Rattle.fdp_base.specs.CommandKinds.{word_of}
 use Rattle.fdp_trace.proofs.Printed.{line_of_four}
 use Rattle.fdp_trace.proofs.completion.push_head.Goals as goal
 

@@ -1,5 +1,5 @@
 use Rattle.std.proofs.Common.{◌/◌, ◌-◌, ◌+◌, length, sym, ◌∙◌, arith}
-use Rattle.fdp_base.specs.Output.{block_line}
+use Rattle.fdp_output.specs.Output.{block_line}
 use Rattle.fdp_trace.proofs.Printed.{extends_more, no_pieces, one_piece, no_piece, no_more, room, some_left, none_left}
 use Rattle.fdp_trace.proofs.data.push_blocks.Goals as goal
 

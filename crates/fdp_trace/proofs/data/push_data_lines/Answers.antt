@@ -1,5 +1,5 @@
 use Rattle.std.proofs.Common.{rules, ◌≡◌, ℕ, ◌-◌, ◌+◌, length, take, drop, sym, ap, ◌∙◌, arith}
-use Rattle.fdp_base.specs.Output.{data_line}
+use Rattle.fdp_output.specs.Output.{data_line}
 use Rattle.fdp_trace.proofs.Printed.{extends_more, extends_both, one_piece, no_piece, no_more, some_left, none_left, take_min, drop_min}
 use Rattle.fdp_trace.proofs.data.push_data_lines.Goals as goal
 

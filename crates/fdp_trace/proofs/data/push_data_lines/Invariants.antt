@@ -1,7 +1,7 @@
 use Rattle.std.proofs.Common.{◌≡◌, ◌++◌, ◌-◌, length}
 use Rattle.std.specs.List.{flat_map}
-use Rattle.fdp_base.specs.Output.{pieces_of, data_line, data_lines}
-use Rattle.fdp_trace.specs.Printing.{Extends}
+use Rattle.fdp_output.specs.Output.{pieces_of, data_line, data_lines}
+use Rattle.fdp_trace.specs.Printer.{Extends}
 use Rattle.fdp_trace.proofs.data.push_data_lines.Given as goal
 
 abbrev pub invariant-loop : goal.invariant-loop

@@ -1,6 +1,6 @@
 use Rattle.std.proofs.Common.{◌≡◌, ◌++◌, take}
 use Rattle.fdp_base.specs.Text.{hex_bytes}
-use Rattle.fdp_trace.specs.Printing.{Extends}
+use Rattle.fdp_trace.specs.Printer.{Extends}
 use Rattle.fdp_trace.proofs.hex.push_hex_bytes.Given as goal
 
 abbrev pub invariant-loop-b : goal.invariant-loop-b

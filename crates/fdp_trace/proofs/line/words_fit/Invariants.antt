@@ -1,6 +1,6 @@
 use Rattle.std.proofs.Common.{◌≡◌, ◌≤◌, ◌+◌, length}
 use Rattle.fdp_trace.specs.Words.{words_of}
-use Rattle.fdp_trace.specs.Shapes.{words_fit}
+use Rattle.fdp_trace.specs.Reader.Shapes.{words_fit}
 use Rattle.fdp_trace.proofs.line.words_fit.Given as goal
 
 abbrev pub invariant-loop-text : goal.invariant-loop-text

@@ -1,6 +1,6 @@
 use Rattle.std.proofs.Common.{◌≡◌, length}
 use Rattle.fdp_trace.specs.Words.{words_of}
-use Rattle.fdp_trace.specs.Commands.{numbers_of}
+use Rattle.fdp_trace.specs.Reader.Commands.{numbers_of}
 use Rattle.fdp_trace.proofs.Fronts.{with_front}
 use Rattle.fdp_trace.proofs.lists.event_types.Given as goal
 

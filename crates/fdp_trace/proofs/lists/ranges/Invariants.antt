@@ -1,6 +1,6 @@
 use Rattle.std.proofs.Common.{◌≡◌, length}
 use Rattle.fdp_trace.specs.Words.{words_of}
-use Rattle.fdp_trace.specs.Commands.{ranges_of}
+use Rattle.fdp_trace.specs.Reader.Commands.{ranges_of}
 use Rattle.fdp_trace.proofs.Fronts.{with_front}
 use Rattle.fdp_trace.proofs.lists.ranges.Given as goal
 

@@ -1,5 +1,5 @@
 use Rattle.std.proofs.Common.{◌≡◌, ◌<◌, ℕ, false, get_or}
-use Rattle.fdp_trace.specs.Words.{is_line_feed}
+use Rattle.fdp_trace.specs.Reader.FrontOf.{is_line_feed}
 use Rattle.fdp_trace.proofs.trace.line_len.Given as goal
 
 abbrev pub invariant-loop-i : goal.invariant-loop-i

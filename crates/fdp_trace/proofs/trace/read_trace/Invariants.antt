@@ -1,6 +1,6 @@
 use Rattle.std.proofs.Common.{◌≡◌, ◌+◌, ◌≤◌, length, vec_len}
 use Rattle.std.specs.Str.Lines.{lines}
-use Rattle.fdp_trace.specs.Trace.{trace_from, trace_of}
+use Rattle.fdp_trace.proofs.ReadText.{trace_from, trace_of}
 use Rattle.fdp_trace.proofs.Steps.{with_commands}
 use Rattle.fdp_trace.proofs.trace.read_trace.Given as goal
 

@@ -1,7 +1,0 @@
--- A text that is printed piece by piece.
-use Rattle.std.specs.Prelude.{◌≡◌, ◌++◌, ℕ, List}
-
--- the new text begins with the old one
-pub record Extends (old new : List ℕ) : Type 0 where
-  pub more : List ℕ
-  pub whole : new ≡ old ++ more
