@@ -9,13 +9,13 @@ use Rattle.fdp_base.specs.declared.entry.Entry.{Entry}
 use Rattle.fdp_base.specs.declared.entry.Spot.{Spot}
 use Rattle.fdp_base.specs.CommandKinds.{nsid_of, write_of}
 use Rattle.fdp_base.specs.Pattern.{payload_block}
-use Rattle.fdp_base.specs.Placement.{geometry_of}
-use Rattle.fdp_base.specs.PlainState.{Block, Going, Namespace, PageName, PlainState, Reference}
-use Rattle.fdp_base.specs.Point.{Point}
-use Rattle.fdp_base.specs.Sites.{is_there}
+use Rattle.fdp_base.specs.Placement.{classes_of, geometry_of}
+use Rattle.fdp_rules.specs.PlainState.{Block, Going, Namespace, PageName, PlainState, Reference}
+use Rattle.fdp_rules.specs.Point.{Point}
+use Rattle.fdp_rules.specs.Sites.{is_there}
 use Rattle.fdp_base.specs.Spare.{data_spare}
-use Rattle.fdp_base.specs.Step.{IsOnTarget, goes_to}
-use Rattle.fdp_base.specs.Target.{target_of}
+use Rattle.fdp_rules.specs.Step.{IsOnTarget, goes_to}
+use Rattle.fdp_rules.specs.Target.{target_of}
 use Rattle.fdp_flash.specs.declared.cell.Cell.{Cell}
 use Rattle.fdp_flash.specs.declared.cell.Cell.TheVariants.{Whole}
 use Rattle.fdp_flash.specs.Cells.{IsBlankFrom}
@@ -57,6 +57,7 @@ pub handles-alike : (c : DriveConfig) (p q : Point) (x : HandleTable) → IsAlik
 handles-alike c p q x a h = record {
   unit_pages = h.unit_pages;
   groups = h.groups;
+  classes = ap (λ (b : Bool). classes_of c b q.state.index) a.enabled ∙ ap (classes_of c p.state.enabled) a.index ∙ h.classes;
   references = λ rg ruh. ap (λ (f : ℕ → ℕ → Reference). f rg ruh) a.references ∙ h.references rg ruh;
 }
 

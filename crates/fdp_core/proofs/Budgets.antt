@@ -5,9 +5,9 @@ use Rattle.std.proofs.lemmas.List.Sums.{sum_by-cons}
 use Rattle.fdp_base.specs.declared.config.DriveConfig.{DriveConfig}
 use Rattle.fdp_base.specs.Numbers.{numbers_from}
 use Rattle.fdp_base.specs.Placement.{budget_of}
-use Rattle.fdp_base.specs.PlainState.{Block, PlainState}
-use Rattle.fdp_base.specs.Point.{Point}
-use Rattle.fdp_base.specs.Room.{budget, handles_in_force, lies_in, lost_in}
+use Rattle.fdp_rules.specs.PlainState.{Block, PlainState}
+use Rattle.fdp_rules.specs.Point.{Point}
+use Rattle.fdp_rules.specs.Room.{budget, handles_in_force, lies_in, lost_in}
 use Rattle.fdp_flash.specs.declared.cell.Cell.{Cell}
 use Rattle.fdp_map.specs.declared.mapped.Mapped.{Mapped}
 use Rattle.fdp_map.specs.Counting.{as_number}

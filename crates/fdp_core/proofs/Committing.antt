@@ -6,9 +6,9 @@ use Rattle.fdp_base.specs.declared.entry.Entry.{Entry}
 use Rattle.fdp_base.specs.declared.entry.Entry.TheVariants as entries
 use Rattle.fdp_base.specs.declared.entry.Reply.{Reply}
 use Rattle.fdp_base.specs.CommandKinds.{Write, write_of}
-use Rattle.fdp_base.specs.PlainState.{Going}
-use Rattle.fdp_base.specs.Room.{size_of}
-use Rattle.fdp_base.specs.Step.{MaySucceed}
+use Rattle.fdp_rules.specs.PlainState.{Going}
+use Rattle.fdp_rules.specs.Room.{size_of}
+use Rattle.fdp_rules.specs.Step.{MaySucceed}
 use Rattle.fdp_handles.specs.HandleTable.{HandleTable}
 use Rattle.fdp_history.specs.OrderlyState.{IsOrderlyGoing}
 use Rattle.fdp_map.specs.MapTable.{MapTable, size_in}

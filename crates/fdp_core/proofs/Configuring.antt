@@ -6,10 +6,10 @@ use Rattle.fdp_base.specs.declared.config.DriveConfig.{DriveConfig}
 use Rattle.fdp_base.specs.declared.config.NamespaceConfig.{NamespaceConfig}
 use Rattle.fdp_base.specs.Config.{IsValidConfig, IsValidNamespace}
 use Rattle.fdp_base.specs.Geometry.{all_units}
-use Rattle.fdp_base.specs.History.{FoundNamespace, first_state, fresh, made_namespace}
+use Rattle.fdp_rules.specs.History.{FoundNamespace, first_state, fresh, made_namespace}
 use Rattle.fdp_base.specs.Numbers.{with_at}
 use Rattle.fdp_base.specs.Placement.{budget_of, full_budget, geometry_of, handle_count}
-use Rattle.fdp_base.specs.PlainState.{Namespace}
+use Rattle.fdp_rules.specs.PlainState.{Namespace}
 use Rattle.fdp_history.proofs.Spaces.{in_force-within}
 use Rattle.std.proofs.lemmas.List.Sums.{get_or-le-sum_by}
 use Rattle.std.proofs.lemmas.Nat.{mul-le}

@@ -3,7 +3,7 @@ use Rattle.std.proofs.Common.{◌≡◌, ℕ, ◌<◌, Bool, true, false, List, 
 use Rattle.std.specs.Prelude.{◌==◌, option_map, slice_set}
 use Rattle.std.specs.Option.{option_flatten}
 use Rattle.fdp_base.specs.Numbers.{with_at}
-use Rattle.fdp_base.specs.PlainState.{Going}
+use Rattle.fdp_rules.specs.PlainState.{Going}
 use Rattle.fdp_handles.proofs.Rows.{slice_get-set}
 use Rattle.fdp_core.specs.declared.flight.Flight.{Flight}
 use Rattle.fdp_core.specs.Held.{flight_in, going_of}

@@ -1,32 +1,36 @@
 -- From what a step did to the history and the flash, to what contracts say of it.
-use Rattle.std.proofs.Common.{◌≡◌, ℕ, Bool, false, ◌||◌, IsTrue, List, [], ◌∷◌, ◌++◌, refl, ap, sym, ◌∙◌, subst, arith}
-use Rattle.std.specs.List.{list_any}
+use Rattle.std.proofs.Common.{◌≡◌, ℕ, zero, suc, ◌+◌, ◌≤◌, Bool, true, false, cond, ◌||◌, IsTrue, List, [], ◌∷◌, ◌++◌, refl, ap, sym, ◌∙◌, subst, arith}
+use Rattle.std.specs.List.{count_by, list_any}
 use Rattle.std.proofs.Math.Bool.{or-false}
 use Rattle.std.proofs.lemmas.Bool.{false≢true}
 use Rattle.std.proofs.lemmas.List.Folds.{list_any-append}
-use Rattle.std.proofs.lemmas.List.Sums.{sum_by-append}
+use Rattle.std.proofs.lemmas.List.Sums.{count_by-le-length, sum_by-append, sum_by-cons}
+use Rattle.fdp_base.specs.Counts.{Rose}
 use Rattle.fdp_base.specs.declared.command.Command.{Command}
 use Rattle.fdp_base.specs.declared.entry.Entry.{Entry}
 use Rattle.fdp_base.specs.declared.entry.Entry.TheVariants as entries
 use Rattle.fdp_base.specs.declared.entry.Reply.{Reply}
-use Rattle.fdp_base.specs.Change.{is_media_error}
-use Rattle.fdp_base.specs.Totals.{media_blocks, media_blocks_of}
-use Rattle.fdp_flash.specs.FlashState.{Faulted, FlashState}
+use Rattle.fdp_rules.specs.Change.{is_media_error}
+use Rattle.fdp_rules.specs.Totals.{media_blocks, media_blocks_of}
+use Rattle.fdp_flash.specs.FlashState.{Call, FlashState}
+use Rattle.fdp_core.specs.declared.counts.Counts.{Counts}
 use Rattle.fdp_core.specs.declared.ticket.Done.{Done}
 use Rattle.fdp_core.specs.Book.{IsLonger}
 use Rattle.fdp_core.specs.BookSteps as book
-use Rattle.fdp_core.specs.Seen.{IsKept, Matches, Seen, counted_more, tells_failure}
-use Rattle.fdp_core.specs.Sound.{IsSound}
+use Rattle.fdp_core.specs.Calls.{FailedAt, MakesCalls, has_failed}
+use Rattle.fdp_core.specs.Seen.{CountedSince, IsKept, Matches, Seen, counted_more, counts_of, is_media_reply, is_shut, tells_failure}
+use Rattle.fdp_core.specs.Sound.{IsSound, IsSoundGroup}
 use Rattle.fdp_core.specs.Steps.{Adds, Completes}
+use Rattle.fdp_core.proofs.CallsMade.{any-first, any-second, calls-none, counted_more-add, counted_more-none, kept-made}
 
 -- the flash as it was
 pub kept-same : (f : FlashState) → IsKept f f
 kept-same f = record { geometry = refl; told = refl; reliable = refl; moment = omega arith; faults = omega arith }
 
-pub adds : {F : Type 0} (state : F → FlashState) (old new : Seen F) (es : List Entry) (block : List ℕ) →
-    IsSound (state new.flash) new.book.config new.book.entries new.failed block → IsLonger old.book new.book es →
-    Matches (state old.flash) (state new.flash) es new.failed → Adds state old new es
-adds state old new es block so longer matches = record { book = longer; legal = so.legal; flash_is = matches; cells = so.cells }
+unfoldable pub adds : {F : Type 0} (state : F → FlashState) (old new : Seen F) (es : List Entry) (calls : List Call) (block : List ℕ) →
+    IsSound (state new.flash) new.book.config new.book.entries new.failed block → new.handed ≡ old.handed → IsLonger old.book new.book es →
+    MakesCalls (state old.flash) (state new.flash) calls → Matches (state old.flash) (state new.flash) es new.failed → Adds state old new es
+adds state old new es calls block so handed longer made matches = record { book = longer; handed_is = handed; calls = calls; made = made; legal = so.legal; flash_is = matches; cells = so.cells }
 
 -- an entry that tells of no failure, and of no page
 pub matches-quiet : (f : FlashState) (e : Entry) (failed : Bool) → failed ≡ false → media_blocks_of e ≡ 0 → tells_failure e ≡ false → Matches f f (e ∷ []) failed
@@ -41,27 +45,29 @@ matches-quiet f e failed well none quiet =
       told_by = or-false (tells_failure e) ∙ quiet ∙ sym well;
     }
 
--- how a command was completed without a program: the entries before its own programmed nothing, and the group has failed exactly
--- where they or the reply tell of a failure
+-- how a command was completed: the entries before its own programmed nothing, and the group has failed exactly where a call
+-- failed, and where they or the reply tell of a failure
 pub record EndsSo (old new : FlashState) (before : List Entry) (reply : Reply) (failed : Bool) : Type 0 where
-  pub kept : IsKept old new
+  pub calls : List Call
+  pub made : MakesCalls old new calls
+  pub fails : failed ≡ list_any has_failed calls
   pub programs : new.programs ≡ old.programs
   pub unplaced : media_blocks before ≡ 0
   pub is_error : failed ≡ is_media_error reply.status
   pub quiet : list_any tells_failure before || failed ≡ failed
-  pub fault : IsTrue failed → Faulted old new
-  pub no_fault : failed ≡ false → new.faults ≡ old.faults
+  pub media : IsTrue failed → FailedAt old new new.moment
 
 -- a reply that is no media error, with the flash as it was
 pub ends-well : (f : FlashState) (reply : Reply) (failed : Bool) → failed ≡ false → is_media_error reply.status ≡ false → EndsSo f f [] reply failed
 ends-well f reply failed well fine = record {
-  kept = kept-same f;
+  calls = [];
+  made = calls-none f;
+  fails = well;
   programs = refl;
   unplaced = refl;
   is_error = well ∙ sym fine;
   quiet = refl;
-  fault = λ wrong. absurd (false≢true (sym well ∙ wrong));
-  no_fault = λ _. refl;
+  media = λ wrong. absurd (false≢true (sym well ∙ wrong));
 }
 
 no-program : (p : ℕ) (before : List Entry) (queue number moment : ℕ) (command : Command) (reply : Reply) → media_blocks before ≡ 0 → p ≡ counted_more p (media_blocks (before ++ entries.Host queue number command reply moment ∷ []))
@@ -73,25 +79,126 @@ no-program p before queue number moment command reply none =
 -- the Host entry of a command, behind these
 pub matches-ended : (old new : FlashState) (before : List Entry) (queue number moment : ℕ) (command : Command) (reply : Reply) (failed : Bool) → EndsSo old new before reply failed → Matches old new (before ++ entries.Host queue number command reply moment ∷ []) failed
 matches-ended old new before queue number moment command reply failed so = record {
-  kept = so.kept;
+  kept = kept-made old new so.calls so.made;
   programs = so.programs ∙ no-program old.programs before queue number moment command reply so.unplaced;
-  fault = so.fault;
-  no_fault = so.no_fault;
+  fault = λ wrong. so.made.fault (sym so.fails ∙ wrong);
+  no_fault = λ well. so.made.no_fault (sym so.fails ∙ well);
   told_by = list_any-append tells_failure before (entries.Host queue number command reply moment ∷ [])
       ∙ ap (λ b. list_any tells_failure before || b) (or-false (is_media_error reply.status) ∙ sym so.is_error) ∙ so.quiet;
 }
 
--- a step that completes a command
+-- a step completes a command, with these calls
+abbrev pub CompletesBy : {F : Type 0} → (F → FlashState) → Seen F → Seen F → List Entry → ℕ → ℕ → Command → List Call → Done → Type 0
+CompletesBy state old new before queue number command calls done = (h : Completes state old new before queue number command done) × (h.step.calls ≡ calls)
+
 pub completes : {F : Type 0} (state : F → FlashState) (old new : Seen F) (before : List Entry) (queue number : ℕ) (command : Command) (reply : Reply) (moment : ℕ) (done : Done) (block : List ℕ) →
-    IsSound (state new.flash) new.book.config new.book.entries new.failed block →
+    IsSound (state new.flash) new.book.config new.book.entries new.failed block → new.handed ≡ old.handed →
     book.Completes old.book new.book before queue number command reply moment done →
-    moment ≡ (state new.flash).moment → EndsSo (state old.flash) (state new.flash) before reply new.failed →
-    Completes state old new before queue number command done
-completes state old new before queue number command reply moment done block so is moment_is ends =
-    subst (λ (d : Done). Completes state old new before queue number command d) (sym is.done_is) (record {
-      step = adds state old new (before ++ entries.Host queue number command reply moment ∷ []) block so is.step
-          (matches-ended (state old.flash) (state new.flash) before queue number moment command reply new.failed ends);
-      position_is = refl;
-      moment_is = moment_is;
-      failed_is = ends.is_error;
-    })
+    moment ≡ (state new.flash).moment → (ends : EndsSo (state old.flash) (state new.flash) before reply new.failed) →
+    CompletesBy state old new before queue number command ends.calls done
+unfolding adds
+completes state old new before queue number command reply moment done block so handed is moment_is ends =
+    subst (CompletesBy state old new before queue number command ends.calls) (sym is.done_is) (
+      record {
+        step = adds state old new (before ++ entries.Host queue number command reply moment ∷ []) ends.calls block so handed is.step ends.made
+            (matches-ended (state old.flash) (state new.flash) before queue number moment command reply new.failed ends);
+        position_is = refl;
+        moment_is = moment_is;
+        failed_is = ends.is_error;
+        media = λ error. subst (FailedAt (state old.flash) (state new.flash)) (sym moment_is) (ends.media (ends.is_error ∙ error));
+      },
+      refl,
+    )
+
+-- ---- since the flash was handed in
+
+-- an entry that tells of no failure is none of the two
+quiet-media : (e : Entry) → tells_failure e ≡ false → is_media_reply e ≡ false
+quiet-media (entries.Host queue number command reply moment) quiet = quiet
+quiet-media _ quiet = refl
+
+quiet-shut : (e : Entry) → tells_failure e ≡ false → is_shut e ≡ false
+quiet-shut (entries.Shut rg ruh) quiet = quiet
+quiet-shut _ quiet = refl
+
+counts-none : (b : Bool) → b ≡ false → cond {A = ℕ} b 1 0 ≡ 0
+counts-none true is = absurd (false≢true (sym is))
+counts-none false is = refl
+
+-- where no entry tells of a failure, none is of a kind that does
+none-of : (p : Entry → Bool) (es : List Entry) → ((e : Entry) → tells_failure e ≡ false → p e ≡ false) → list_any tells_failure es ≡ false → count_by p es ≡ 0
+none-of p [] each quiet = refl
+none-of p (e ∷ es) each quiet =
+    let one : cond {A = ℕ} (p e) 1 0 ≡ 0 = counts-none (p e) (each e (any-first (tells_failure e) (list_any tells_failure es) quiet)) in
+    let rest = none-of p es each (any-second (tells_failure e) (list_any tells_failure es) quiet) in
+    let parts = sum_by-cons (λ x. cond (p x) 1 0) e es in
+    omega (arith, parts, one, rest)
+
+at-most-one : (handed now n : ℕ) → n ≤ 1 → handed ≤ now → Rose handed now → counted_more handed n ≤ now
+unfolding counted_more
+at-most-one handed now zero few still rose = still
+at-most-one handed now (suc zero) few still rose = rose
+at-most-one handed now (suc (suc n)) few still rose = absurd (omega (arith, few))
+
+-- how many faults so many more entries of a kind tell of
+faults-added : {F : Type 0} (state : F → FlashState) (old new : Seen F) (es : List Entry) (p : Entry → Bool) → ((e : Entry) → tells_failure e ≡ false → p e ≡ false) → Adds state old new es → old.failed ≡ false →
+    CountedSince old.handed (state old.flash) old.book.entries old.failed → count_by p es ≤ 1 → counted_more new.handed.faults (count_by p new.book.entries) ≤ (state new.flash).faults
+faults-added {F} state old new es p each step well before few =
+    let none = none-of p old.book.entries each (before.told_by ∙ well) in
+    let count : count_by p new.book.entries ≡ count_by p es =
+    ap (count_by p) step.book.entries_are ∙ sum_by-append (λ e. cond (p e) 1 0) old.book.entries es ∙ ap (λ n. n + count_by p es) none ∙ (let e : 0 + count_by p es ≡ count_by p es = omega arith in e) in
+    subst (λ (h : Counts). counted_more h.faults (count_by p new.book.entries) ≤ (state new.flash).faults) (sym step.handed_is)
+    (subst (λ n. counted_more old.handed.faults n ≤ (state new.flash).faults) (sym count) (of-failed new.failed refl))
+  where
+    same : (state old.flash).faults ≡ old.handed.faults
+    same = before.no_fault well
+
+    of-failed : (b : Bool) → new.failed ≡ b → counted_more old.handed.faults (count_by p es) ≤ (state new.flash).faults
+    of-failed true broken =
+        let rose = (step.flash_is.fault broken).rose in
+        at-most-one old.handed.faults (state new.flash).faults (count_by p es) few (omega (arith, step.flash_is.kept.faults, same)) (subst (λ n. Rose n (state new.flash).faults) same rose)
+    of-failed false fine =
+        let none = none-of p es each (step.flash_is.told_by ∙ fine) in
+        subst (λ n. counted_more old.handed.faults n ≤ (state new.flash).faults) (sym none)
+        (let e = counted_more-none old.handed.faults in omega (arith, e, step.flash_is.kept.faults, same))
+
+-- a step more: at most one entry of it tells of a media error, and at most one of a handle that was shut
+pub counted-added : {F : Type 0} (state : F → FlashState) (old new : Seen F) (es : List Entry) → Adds state old new es → old.failed ≡ false →
+    CountedSince old.handed (state old.flash) old.book.entries old.failed → count_by is_media_reply es ≤ 1 → count_by is_shut es ≤ 1 →
+    CountedSince new.handed (state new.flash) new.book.entries new.failed
+counted-added {F} state old new es step well before media shut = record {
+  moment = subst (λ (h : Counts). h.moment ≤ (state new.flash).moment) (sym step.handed_is) (omega (arith, before.moment, step.flash_is.kept.moment));
+  programs = step.flash_is.programs ∙ ap (λ n. counted_more n (media_blocks es)) before.programs
+      ∙ counted_more-add old.handed.programs (media_blocks old.book.entries) (media_blocks es)
+      ∙ ap (counted_more old.handed.programs) (sym (sum_by-append media_blocks_of old.book.entries es) ∙ ap media_blocks (sym step.book.entries_are))
+      ∙ ap (λ (h : Counts). counted_more h.programs (media_blocks new.book.entries)) (sym step.handed_is);
+  media_replies = faults-added state old new es is_media_reply quiet-media step well before media;
+  shut = faults-added state old new es is_shut quiet-shut step well before shut;
+  no_fault = λ fine. step.flash_is.no_fault fine ∙ before.no_fault well ∙ ap (λ (h : Counts). h.faults) (sym step.handed_is);
+  told_by = ap (list_any tells_failure) step.book.entries_are ∙ list_any-append tells_failure old.book.entries es
+      ∙ ap (λ b. b || list_any tells_failure es) (before.told_by ∙ well) ∙ step.flash_is.told_by;
+}
+
+-- a step of one entry
+pub counted-one : {F : Type 0} (state : F → FlashState) (old new : Seen F) (e : Entry) → Adds state old new (e ∷ []) → old.failed ≡ false →
+    CountedSince old.handed (state old.flash) old.book.entries old.failed → CountedSince new.handed (state new.flash) new.book.entries new.failed
+counted-one state old new e step well before =
+    counted-added state old new (e ∷ []) step well before (count_by-le-length is_media_reply (e ∷ [])) (count_by-le-length is_shut (e ∷ []))
+
+-- a step in which a handle is shut
+pub counted-shut : {F : Type 0} (state : F → FlashState) (old new : Seen F) (rg ruh queue number moment : ℕ) (command : Command) (reply : Reply) → Adds state old new (entries.Shut rg ruh ∷ entries.Host queue number command reply moment ∷ []) → old.failed ≡ false →
+    CountedSince old.handed (state old.flash) old.book.entries old.failed → CountedSince new.handed (state new.flash) new.book.entries new.failed
+counted-shut state old new rg ruh queue number moment command reply step well before =
+    let host = entries.Host queue number command reply moment in
+    let media = count_by-le-length is_media_reply (host ∷ []) in
+    counted-added state old new (entries.Shut rg ruh ∷ host ∷ []) step well before (omega (arith, media)) (omega arith)
+
+-- a flash that was just handed in
+pub counted-fresh : (f : FlashState) → CountedSince (counts_of f) f [] false
+unfolding counted_more
+counted-fresh f = record { moment = omega arith; programs = refl; media_replies = omega arith; shut = omega arith; no_fault = λ _. refl; told_by = refl }
+
+-- how a group stands for its history after a step of one entry
+pub grouped-one : {F : Type 0} (state : F → FlashState) (old new : Seen F) (e : Entry) (block : List ℕ) → IsSound (state new.flash) new.book.config new.book.entries new.failed block → Adds state old new (e ∷ []) → old.failed ≡ false →
+    CountedSince old.handed (state old.flash) old.book.entries old.failed → IsSoundGroup new.handed (state new.flash) new.book.config new.book.entries new.failed block
+grouped-one state old new e block so step well before = record { sound = so; counted = counted-one state old new e step well before }

@@ -1,18 +1,21 @@
 -- How a group begins a command: it refuses it, reads for it, or lets it go.
-use Rattle.std.proofs.Common.{◌≡◌, ℕ, Bool, true, false, List, [], ◌∷◌, ◌++◌, refl, ap, sym, ◌∙◌, subst, inl, Some, None}
+use Rattle.std.proofs.Common.{◌≡◌, ℕ, Bool, true, false, List, [], ◌∷◌, ◌++◌, refl, ap, sym, ◌∙◌, subst, inl, inr, ◌||◌, Some, None}
+use Rattle.std.specs.List.{list_any}
 use Rattle.std.proofs.lemmas.Bool.{false≢true}
+use Rattle.std.proofs.lemmas.List.Folds.{list_any-append}
 use Rattle.fdp_base.specs.declared.command.Command.{Command}
 use Rattle.fdp_base.specs.declared.command.Command.TheVariants as commands
 use Rattle.fdp_base.specs.declared.entry.Entry.TheVariants as entries
 use Rattle.fdp_base.specs.declared.entry.Reply.{Reply}
+use Rattle.fdp_base.specs.declared.entry.Spot.{Spot}
 use Rattle.fdp_base.specs.declared.status.Status.{Status}
 use Rattle.fdp_base.specs.declared.status.TheConstants.Status as statuses
-use Rattle.fdp_base.specs.Answer.{bare}
-use Rattle.fdp_base.specs.Change.{after, changed_by, is_media_error}
+use Rattle.fdp_rules.specs.Answer.{bare}
+use Rattle.fdp_rules.specs.Change.{after, changed_by, is_media_error}
 use Rattle.fdp_base.specs.CommandKinds.{IsWellFormed}
-use Rattle.fdp_base.specs.Refusal.{refusal_of}
-use Rattle.fdp_base.specs.Step.{Follows, IsQueue}
-use Rattle.fdp_flash.specs.FlashState.{FlashState}
+use Rattle.fdp_rules.specs.Refusal.{refusal_of}
+use Rattle.fdp_rules.specs.Step.{Follows, IsQueue}
+use Rattle.fdp_flash.specs.FlashState.{Call, FlashState, IsWellFormed as IsFlashFormed}
 use Rattle.fdp_core.specs.declared.extent.Extent.{Extent}
 use Rattle.fdp_core.specs.declared.room.Replies.{Replies}
 use Rattle.fdp_core.specs.declared.ticket.Done.{Done}
@@ -20,15 +23,18 @@ use Rattle.fdp_core.specs.declared.ticket.Ticket.{Ticket}
 use Rattle.fdp_core.specs.Answers.{EndsAtOnce, Starts}
 use Rattle.fdp_core.specs.Book.{BookSeen, point_in, state_in}
 use Rattle.fdp_core.specs.BookSteps as book
+use Rattle.fdp_core.specs.Calls.{MakesCalls, fetch_at, has_failed}
+use Rattle.fdp_core.specs.Fetches.{Fetches, MakesFetches, fetches_of, pages_of}
 use Rattle.fdp_core.specs.Media.{IsReadFrom}
 use Rattle.fdp_core.specs.ReadSteps.{Reads}
 use Rattle.fdp_core.specs.Room.{read_reply}
 use Rattle.fdp_core.specs.Seen.{Matches, Seen}
 use Rattle.fdp_core.specs.Sound.{IsSound}
-use Rattle.fdp_core.specs.Steps.{Completes, IsFree}
+use Rattle.fdp_core.specs.Steps.{IsFree}
+use Rattle.fdp_core.proofs.CallsMade.{calls-same, failed-last}
 use Rattle.fdp_core.proofs.GroupAdds.{EndsSo, adds, completes, ends-well, matches-quiet}
 use Rattle.fdp_core.proofs.GroupEnded.{sound-ended}
-use Rattle.fdp_core.proofs.GroupHost.{media-ended, new-moment, read-follows, refused-fine, refused-follows, unread-follows}
+use Rattle.fdp_core.proofs.GroupHost.{accepted-blocks, media-ended, new-moment, read-follows, refused-fine, refused-follows, unread-follows}
 use Rattle.fdp_core.proofs.GroupReads.{length-blocks_from}
 use Rattle.fdp_core.proofs.GroupSound.{sound-as, sound-orderly, sound-push}
 
@@ -51,16 +57,16 @@ sound-refused f b d failed block queue number command status reply moment done s
     (inl (refused-follows f.told b.config (point_in b) queue number command status moment is.queue_is is.formed is.free is.refused)) (refused-fine b.config (point_in b) command status is.refused)
 
 pub begins-refused : {F : Type 0} (state : F → FlashState) (old new : Seen F) (queue number : ℕ) (command : Command) (status : Status) (reply : Reply) (moment : ℕ) (done : Done) (block : List ℕ) →
-    IsSound (state new.flash) new.book.config new.book.entries new.failed block → new.flash ≡ old.flash → new.failed ≡ false → IsRefusal old.book queue number command status reply →
+    IsSound (state new.flash) new.book.config new.book.entries new.failed block → new.handed ≡ old.handed → new.flash ≡ old.flash → new.failed ≡ false → IsRefusal old.book queue number command status reply →
     book.Completes old.book new.book [] queue number command reply moment done → moment ≡ (state new.flash).moment →
     EndsAtOnce state old new queue number command done
-begins-refused {F} state old new queue number command status reply moment done block so same well is completed moment_is =
+begins-refused {F} state old new queue number command status reply moment done block so handed same well is completed moment_is =
     let told : done.reply ≡ bare status false = ap (λ (d : Done). d.reply) completed.done_is ∙ is.reply_is in
     let fine : is_media_error reply.status ≡ false = ap (λ (r : Reply). is_media_error r.status) is.reply_is ∙ refused-fine old.book.config (point_in old.book) command status is.refused in
     record {
-      completes = completes state old new [] queue number command reply moment done block so completed moment_is
-          (subst (λ (x : F). EndsSo (state x) (state new.flash) [] reply new.failed) same (ends-well (state new.flash) reply new.failed well fine));
-      refused = λ _. is.refused ∙ ap (λ (r : Reply). Some r.status) (sym told);
+      completes = (completes state old new [] queue number command reply moment done block so handed completed moment_is
+          (subst (λ (x : F). EndsSo (state x) (state new.flash) [] reply new.failed) same (ends-well (state new.flash) reply new.failed well fine))).0;
+      came = inl (record { status = status; refused = is.refused; reply_is = told; uncalled = same });
     }
 
 -- ---- writes that are let go
@@ -74,18 +80,20 @@ sound-started f b d failed block queue number command ticket so is =
     (sound-push f f b.config b.entries e failed failed block block so refl refl (inl (is.follows f.told)) so.cells so.healthy so.buffer)
 
 pub begins-started : {F : Type 0} (state : F → FlashState) (old new : Seen F) (queue number : ℕ) (command : Command) (ticket : Ticket) (block : List ℕ) →
-    IsSound (state new.flash) new.book.config new.book.entries new.failed block → new.flash ≡ old.flash → new.failed ≡ false →
+    IsSound (state new.flash) new.book.config new.book.entries new.failed block → new.handed ≡ old.handed → new.flash ≡ old.flash → new.failed ≡ false →
     refusal_of old.book.config (point_in old.book) command ≡ None → book.Starts old.book new.book queue number command ticket →
     Starts state old new queue number command ticket
-begins-started {F} state old new queue number command ticket block so same well accepted is =
+begins-started {F} state old new queue number command ticket block so handed same well accepted is =
     let e = entries.Started queue number command is.target.rg is.target.ruh is.target.valid in
     record {
       accepted = accepted;
+      few = accepted-blocks old.book.config (point_in old.book) command accepted;
       target = is.target;
       target_is = is.target_is;
-      step = adds state old new (e ∷ []) block so is.step (subst (λ (x : F). Matches (state x) (state new.flash) (e ∷ []) new.failed) same (matches-quiet (state new.flash) e new.failed well refl refl));
+      step = adds state old new (e ∷ []) [] block so handed is.step (calls-same state old.flash new.flash same) (subst (λ (x : F). Matches (state x) (state new.flash) (e ∷ []) new.failed) same (matches-quiet (state new.flash) e new.failed well refl refl));
       ticket_is = is.ticket_is;
       going = is.going;
+      uncalled = same;
       well = well;
     }
 
@@ -111,11 +119,11 @@ sound-host f g b d failed block queue number nsid slba count reply moment so rea
     (λ well. media-ended b.config (state_in b) queue number (commands.Read nsid slba count) reply moment (fine well) (so.healthy refl)) so.buffer)
 
 sound-by : (f g : FlashState) (b d : BookSeen) (failed : Bool) (block : List ℕ) (queue number : ℕ) (x : Extent) (replies : Replies) (moment : ℕ) →
-    IsSound f b.config b.entries false block → IsReadFrom f g → IsRead b queue (commands.Read x.nsid x.slba x.count) x → Reads f g b x replies failed → d.config ≡ b.config →
+    IsSound f b.config b.entries false block → IsReadFrom f g → IsRead b queue (commands.Read x.nsid x.slba x.count) x → Reads f b x replies failed → d.config ≡ b.config →
     d.entries ≡ b.entries ++ entries.Host queue number (commands.Read x.nsid x.slba x.count) replies.history moment ∷ [] → IsSound g d.config d.entries failed block
 sound-by f g b d true block queue number x replies moment so reads is h same longer =
     sound-host f g b d true block queue number x.nsid x.slba x.count (bare statuses.UNRECOVERED_READ_ERROR false) moment so reads same
-    (longer ∙ ap (λ (r : Reply). b.entries ++ entries.Host queue number (commands.Read x.nsid x.slba x.count) r moment ∷ []) h.twice.history_is)
+    (longer ∙ ap (λ (r : Reply). b.entries ++ entries.Host queue number (commands.Read x.nsid x.slba x.count) r moment ∷ []) h.history_is)
     (unread-follows f.told b.config (point_in b) queue number x.nsid x.slba x.count moment is.queue_is is.formed is.accepted (new-moment (state_in b) moment (so.healthy refl)))
     (λ wrong. absurd (false≢true (sym wrong)))
 sound-by f g b d false block queue number x replies moment so reads is h same longer =
@@ -126,36 +134,68 @@ sound-by f g b d false block queue number x replies moment so reads is h same lo
     (λ _. refl)
 
 pub sound-read : (f g : FlashState) (b d : BookSeen) (was failed : Bool) (block : List ℕ) (queue number : ℕ) (command : Command) (x : Extent) (replies : Replies) (moment : ℕ) (done : Done) →
-    IsSound f b.config b.entries was block → was ≡ false → IsReadFrom f g → IsRead b queue command x → Reads f g b x replies failed →
+    IsSound f b.config b.entries was block → was ≡ false → IsReadFrom f g → IsRead b queue command x → Reads f b x replies failed →
     book.Completes b d [] queue number command replies.history moment done → IsSound g d.config d.entries failed block
 sound-read f g b d was failed block queue number command x replies moment done so well reads is h completed =
     sound-by f g b d failed block queue number x replies moment (subst (λ w. IsSound f b.config b.entries w block) well so) reads
     (subst (λ (y : Command). IsRead b queue y x) is.command_is is) h completed.step.config_is
     (completed.step.entries_are ∙ ap (λ (y : Command). b.entries ++ entries.Host queue number y replies.history moment ∷ []) is.command_is)
 
-reads-end : (f g : FlashState) (b : BookSeen) (x : Extent) (replies : Replies) (failed : Bool) → IsReadFrom f g → Reads f g b x replies failed → EndsSo f g [] replies.history failed
-reads-end f g b x replies true reads h = record {
-  kept = reads.kept;
+all-well : (pages : List Spot) → list_any has_failed (fetches_of pages) ≡ false
+all-well [] = refl
+all-well (page ∷ pages) = all-well pages
+
+last-failed : (calls : List Call) (page : Spot) → list_any has_failed (calls ++ fetch_at page true ∷ []) ≡ true
+last-failed calls page = list_any-append has_failed calls (fetch_at page true ∷ []) ∙ or-true (list_any has_failed calls)
+  where
+    or-true : (b : Bool) → b || true ≡ true
+    or-true true = refl
+    or-true false = refl
+
+reads-end : (f g : FlashState) (b : BookSeen) (x : Extent) (replies : Replies) (failed : Bool) → IsFlashFormed g → IsReadFrom f g → Reads f b x replies failed → MakesFetches f g b x failed → EndsSo f g [] replies.history failed
+reads-end f g b x replies true formed reads h m = record {
+  calls = m.calls;
+  made = m.made;
+  fails = sym (ap (list_any has_failed) m.fetches.calls_are ∙ last-failed (fetches_of (pages_of b x.nsid x.slba m.fetches.index)) m.fetches.page);
   programs = reads.programs;
   unplaced = refl;
-  is_error = ap (λ (r : Reply). is_media_error r.status) (sym h.twice.history_is);
+  is_error = ap (λ (r : Reply). is_media_error r.status) (sym h.history_is);
   quiet = refl;
-  fault = λ _. h.fault;
-  no_fault = λ wrong. absurd (false≢true (sym wrong));
+  media = λ _. failed-last f g (fetches_of (pages_of b x.nsid x.slba m.fetches.index)) (fetch_at m.fetches.page true) formed (subst (MakesCalls f g) m.fetches.calls_are m.made) refl;
 }
-reads-end f g b x replies false reads h = record {
-  kept = reads.kept;
+reads-end f g b x replies false formed reads h m = record {
+  calls = m.calls;
+  made = m.made;
+  fails = sym (ap (list_any has_failed) m.fetches ∙ all-well (pages_of b x.nsid x.slba x.count));
   programs = reads.programs;
   unplaced = refl;
   is_error = ap (λ (r : Reply). is_media_error r.status) (sym h.twice.history_is);
   quiet = refl;
-  fault = λ wrong. absurd (false≢true wrong);
-  no_fault = λ _. h.no_fault;
+  media = λ wrong. absurd (false≢true wrong);
 }
 
+-- a read with these calls
+made-calls : (f g : FlashState) (b : BookSeen) (x : Extent) (replies : Replies) (failed : Bool) (formed : IsFlashFormed g) (reads : IsReadFrom f g) (h : Reads f b x replies failed) (m : MakesFetches f g b x failed) → (reads-end f g b x replies failed formed reads h m).calls ≡ m.calls
+unfolding reads-end
+made-calls f g b x replies true formed reads h m = refl
+made-calls f g b x replies false formed reads h m = refl
+
 pub read-completes : {F : Type 0} (state : F → FlashState) (old new : Seen F) (queue number : ℕ) (command : Command) (x : Extent) (replies : Replies) (moment : ℕ) (done : Done) (block : List ℕ) →
-    IsSound (state new.flash) new.book.config new.book.entries new.failed block → IsReadFrom (state old.flash) (state new.flash) → Reads (state old.flash) (state new.flash) old.book x replies new.failed →
+    IsFlashFormed (state new.flash) → IsSound (state new.flash) new.book.config new.book.entries new.failed block → new.handed ≡ old.handed → IsRead old.book queue command x →
+    IsReadFrom (state old.flash) (state new.flash) → Reads (state old.flash) old.book x replies new.failed → MakesFetches (state old.flash) (state new.flash) old.book x new.failed →
     book.Completes old.book new.book [] queue number command replies.history moment done → moment ≡ (state new.flash).moment →
-    Completes state old new [] queue number command done
-read-completes state old new queue number command x replies moment done block so reads h completed moment_is =
-    completes state old new [] queue number command replies.history moment done block so completed moment_is (reads-end (state old.flash) (state new.flash) old.book x replies new.failed reads h)
+    EndsAtOnce state old new queue number command done
+read-completes state old new queue number command x replies moment done block formed so handed is reads h m completed moment_is =
+    let ends = reads-end (state old.flash) (state new.flash) old.book x replies new.failed formed reads h m in
+    let k = completes state old new [] queue number command replies.history moment done block so handed completed moment_is ends in
+    let calls = k.1 ∙ made-calls (state old.flash) (state new.flash) old.book x replies new.failed formed reads h m in
+    record {
+      completes = k.0;
+      came = inr (record {
+        accepted = is.accepted;
+        extent = x;
+        command_is = is.command_is;
+        fetches = subst (λ (cs : List Call). Fetches old.book x cs new.failed) (sym calls) m.fetches;
+        cells = reads.cells;
+      });
+    }

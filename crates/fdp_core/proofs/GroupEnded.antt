@@ -5,12 +5,12 @@ use Rattle.fdp_base.specs.declared.config.DriveConfig.{DriveConfig}
 use Rattle.fdp_base.specs.declared.entry.Entry.{Entry}
 use Rattle.fdp_base.specs.declared.entry.Entry.TheVariants as entries
 use Rattle.fdp_base.specs.declared.entry.Reply.{Reply}
-use Rattle.fdp_base.specs.Change.{is_media_error}
+use Rattle.fdp_rules.specs.Change.{is_media_error}
 use Rattle.fdp_base.specs.declared.status.TheConstants.Status as statuses
-use Rattle.fdp_base.specs.Answer.{bare}
-use Rattle.fdp_base.specs.History.{fresh, point_of}
-use Rattle.fdp_base.specs.PlainState.{Going}
-use Rattle.fdp_base.specs.Step.{IsEnd}
+use Rattle.fdp_rules.specs.Answer.{bare}
+use Rattle.fdp_rules.specs.History.{fresh, point_of}
+use Rattle.fdp_rules.specs.PlainState.{Going}
+use Rattle.fdp_rules.specs.Step.{IsEnd}
 use Rattle.fdp_flash.specs.FlashState.{FlashState}
 use Rattle.fdp_history.specs.OrderlyState.{IsOrderlyGoing}
 use Rattle.fdp_core.specs.declared.ticket.Done.{Done}
@@ -62,12 +62,13 @@ sound-want f b d failed block ticket g moment done so well is wants completed =
 
 -- a going write ends alone, as the book says, with no media error
 pub ends-alone : {F : Type 0} (state : F → FlashState) (old new : Seen F) (ticket : Ticket) (g : Going) (reply : Reply) (moment : ℕ) (done : Done) (block : List ℕ) →
-    IsSound (state new.flash) new.book.config new.book.entries new.failed block → new.flash ≡ old.flash → new.failed ≡ false →
+    IsSound (state new.flash) new.book.config new.book.entries new.failed block → new.handed ≡ old.handed → new.flash ≡ old.flash → new.failed ≡ false →
     book.Completes old.book new.book [] ticket.queue g.number g.command reply moment done →
     moment ≡ (state new.flash).moment → is_media_error reply.status ≡ false →
     EndsAlone state old new ticket g reply done
-ends-alone {F} state old new ticket g reply moment done block so same well is moment_is fine = record {
-  completes = completes state old new [] ticket.queue g.number g.command reply moment done block so is moment_is
-      (subst (λ (x : F). EndsSo (state x) (state new.flash) [] reply new.failed) same (ends-well (state new.flash) reply new.failed well fine));
+ends-alone {F} state old new ticket g reply moment done block so handed same well is moment_is fine = record {
+  completes = (completes state old new [] ticket.queue g.number g.command reply moment done block so handed is moment_is
+      (subst (λ (x : F). EndsSo (state x) (state new.flash) [] reply new.failed) same (ends-well (state new.flash) reply new.failed well fine))).0;
   reply_is = ap (λ (d : Done). d.reply) is.done_is;
+  uncalled = same;
 }

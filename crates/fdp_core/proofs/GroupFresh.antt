@@ -2,7 +2,7 @@
 use Rattle.std.proofs.Common.{◌≡◌, ℕ, IsTrue, List, [], false, length, refl}
 use Rattle.fdp_base.specs.declared.config.DriveConfig.{DriveConfig}
 use Rattle.fdp_base.specs.Config.{IsValidConfig}
-use Rattle.fdp_base.specs.History.{first_state, point_of, state_of}
+use Rattle.fdp_rules.specs.History.{first_state, point_of, state_of}
 use Rattle.fdp_base.specs.Placement.{geometry_of}
 use Rattle.fdp_flash.specs.FlashState.{FlashState}
 use Rattle.fdp_core.specs.Pages.{blank_cells, cells_from, cells_of}

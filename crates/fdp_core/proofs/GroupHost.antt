@@ -1,6 +1,6 @@
 -- Which answers may follow: refusals, reads, and the ends of writes.
 use Rattle.std.proofs.Common.{◌≡◌, ℕ, ◌≤◌, Bool, true, false, cond, ◌||◌, IsTrue, List, [], ◌∷◌, length, refl, ap, sym, ◌∙◌, inl, inr, arith, Some, None, Option, MatchBool}
-use Rattle.std.specs.Prelude.{nat_lt}
+use Rattle.std.specs.Prelude.{nat_lt, not, ◌&&◌, ◌==◌}
 use Rattle.std.proofs.lemmas.Bool.{false≢true, ltb-false}
 use Rattle.fdp_base.specs.declared.command.Command.{Command}
 use Rattle.fdp_base.specs.declared.command.Command.TheVariants as commands
@@ -9,13 +9,14 @@ use Rattle.fdp_base.specs.declared.entry.Entry.TheVariants as entries
 use Rattle.fdp_base.specs.declared.entry.Reply.{Reply}
 use Rattle.fdp_base.specs.declared.status.Status.{Status}
 use Rattle.fdp_base.specs.declared.status.TheConstants.Status as statuses
-use Rattle.fdp_base.specs.Answer.{IsSuccess, bare, data_of}
-use Rattle.fdp_base.specs.Change.{after, changed_by, is_media_error}
+use Rattle.fdp_rules.specs.Answer.{IsSuccess, bare, data_of}
+use Rattle.fdp_rules.specs.Change.{after, changed_by, is_media_error}
 use Rattle.fdp_base.specs.CommandKinds.{IsWellFormed, is_write}
-use Rattle.fdp_base.specs.PlainState.{Going, PlainState}
-use Rattle.fdp_base.specs.Point.{Point}
-use Rattle.fdp_base.specs.Refusal.{Check, checks_of, first_that_holds, is_absent, refusal_of}
-use Rattle.fdp_base.specs.Step.{Follows, IsEnd, IsNewMoment, IsQueue}
+use Rattle.fdp_rules.specs.PlainState.{Going, PlainState}
+use Rattle.fdp_rules.specs.Point.{Point}
+use Rattle.fdp_rules.specs.Refusal.{Check, checks_of, first_that_holds, is_absent, refusal_of}
+use Rattle.fdp_rules.specs.Totals.{blocks_written}
+use Rattle.fdp_rules.specs.Step.{Follows, IsEnd, IsNewMoment, IsQueue}
 use Rattle.fdp_history.specs.OrderlyState.{IsOrderlyGoing}
 use Rattle.fdp_core.specs.Room.{read_reply}
 use Rattle.fdp_core.specs.Steps.{IsFree}
@@ -94,6 +95,30 @@ second-passes false false x y rest e = refl
 pub accepted-few : (c : DriveConfig) (p : Point) (nsid slba count : ℕ) → refusal_of c p (commands.Read nsid slba count) ≡ None → count ≤ c.blocks_per_command
 unfolding refusal_of checks_of
 accepted-few c p nsid slba count e = ltb-false c.blocks_per_command count (second-passes (is_absent p.state nsid) (nat_lt c.blocks_per_command count) statuses.INVALID_NAMESPACE statuses.INVALID_FIELD _ e)
+
+first-false : (a b d : Bool) → a || b || d ≡ false → a ≡ false
+first-false true b d e = e
+first-false false b d e = refl
+
+-- a command that is not refused writes no more blocks than a command may
+pub accepted-blocks : (c : DriveConfig) (p : Point) (command : Command) → refusal_of c p command ≡ None → blocks_written command ≤ c.blocks_per_command
+unfolding refusal_of checks_of
+accepted-blocks c p (commands.Write nsid slba count dtype dspec payload) e =
+    let bad = second-passes (is_absent p.state nsid) (nat_lt c.blocks_per_command count || not (dtype == 0 || dtype == 2) || (dtype == 2 && not p.state.enabled)) statuses.INVALID_NAMESPACE statuses.INVALID_FIELD _ e in
+    ltb-false c.blocks_per_command count (first-false (nat_lt c.blocks_per_command count) (not (dtype == 0 || dtype == 2)) (dtype == 2 && not p.state.enabled) bad)
+accepted-blocks c p (commands.Read nsid slba count) e = omega arith
+accepted-blocks c p (commands.Zero nsid slba count) e = omega arith
+accepted-blocks c p (commands.Dealloc nsid deallocate ranges) e = omega arith
+accepted-blocks c p (commands.Flush nsid) e = omega arith
+accepted-blocks c p (commands.Delete nsid) e = omega arith
+accepted-blocks c p (commands.Status nsid mo dwords) e = omega arith
+accepted-blocks c p (commands.Update nsid mo pids) e = omega arith
+accepted-blocks c p (commands.Log lid lsp group offset dwords) e = omega arith
+accepted-blocks c p (commands.SetFdp group enable index) e = omega arith
+accepted-blocks c p (commands.GetFdp group) e = omega arith
+accepted-blocks c p (commands.SetEvents nsid handle enable types) e = omega arith
+accepted-blocks c p (commands.Create size given list) e = omega arith
+accepted-blocks c p (commands.Other admin opcode flags feature) e = omega arith
 
 -- the bytes of a read
 pub read-follows : (told : Bool) (c : DriveConfig) (p : Point) (queue number nsid slba count : ℕ) (bytes : List ℕ) (moment : ℕ) → IsQueue c queue → IsWellFormed c (commands.Read nsid slba count) → refusal_of c p (commands.Read nsid slba count) ≡ None → length bytes ≡ length (data_of c p (commands.Read nsid slba count)) → (IsTrue told → bytes ≡ data_of c p (commands.Read nsid slba count)) → Follows told c p (entries.Host queue number (commands.Read nsid slba count) (read_reply bytes) moment)

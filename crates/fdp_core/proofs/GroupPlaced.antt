@@ -7,30 +7,32 @@ use Rattle.fdp_base.specs.declared.entry.Entry.{Entry}
 use Rattle.fdp_base.specs.declared.entry.Entry.TheVariants as entries
 use Rattle.fdp_base.specs.declared.entry.Spot.{Spot}
 use Rattle.fdp_base.specs.declared.status.TheConstants.Status as statuses
-use Rattle.fdp_base.specs.Answer.{bare}
-use Rattle.fdp_base.specs.Change.{after, changed_by}
-use Rattle.fdp_base.specs.History.{fresh, point_of}
-use Rattle.fdp_base.specs.Next.{next}
-use Rattle.fdp_base.specs.PlainState.{Going, PlainState}
-use Rattle.fdp_base.specs.Point.{Point}
-use Rattle.fdp_base.specs.Sites.{is_there}
-use Rattle.fdp_base.specs.Step.{Follows, IsEnd}
-use Rattle.fdp_base.specs.Totals.{blocks_written, media_blocks}
-use Rattle.fdp_base.proofs.Pushes.{point_of-push}
+use Rattle.fdp_rules.specs.Answer.{bare}
+use Rattle.fdp_rules.specs.Change.{after, changed_by}
+use Rattle.fdp_rules.specs.History.{fresh, point_of}
+use Rattle.fdp_rules.specs.Next.{next}
+use Rattle.fdp_rules.specs.PlainState.{Going, PlainState}
+use Rattle.fdp_rules.specs.Point.{Point}
+use Rattle.fdp_rules.specs.Sites.{is_there}
+use Rattle.fdp_rules.specs.Step.{Follows, IsEnd}
+use Rattle.fdp_rules.specs.Totals.{blocks_written, media_blocks}
+use Rattle.fdp_rules.proofs.Pushes.{point_of-push}
 use Rattle.fdp_flash.specs.declared.cell.Cell.{Cell}
-use Rattle.fdp_flash.specs.FlashState.{Faulted, FlashState}
+use Rattle.fdp_flash.specs.FlashState.{FlashState, IsWellFormed}
 use Rattle.fdp_history.specs.OrderlyState.{IsOrderlyGoing}
 use Rattle.fdp_core.specs.declared.answer.Placed.{Placed}
 use Rattle.fdp_core.specs.declared.answer.Placed.TheVariants as placed
 use Rattle.fdp_core.specs.declared.ticket.Done.{Done}
 use Rattle.fdp_core.specs.declared.ticket.Ticket.{Ticket}
-use Rattle.fdp_core.specs.Answers.{EndsInPlacing, Places, PlacesPage}
+use Rattle.fdp_core.specs.Answers.{FailsToPlace, Places, PlacesPage}
 use Rattle.fdp_core.specs.Book.{BookSeen, point_in, state_in}
 use Rattle.fdp_core.specs.BookSteps as book
+use Rattle.fdp_core.specs.Calls.{MakesCalls, program_at}
 use Rattle.fdp_core.specs.Media.{IsProgrammedTo}
 use Rattle.fdp_core.specs.Seen.{IsKept, Matches, Seen, counted_more}
 use Rattle.fdp_core.specs.Sound.{IsSound}
 use Rattle.fdp_core.specs.Tickets.{IsNextSpot, IsTicketOf}
+use Rattle.fdp_core.proofs.CallsMade.{failed-last}
 use Rattle.fdp_core.proofs.GroupAdds.{adds, completes}
 use Rattle.fdp_core.proofs.GroupEnded.{going-orderly}
 use Rattle.fdp_core.proofs.GroupHost.{end-follows, new-moment}
@@ -56,13 +58,15 @@ matches-placed f h number page ticket index unit at failed well is =
     }
 
 pub places-page : {F : Type 0} (state : F → FlashState) (old new : Seen F) (ticket : Ticket) (g : Going) (spot : Spot) (last : Bool) (number : ℕ) (page : Cell) (block : List ℕ) →
-    IsSound (state new.flash) new.book.config new.book.entries new.failed block → new.failed ≡ false → IsNextSpot old.book ticket g spot →
-    IsProgrammedTo (state old.flash) (state new.flash) number page → book.Places old.book new.book ticket g spot last → PlacesPage state old new ticket g ticket
-places-page state old new ticket g spot last number page block so well next programmed is = record {
+    IsSound (state new.flash) new.book.config new.book.entries new.failed block → new.handed ≡ old.handed → new.failed ≡ false → IsNextSpot old.book ticket g spot →
+    MakesCalls (state old.flash) (state new.flash) (program_at spot false ∷ []) → IsProgrammedTo (state old.flash) (state new.flash) number page → book.Places old.book new.book ticket g spot last → PlacesPage state old new ticket g ticket
+unfolding adds
+places-page state old new ticket g spot last number page block so handed well next made programmed is = record {
   unit = spot.unit;
   page = spot.page;
-  step = adds state old new (entries.Placed ticket.position g.placed spot.unit spot.page ∷ []) block so is.step
+  step = adds state old new (entries.Placed ticket.position g.placed spot.unit spot.page ∷ []) (program_at spot false ∷ []) block so handed is.step made
       (matches-placed (state old.flash) (state new.flash) number page ticket.position g.placed spot.unit spot.page new.failed well programmed);
+  call_is = refl;
   next_is = refl;
   going = is.going;
   unused = next.unused;
@@ -136,24 +140,27 @@ sound-shut f h b d failed block now ticket g moment done so well kept is there a
     (λ wrong. absurd (false≢true (sym wrong))) (λ wrong. absurd (false≢true (sym wrong))) (size ∙ so.buffer) in
     sound-as h c d.config (es ++ host ∷ []) d.entries true now completed.step.config_is (completed.step.entries_are ∙ sym (append_assoc b.entries (shut ∷ []) (host ∷ []))) second
 
-pub fails-to-place : {F : Type 0} (state : F → FlashState) (old new : Seen F) (ticket : Ticket) (g : Going) (moment : ℕ) (done : Done) (block : List ℕ) →
-    IsSound (state new.flash) new.book.config new.book.entries new.failed block → new.failed ≡ true → IsKept (state old.flash) (state new.flash) → (state new.flash).programs ≡ (state old.flash).programs → Faulted (state old.flash) (state new.flash) →
+pub fails-to-place : {F : Type 0} (state : F → FlashState) (old new : Seen F) (ticket : Ticket) (g : Going) (spot : Spot) (moment : ℕ) (done : Done) (block : List ℕ) →
+    IsWellFormed (state new.flash) → IsSound (state new.flash) new.book.config new.book.entries new.failed block → new.handed ≡ old.handed → new.failed ≡ true → IsNextSpot old.book ticket g spot →
+    MakesCalls (state old.flash) (state new.flash) (program_at spot true ∷ []) → (state new.flash).programs ≡ (state old.flash).programs →
     IsTrue (is_there (state_in old.book) g) → book.Completes old.book new.book (entries.Shut g.rg g.ruh ∷ []) ticket.queue g.number g.command (bare statuses.WRITE_FAULT false) moment done →
-    moment ≡ (state new.flash).moment → EndsInPlacing state old new ticket g done
-fails-to-place state old new ticket g moment done block so broken kept programs fault there completed moment_is =
-    inr (inr (
+    moment ≡ (state new.flash).moment → IsTrue (is_there (state_in old.book) g) × FailsToPlace state old new ticket g done
+fails-to-place state old new ticket g spot moment done block formed so handed broken next made programs there completed moment_is =
+    let k = completes state old new (entries.Shut g.rg g.ruh ∷ []) ticket.queue g.number g.command (bare statuses.WRITE_FAULT false) moment done block so handed completed moment_is (record {
+      calls = program_at spot true ∷ [];
+      made = made;
+      fails = broken;
+      programs = programs;
+      unplaced = refl;
+      is_error = broken;
+      quiet = sym broken;
+      media = λ _. failed-last (state old.flash) (state new.flash) [] (program_at spot true) formed made refl;
+    }) in (
       there,
       record {
-        completes = completes state old new (entries.Shut g.rg g.ruh ∷ []) ticket.queue g.number g.command (bare statuses.WRITE_FAULT false) moment done block so completed moment_is (record {
-          kept = kept;
-          programs = programs;
-          unplaced = refl;
-          is_error = broken;
-          quiet = sym broken;
-          fault = λ _. fault;
-          no_fault = λ wrong. absurd (false≢true (sym wrong ∙ broken));
-        });
+        completes = k.0;
+        call_is = k.1 ∙ ap (λ (at : Spot). program_at at true ∷ []) next.spot_is;
         reply_is = ap (λ (d : Done). d.reply) completed.done_is;
         failed = broken;
       },
-    ))
+    )

@@ -12,16 +12,16 @@ use Rattle.fdp_base.specs.declared.entry.Entry.TheVariants as entries
 use Rattle.fdp_base.specs.declared.entry.Spot.{Spot}
 use Rattle.fdp_base.specs.declared.payload.Payload.{Payload}
 use Rattle.fdp_base.specs.declared.payload.Payload.TheVariants as payloads
-use Rattle.fdp_base.specs.Change.{after, changed_by, going_with}
+use Rattle.fdp_rules.specs.Change.{after, changed_by, going_with}
 use Rattle.fdp_base.specs.CommandKinds.{IsPayloadOf, IsWellFormed, Write, is_write, write_of}
 use Rattle.fdp_base.specs.Geometry.{data_units}
 use Rattle.fdp_base.specs.Pattern.{HasBlock, payload_block}
 use Rattle.fdp_base.specs.Placement.{geometry_of}
-use Rattle.fdp_base.specs.PlainState.{Going, PlainState}
-use Rattle.fdp_base.specs.Sites.{is_there}
+use Rattle.fdp_rules.specs.PlainState.{Going, PlainState}
+use Rattle.fdp_rules.specs.Sites.{is_there}
 use Rattle.fdp_base.specs.Spare.{data_spare}
-use Rattle.fdp_base.specs.Step.{Follows, IsPlaced}
-use Rattle.fdp_base.specs.Totals.{blocks_written}
+use Rattle.fdp_rules.specs.Step.{Follows, IsPlaced}
+use Rattle.fdp_rules.specs.Totals.{blocks_written}
 use Rattle.fdp_flash.specs.declared.cell.Cell.{Cell}
 use Rattle.fdp_flash.specs.declared.cell.Cell.TheVariants.{Whole}
 use Rattle.fdp_flash.specs.Cells.{IsBlankFrom}

@@ -1,29 +1,36 @@
 -- How blocks are read, one behind another.
-use Rattle.std.proofs.Common.{◌≡◌, ℕ, zero, suc, ◌+◌, ◌-◌, ◌*◌, ◌<◌, ◌≤◌, IsTrue, List, [], ◌∷◌, ◌++◌, length, take, drop, replicate, refl, ap, sym, ◌∙◌, subst, arith, Some, None, Option, length-append}
-use Rattle.std.specs.Prelude.{flat_map, slice_get}
+use Rattle.std.proofs.Common.{◌≡◌, ℕ, zero, suc, ◌+◌, ◌-◌, ◌*◌, ◌<◌, ◌≤◌, true, false, IsTrue, List, [], ◌∷◌, ◌++◌, length, take, drop, replicate, refl, ap, sym, ◌∙◌, subst, arith, Some, None, Option, length-append}
+use Rattle.std.specs.Prelude.{flat_map, option_and_then, slice_get, Result, Ok, Err, OnOk, OnErr}
+use Rattle.std.specs.List.{cons_option, filter_map}
 use Rattle.std.specs.Option.{option_map_or}
 use Rattle.std.proofs.lemmas.Grind.{flat_map-append}
 use Rattle.std.proofs.lemmas.List.{append-nil, length-drop, length-replicate, length-take, drop-replicate, take-replicate}
+use Rattle.std.proofs.lemmas.List.Elements.{filter_map-append}
 use Rattle.std.proofs.lemmas.Slice.{drop-put_mid, take-put_mid}
 use borrow.Rule.Slice.PartMut.{put_mid}
 use Rattle.fdp_base.specs.declared.config.DriveConfig.{DriveConfig}
 use Rattle.fdp_base.specs.declared.config.Geometry.{Geometry}
-use Rattle.fdp_base.specs.Answer.{read_block}
-use Rattle.fdp_base.specs.LogPages.{zeros}
+use Rattle.fdp_base.specs.declared.entry.Spot.{Spot}
+use Rattle.fdp_rules.specs.Answer.{read_block}
+use Rattle.fdp_rules.specs.LogPages.{zeros}
 use Rattle.fdp_base.specs.Numbers.{numbers_from}
 use Rattle.fdp_base.specs.Placement.{geometry_of}
-use Rattle.fdp_base.specs.PlainState.{Block, PlainState}
+use Rattle.fdp_rules.specs.PlainState.{Block, PlainState}
 use Rattle.fdp_flash.specs.declared.cell.Cell.{Cell}
-use Rattle.fdp_flash.specs.FlashState.{Faulted, FlashState}
+use Rattle.fdp_flash.specs.FlashState.{Call, FlashState}
 use Rattle.fdp_flash.specs.Layout.{page_number}
 use Rattle.fdp_history.specs.OrderlyState.{IsOrderlyState}
 use Rattle.fdp_core.specs.declared.book.reading.Page.{Page}
-use Rattle.fdp_core.specs.Book.{BookSeen, state_in}
+use Rattle.fdp_core.specs.declared.extent.Extent.{Extent}
+use Rattle.fdp_core.specs.Book.{BookSeen, point_in, state_in}
+use Rattle.fdp_core.specs.Calls.{MakesCalls, fetch_at}
+use Rattle.fdp_core.specs.Fetches.{FailsToFetch, MakesFetches, fetches_of, page_of, pages_of}
 use Rattle.fdp_core.specs.Media.{IsReadFrom, IsWholeAt}
 use Rattle.fdp_core.specs.Pages.{cells_of}
 use Rattle.fdp_core.specs.Reading.{IsPageOf, StandsAt}
 use Rattle.fdp_core.specs.ReadSteps.{blocks_from}
 use Rattle.fdp_core.specs.Seen.{IsKept}
+use Rattle.fdp_core.proofs.CallsMade.{calls-joined, calls-none}
 use Rattle.fdp_core.proofs.GroupAdds.{kept-same}
 
 -- ---- calls that read, one after another
@@ -47,9 +54,6 @@ read-joined a b c p q = record {
   cells = λ tells. q.cells (p.kept.told ∙ tells) ∙ p.cells tells;
 }
 
-pub faulted-later : (a b c : FlashState) → IsKept a b → Faulted b c → Faulted a c
-faulted-later a b c p h = let rose = h.rose in record { rose = omega (arith, p.faults, rose); unreliable = sym p.reliable ∙ h.unreliable }
-
 -- ---- the page of a block
 
 stands-as : (b : BookSeen) (block : Option Block) (page : Page) → StandsAt b block (Some page) → (x : Block) × (block ≡ Some x) × IsPageOf b x page
@@ -62,7 +66,7 @@ whole-there f b block page geometry cells h tells =
     let stands = stands-as b block page h in
     (stands.0.bytes, ap (λ (cs : List Cell). slice_get cs (page_number f.geometry page.spot)) (cells tells) ∙ ap (λ (x : Geometry). slice_get (cells_of b.config b.entries) (page_number x page.spot)) geometry ∙ stands.2.whole)
 
--- ---- so many blocks
+-- ---- the fetches
 
 numbers-last : (first n : ℕ) → numbers_from first (suc n) ≡ numbers_from first n ++ (first + n) ∷ []
 unfolding numbers_from
@@ -70,6 +74,74 @@ numbers-last first zero = let e : first ≡ first + 0 = omega arith in ap (λ x.
 numbers-last first (suc n) =
     let e : first + 1 + n ≡ first + suc n = omega arith in
     ap (λ (xs : List ℕ). first ∷ xs) (numbers-last (first + 1) n) ∙ ap (λ x. first ∷ (numbers_from (first + 1) n ++ x ∷ [])) e
+
+-- the page of a block that is there
+pub page-is : (b : BookSeen) (nsid lba : ℕ) (page : Page) → StandsAt b ((state_in b).blocks nsid lba) (Some page) → page_of b nsid lba ≡ Some page.spot
+page-is b nsid lba page h =
+    let stands = stands-as b ((state_in b).blocks nsid lba) page h in
+    ap (option_and_then (λ (x : Block). (point_in b).trail.site x.page)) stands.1 ∙ stands.2.site
+
+absent-as : (b : BookSeen) (block : Option Block) → StandsAt b block None → block ≡ None
+absent-as b None h = refl
+absent-as b (Some x) h = absurd h
+
+pages-one : (b : BookSeen) (nsid lba : ℕ) → pages_of b nsid lba 1 ≡ cons_option (page_of b nsid lba) []
+unfolding numbers_from
+pages-one b nsid lba = refl
+
+-- a block that is not there is not fetched
+pub fetches-absent : (f : FlashState) (b : BookSeen) (nsid lba : ℕ) → StandsAt b ((state_in b).blocks nsid lba) None → MakesCalls f f (fetches_of (pages_of b nsid lba 1))
+fetches-absent f b nsid lba h =
+    let none : page_of b nsid lba ≡ None = ap (option_and_then (λ (x : Block). (point_in b).trail.site x.page)) (absent-as b ((state_in b).blocks nsid lba) h) in
+    let pages : pages_of b nsid lba 1 ≡ [] = pages-one b nsid lba ∙ ap (λ (o : Option Spot). cons_option o []) none in
+    subst (λ (xs : List Spot). MakesCalls f f (fetches_of xs)) (sym pages) (calls-none f)
+
+-- a block that is there is fetched from its page
+pub fetches-there : (f g : FlashState) (b : BookSeen) (nsid lba : ℕ) (page : Page) → StandsAt b ((state_in b).blocks nsid lba) (Some page) → MakesCalls f g (fetch_at page.spot false ∷ []) → MakesCalls f g (fetches_of (pages_of b nsid lba 1))
+fetches-there f g b nsid lba page h made =
+    let pages : pages_of b nsid lba 1 ≡ page.spot ∷ [] = pages-one b nsid lba ∙ ap (λ (o : Option Spot). cons_option o []) (page-is b nsid lba page h) in
+    subst (λ (xs : List Spot). MakesCalls f g (fetches_of xs)) (sym pages) made
+
+pub fetch-fails : (f g : FlashState) (b : BookSeen) (nsid lba : ℕ) (page : Page) → StandsAt b ((state_in b).blocks nsid lba) (Some page) → MakesCalls f g (fetch_at page.spot true ∷ []) → FailsToFetch f g b nsid lba
+fetch-fails f g b nsid lba page h made = record { page = page.spot; page_is = page-is b nsid lba page h; made = made }
+
+pub fetches-none : (f : FlashState) (b : BookSeen) (nsid slba : ℕ) → MakesCalls f f (fetches_of (pages_of b nsid slba 0))
+unfolding numbers_from
+fetches-none f b nsid slba = calls-none f
+
+fetches-append : (xs ys : List Spot) → fetches_of (xs ++ ys) ≡ fetches_of xs ++ fetches_of ys
+fetches-append [] ys = refl
+fetches-append (x ∷ xs) ys = ap (λ (zs : List Call). fetch_at x false ∷ zs) (fetches-append xs ys)
+
+-- the fetches of one block more
+pub fetches-more : (f g h : FlashState) (b : BookSeen) (nsid slba n : ℕ) → MakesCalls f g (fetches_of (pages_of b nsid slba n)) → MakesCalls g h (fetches_of (pages_of b nsid (slba + n) 1)) → MakesCalls f h (fetches_of (pages_of b nsid slba (n + 1)))
+fetches-more f g h b nsid slba n first one =
+    let count : n + 1 ≡ suc n = omega arith in
+    let pages : pages_of b nsid slba (n + 1) ≡ pages_of b nsid slba n ++ pages_of b nsid (slba + n) 1 =
+    ap (pages_of b nsid slba) count ∙ ap (filter_map (page_of b nsid)) (numbers-last slba n) ∙ filter_map-append (page_of b nsid) (numbers_from slba n) ((slba + n) ∷ [])
+    ∙ ap (λ (xs : List Spot). pages_of b nsid slba n ++ xs) (sym (pages-one b nsid (slba + n))) in
+    subst (MakesCalls f h) (sym (ap fetches_of pages ∙ fetches-append (pages_of b nsid slba n) (pages_of b nsid (slba + n) 1)))
+    (calls-joined f g h (fetches_of (pages_of b nsid slba n)) (fetches_of (pages_of b nsid (slba + n) 1)) first one)
+
+-- the fetches up to one that failed
+pub fetches-cut : (f g h : FlashState) (b : BookSeen) (x : Extent) (n : ℕ) → n < x.count → MakesCalls f g (fetches_of (pages_of b x.nsid x.slba n)) → FailsToFetch g h b x.nsid (x.slba + n) → MakesFetches f h b x true
+fetches-cut f g h b x n below first one = record {
+  calls = fetches_of (pages_of b x.nsid x.slba n) ++ fetch_at one.page true ∷ [];
+  made = calls-joined f g h (fetches_of (pages_of b x.nsid x.slba n)) (fetch_at one.page true ∷ []) first one.made;
+  fetches = record { index = n; within = below; page = one.page; page_is = one.page_is; calls_are = refl };
+}
+
+-- what holds at all holds of an error
+pub at-error : {X E : Type 0} (r : Result X E) (P : Type 0) → P → OnErr r P
+at-error (Ok x) P p = tt
+at-error (Err e) P p = p
+
+-- what follows where the result is no error holds of the result
+pub at-success : {X E : Type 0} (r : Result X E) (P Q : Type 0) → OnOk r P → (P → Q) → OnOk r Q
+at-success (Ok x) P Q p f = f p
+at-success (Err e) P Q p f = tt
+
+-- ---- so many blocks
 
 -- a block more
 pub blocks_from-more : (b : BookSeen) (nsid slba n : ℕ) → blocks_from b nsid slba (n + 1) ≡ blocks_from b nsid slba n ++ read_block b.config (state_in b) nsid (slba + n)

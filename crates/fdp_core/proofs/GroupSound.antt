@@ -2,11 +2,11 @@
 use Rattle.std.proofs.Common.{◌≡◌, ℕ, Bool, false, IsTrue, List, [], ◌∷◌, ◌++◌, length, ap, sym, ◌∙◌, subst}
 use Rattle.fdp_base.specs.declared.config.DriveConfig.{DriveConfig}
 use Rattle.fdp_base.specs.declared.entry.Entry.{Entry}
-use Rattle.fdp_base.specs.Change.{after}
-use Rattle.fdp_base.specs.History.{fresh, point_of}
-use Rattle.fdp_base.specs.Next.{next}
-use Rattle.fdp_base.specs.Point.{Point}
-use Rattle.fdp_base.proofs.Pushes.{point_of-push}
+use Rattle.fdp_rules.specs.Change.{after}
+use Rattle.fdp_rules.specs.History.{fresh, point_of}
+use Rattle.fdp_rules.specs.Next.{next}
+use Rattle.fdp_rules.specs.Point.{Point}
+use Rattle.fdp_rules.proofs.Pushes.{point_of-push}
 use Rattle.fdp_flash.specs.FlashState.{FlashState}
 use Rattle.fdp_history.specs.Orderly.{IsOrderly}
 use Rattle.fdp_core.specs.Pages.{cells_after, cells_of}

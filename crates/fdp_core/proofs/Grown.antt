@@ -5,10 +5,10 @@ use Rattle.std.specs.Option.{option_map_or}
 use Rattle.fdp_base.specs.declared.config.DriveConfig.{DriveConfig}
 use Rattle.fdp_base.specs.declared.entry.Spot.{Spot}
 use Rattle.fdp_base.specs.Pattern.{payload_block}
-use Rattle.fdp_base.specs.Placement.{geometry_of}
-use Rattle.fdp_base.specs.PlainState.{Block, Namespace, PageName, PageName.written}
-use Rattle.fdp_base.specs.Point.{Point}
-use Rattle.fdp_base.specs.Sites.{is_there}
+use Rattle.fdp_base.specs.Placement.{classes_of, geometry_of}
+use Rattle.fdp_rules.specs.PlainState.{Block, Namespace, PageName, PageName.written}
+use Rattle.fdp_rules.specs.Point.{Point}
+use Rattle.fdp_rules.specs.Sites.{is_there}
 use Rattle.fdp_base.specs.Spare.{data_spare}
 use Rattle.fdp_flash.specs.declared.cell.Cell.{Cell}
 use Rattle.fdp_flash.specs.declared.cell.Cell.TheVariants.{Whole}
@@ -35,6 +35,10 @@ pub record IsGrown (p q : Point) (cells new : List Cell) (page : PageName) : Typ
 
 pub setting-grown : (p q : Point) (cells new : List Cell) (page : PageName) (x : Setting) → IsGrown p q cells new page → IsSettingOf p.state x → IsSettingOf q.state x
 setting-grown p q cells new page x a h = record { enabled = a.enabled ∙ h.enabled; index = a.index ∙ h.index; generation = a.generation ∙ h.generation }
+
+-- the classes in force
+pub classes-grown : (c : DriveConfig) (p q : Point) (cells new : List Cell) (page : PageName) → IsGrown p q cells new page → classes_of c q.state.enabled q.state.index ≡ classes_of c p.state.enabled p.state.index
+classes-grown c p q cells new page a = ap (λ (b : Bool). classes_of c b q.state.index) a.enabled ∙ ap (classes_of c p.state.enabled) a.index
 
 pub all_units-grown : (p q : Point) (cells new : List Cell) (page : PageName) → IsGrown p q cells new page → HasAllUnits p.state → HasAllUnits q.state
 all_units-grown p q cells new page a h = record {

@@ -1,26 +1,26 @@
 -- What a write that succeeds leaves of the tables.
 use Rattle.std.proofs.Common.{◌≡◌, inl, inr, ℕ, ◌+◌, ◌-◌, ◌<◌, ◌≤◌, Bool, true, false, IsTrue, List, [], ◌∷◌, ◌++◌, length, slice_get, slice_set, Option, Some, None, refl, sym, ◌∙◌, ap, subst, arith, cond, eqb-true, leb-true, ltb-true}
 use Rattle.std.specs.Prelude.{◌==◌, ◌&&◌, nat_le, nat_lt, option_map}
-use Rattle.fdp_base.proofs.Pushes.{point_of-push}
+use Rattle.fdp_rules.proofs.Pushes.{point_of-push}
 use Rattle.fdp_base.specs.declared.config.DriveConfig.{DriveConfig}
 use Rattle.fdp_base.specs.declared.entry.Entry.{Entry}
 use Rattle.fdp_base.specs.declared.entry.Entry.TheVariants as entries
 use Rattle.fdp_base.specs.declared.entry.Spot.{Spot}
 use Rattle.fdp_base.specs.declared.status.TheConstants.Status as statuses
-use Rattle.fdp_base.specs.Answer.{bare}
+use Rattle.fdp_rules.specs.Answer.{bare}
 use Rattle.fdp_base.specs.CommandKinds.{Write, write_of}
-use Rattle.fdp_base.specs.Effect.{block_of_write}
-use Rattle.fdp_base.specs.History.{fresh, point_of}
-use Rattle.fdp_base.specs.Next.{next}
+use Rattle.fdp_rules.specs.Effect.{block_of_write}
+use Rattle.fdp_rules.specs.History.{fresh, point_of}
+use Rattle.fdp_rules.specs.Next.{next}
 use Rattle.fdp_base.specs.Numbers.{is_among}
 use Rattle.fdp_base.specs.Pattern.{payload_block}
-use Rattle.fdp_base.specs.Placement.{geometry_of}
-use Rattle.fdp_base.specs.PlainState.{Block, Going, Namespace, PageName.written, Reference}
-use Rattle.fdp_base.specs.Point.{Point, Trail}
-use Rattle.fdp_base.specs.Sites.{is_there}
+use Rattle.fdp_base.specs.Placement.{classes_of, geometry_of}
+use Rattle.fdp_rules.specs.PlainState.{Block, Going, Namespace, PageName.written, Reference}
+use Rattle.fdp_rules.specs.Point.{Point, Trail}
+use Rattle.fdp_rules.specs.Sites.{is_there}
 use Rattle.fdp_base.specs.Spare.{data_spare}
-use Rattle.fdp_base.specs.Step.{MaySucceed}
-use Rattle.fdp_base.specs.Totals.{blocks_written}
+use Rattle.fdp_rules.specs.Step.{MaySucceed}
+use Rattle.fdp_rules.specs.Totals.{blocks_written}
 use Rattle.std.specs.Option.{option_map_or}
 use Rattle.std.proofs.lemmas.Bool.{and_parts}
 use Rattle.fdp_flash.proofs.Lists.{slice_get_there}
@@ -42,7 +42,7 @@ use Rattle.fdp_core.specs.Pages.{cells_of}
 use Rattle.fdp_core.proofs.Alike.{used-push}
 use Rattle.fdp_core.proofs.Committed.{IsCommitted, blocks-count, blocks_with, committed}
 use Rattle.fdp_core.proofs.GroupHost.{end-follows, write-succeeds}
-use Rattle.fdp_core.proofs.Grown.{all_units-grown, mapped-grown, setting-grown, spaces-grown}
+use Rattle.fdp_core.proofs.Grown.{all_units-grown, classes-grown, mapped-grown, setting-grown, spaces-grown}
 use Rattle.fdp_core.proofs.HeldAt.{held-at}
 use Rattle.fdp_core.proofs.HeldSums.{are_sums-push}
 use Rattle.fdp_core.proofs.Lasting.{blocks-written, flights-without, units-lasting, unwritten}
@@ -101,10 +101,12 @@ map-committed c p q cells map new queue f w generation done going same h there w
       (block-committed c p q cells map queue f w generation n lba (n == w.nsid && is_among w.slba w.count lba) refl done going same h there write count maps));
 }
 
-handles-same : (c : DriveConfig) (p q : Point) (handles : HandleTable) → q.state.references ≡ p.state.references → AreHandlesOf c p.state handles → AreHandlesOf c q.state handles
-handles-same c p q handles same h = record {
+handles-same : (c : DriveConfig) (p q : Point) (handles : HandleTable) → q.state.references ≡ p.state.references → classes_of c q.state.enabled q.state.index ≡ classes_of c p.state.enabled p.state.index →
+    AreHandlesOf c p.state handles → AreHandlesOf c q.state handles
+handles-same c p q handles same classes h = record {
   unit_pages = h.unit_pages;
   groups = h.groups;
+  classes = classes ∙ h.classes;
   references = λ rg ruh. ap (λ (f : ℕ → ℕ → Reference). f rg ruh) same ∙ h.references rg ruh;
 }
 
@@ -134,7 +136,7 @@ held-committed c es setting sums more spaces handles map new flights used queue 
       sums_are = are_sums-push es e sums more h.sums_are (omega (arith, orderly.count.1, h.config.ranges.blocks_per_command.1)) (omega arith) refl (omega (arith, host, count)) (omega (arith, media));
       all_units = all_units-grown p q cells cells unwritten done.grown h.all_units;
       spaces_are = spaces-grown c p q cells cells unwritten spaces done.grown h.spaces_are;
-      handles_are = handles-same c p q handles done.references h.handles_are;
+      handles_are = handles-same c p q handles done.references (classes-grown c p q cells cells unwritten done.grown) h.handles_are;
       map_is = map-committed c p q cells map new queue f w setting.generation done going h.setting_is.generation (h.flights_are.flown queue f is) may.there write (may.placed ∙ count) put sizes h.map_is;
       flights_are = flights-without c p q cells flights queue within done.grown done.going h.flights_are;
       units_are = units-lasting c es (es ++ e ∷ []) p.state q.state cells used (λ unit. used-push es e unit refl)

@@ -5,10 +5,10 @@ use Rattle.std.proofs.lemmas.List.{length-replicate}
 use Rattle.std.proofs.lemmas.Option.{none-some}
 use Rattle.fdp_base.specs.declared.config.DriveConfig.{DriveConfig}
 use Rattle.fdp_base.specs.Config.{IsValidConfig}
-use Rattle.fdp_base.specs.Effect.{no_reference}
+use Rattle.fdp_rules.specs.Effect.{no_reference}
 use Rattle.fdp_base.specs.Geometry.{all_pages}
-use Rattle.fdp_base.specs.History.{first_state, fresh, point_of, state_of}
-use Rattle.fdp_base.specs.Placement.{geometry_of}
+use Rattle.fdp_rules.specs.History.{first_state, fresh, point_of, state_of}
+use Rattle.fdp_base.specs.Placement.{classes_of, geometry_of}
 use Rattle.fdp_flash.specs.declared.cell.Cell.TheVariants.{Blank}
 use Rattle.fdp_flash.proofs.Lists.{slice_get-replicate}
 use Rattle.fdp_history.proofs.Fresh.{orderly-fresh, standing-fresh}
@@ -75,11 +75,11 @@ module _ (c : DriveConfig) (valid : IsValidConfig c) where
 
   -- the tables of a book that was made for a configuration
   pub held-fresh : (spaces : SpaceTable) (handles : HandleTable) (map : MapTable) (flights : List (Option Flight)) (used : List ℕ) →
-      AreConfiguredSpaces c spaces → handles.unit_pages ≡ c.unit_pages → handles.groups ≡ c.groups → ((rg ruh : ℕ) → reference_at handles rg ruh ≡ no_reference c) →
+      AreConfiguredSpaces c spaces → handles.unit_pages ≡ c.unit_pages → handles.groups ≡ c.groups → handles.classes ≡ classes_of c c.enabled c.index → ((rg ruh : ℕ) → reference_at handles rg ruh ≡ no_reference c) →
       IsConfiguredMap c map → flights ≡ replicate (c.queues + 1) None → used ≡ replicate c.groups 0 →
       IsHeld c [] (record { enabled = c.enabled; index = c.index; generation = 0 }) (record { host_blocks = 0; media_blocks = 0 }) spaces handles map flights used
   unfolding point_of state_of first_state fresh
-  held-fresh spaces handles map flights used s unit_pages groups references m f u = record {
+  held-fresh spaces handles map flights used s unit_pages groups classes references m f u = record {
     config = valid;
     orderly = orderly-fresh c valid;
     standing = standing-fresh c;
@@ -87,7 +87,7 @@ module _ (c : DriveConfig) (valid : IsValidConfig c) where
     sums_are = record { host_blocks_are = refl; media_blocks_are = refl; no_erases = refl; few_host_blocks = omega arith; few_media_blocks = omega arith };
     all_units = record { kept = λ unit. refl; unworn = λ rg. refl };
     spaces_are = record { groups = sym s.groups; namespaces = λ nsid. sym (s.namespaces nsid) };
-    handles_are = record { unit_pages = sym unit_pages; groups = sym groups; references = λ rg ruh. sym (references rg ruh) };
+    handles_are = record { unit_pages = sym unit_pages; groups = sym groups; classes = sym classes; references = λ rg ruh. sym (references rg ruh) };
     map_is = map-fresh map m;
     flights_are = subst (λ (xs : List (Option Flight)). AreFlightsOf c (point_of c (fresh c) []) (cells_of c []) xs) (sym f) flights-fresh;
     units_are = subst (λ (xs : List ℕ). AreUnitsOf c [] (point_of c (fresh c) []).state (cells_of c []) xs) (sym u) units-fresh;

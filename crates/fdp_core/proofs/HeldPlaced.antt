@@ -3,23 +3,23 @@ use Rattle.std.proofs.Common.{◌≡◌, ◌≢◌, ℕ, ◌+◌, ◌*◌, ◌<�
 use Rattle.std.specs.Prelude.{option_map}
 use Rattle.std.proofs.Math.ListN.{length-set}
 use Rattle.std.proofs.lemmas.Option.{slice_get_within}
-use Rattle.fdp_base.proofs.Pushes.{point_of-push}
+use Rattle.fdp_rules.proofs.Pushes.{point_of-push}
 use Rattle.fdp_base.specs.declared.config.DriveConfig.{DriveConfig}
 use Rattle.fdp_base.specs.declared.entry.Entry.{Entry}
 use Rattle.fdp_base.specs.declared.entry.Entry.TheVariants as entries
 use Rattle.fdp_base.specs.declared.entry.Spot.{Spot}
-use Rattle.fdp_base.specs.Change.{one_less, one_more_placed}
+use Rattle.fdp_rules.specs.Change.{one_less, one_more_placed}
 use Rattle.fdp_base.specs.CommandKinds.{Write, write_of}
-use Rattle.fdp_base.specs.Effect.{References, with_reference}
-use Rattle.fdp_base.specs.History.{fresh, point_of}
-use Rattle.fdp_base.specs.Next.{next}
+use Rattle.fdp_rules.specs.Effect.{References, with_reference}
+use Rattle.fdp_rules.specs.History.{fresh, point_of}
+use Rattle.fdp_rules.specs.Next.{next}
 use Rattle.fdp_base.specs.Pattern.{payload_block}
-use Rattle.fdp_base.specs.Placement.{geometry_of}
-use Rattle.fdp_base.specs.PlainState.{Block, Going, PageName.written, PlainState, Reference}
-use Rattle.fdp_base.specs.Point.{Point}
-use Rattle.fdp_base.specs.Sites.{group_of}
+use Rattle.fdp_base.specs.Placement.{classes_of, geometry_of}
+use Rattle.fdp_rules.specs.PlainState.{Block, Going, PageName.written, PlainState, Reference}
+use Rattle.fdp_rules.specs.Point.{Point}
+use Rattle.fdp_rules.specs.Sites.{group_of}
 use Rattle.fdp_base.specs.Spare.{data_spare}
-use Rattle.fdp_base.specs.Step.{Follows, IsNextPage, IsPage, IsPlaced}
+use Rattle.fdp_rules.specs.Step.{Follows, IsNextPage, IsPage, IsPlaced}
 use Rattle.fdp_flash.proofs.Lists.{slice_get-set_same}
 use Rattle.fdp_flash.specs.declared.cell.Cell.{Cell}
 use Rattle.fdp_flash.specs.declared.cell.Cell.TheVariants.{Blank, Whole}
@@ -38,7 +38,7 @@ use Rattle.fdp_core.specs.Flown.{IsPageMore, used_after}
 use Rattle.fdp_core.specs.Held.{AreFlightsOf, AreHandlesOf, AreUnitsOf, IsFlightOf, IsHeld, flight_in, going_of}
 use Rattle.fdp_core.specs.Pages.{cells_after, cells_of, next_page}
 use Rattle.fdp_core.proofs.Flights.{flown-set, going-set}
-use Rattle.fdp_core.proofs.Grown.{all_units-grown, flight-grown, map-grown, setting-grown, spaces-grown}
+use Rattle.fdp_core.proofs.Grown.{all_units-grown, classes-grown, flight-grown, map-grown, setting-grown, spaces-grown}
 use Rattle.fdp_core.proofs.HeldAt.{held-at}
 use Rattle.fdp_core.proofs.HeldSums.{are_sums-push}
 use Rattle.fdp_core.proofs.Longer.{cells_of-push}
@@ -87,13 +87,15 @@ flights-placed c p q cells new flights queue f more spot w orderly within h writ
           (λ k x e. flight-grown c p q cells new (written f.ticket (length f.pages.items)) x h.grown (other k x e) (flights_are.flown k x e));
     }
 
-handles-placed : (c : DriveConfig) (s t : PlainState) (handles new : HandleTable) (rg ruh unit : ℕ) → new.unit_pages ≡ handles.unit_pages → new.groups ≡ handles.groups → reference_at new ≡ with_reference (reference_at handles) rg ruh (one_less c unit (reference_at handles rg ruh)) → t.references ≡ with_reference s.references rg ruh (one_less c unit (s.references rg ruh)) → AreHandlesOf c s handles → AreHandlesOf c t new
-handles-placed c s t handles new rg ruh unit pages groups is after_is h =
+handles-placed : (c : DriveConfig) (s t : PlainState) (handles new : HandleTable) (rg ruh unit : ℕ) → new.unit_pages ≡ handles.unit_pages → new.groups ≡ handles.groups → new.classes ≡ handles.classes → reference_at new ≡ with_reference (reference_at handles) rg ruh (one_less c unit (reference_at handles rg ruh)) → t.references ≡ with_reference s.references rg ruh (one_less c unit (s.references rg ruh)) →
+    classes_of c t.enabled t.index ≡ classes_of c s.enabled s.index → AreHandlesOf c s handles → AreHandlesOf c t new
+handles-placed c s t handles new rg ruh unit pages groups classes is after_is in_force h =
     let same : s.references ≡ reference_at handles = λ d r k. h.references r k d in
     let all : t.references ≡ reference_at new = after_is ∙ ap (λ (refs : References). with_reference refs rg ruh (one_less c unit (refs rg ruh))) same ∙ sym is in
     record {
       unit_pages = h.unit_pages ∙ sym pages;
       groups = h.groups ∙ sym groups;
+      classes = in_force ∙ h.classes ∙ sym classes;
       references = λ r k. ap (λ (refs : References). refs r k) all;
     }
 
@@ -103,6 +105,7 @@ pub record IsTablesMore (c : DriveConfig) (sums more_sums : Sums) (handles more_
   pub media_blocks : more_sums.media_blocks ≡ sums.media_blocks + 1
   pub unit_pages : more_handles.unit_pages ≡ handles.unit_pages
   pub groups : more_handles.groups ≡ handles.groups
+  pub classes : more_handles.classes ≡ handles.classes
   pub references : reference_at more_handles ≡ with_reference (reference_at handles) g.rg g.ruh (one_less c spot.unit (reference_at handles g.rg g.ruh))
   pub flights_are : more_flights ≡ slice_set flights queue (Some more)
   pub flight : IsPageMore f spot more
@@ -161,7 +164,7 @@ held-placed c es setting sums more_sums spaces handles more_handles map flights 
       sums_are = are_sums-push es e sums more_sums h.sums_are (omega arith) (omega arith) refl (omega (arith, tables.host_blocks)) tables.media_blocks;
       all_units = all_units-grown p q cells new (written f.ticket index) placed.grown h.all_units;
       spaces_are = spaces-grown c p q cells new (written f.ticket index) spaces placed.grown h.spaces_are;
-      handles_are = handles-placed c p.state q.state handles more_handles f.rg f.ruh spot.unit tables.unit_pages tables.groups tables.references placed.references h.handles_are;
+      handles_are = handles-placed c p.state q.state handles more_handles f.rg f.ruh spot.unit tables.unit_pages tables.groups tables.classes tables.references placed.references (classes-grown c p q cells new (written f.ticket index) placed.grown) h.handles_are;
       map_is = map-grown c p q cells new (written f.ticket index) map placed.grown placed.blocks not_its h.map_is;
       flights_are = subst (λ (fs : List (Option Flight)). AreFlightsOf c q new fs) (sym tables.flights_are) flights_now;
       units_are = units_now;

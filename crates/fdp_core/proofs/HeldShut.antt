@@ -2,21 +2,22 @@
 use Rattle.std.proofs.Common.{◌≡◌, ◌≢◌, ⊎_elim, ℕ, ◌+◌, List, [], ◌∷◌, ◌++◌, Option, Some, None, refl, sym, ◌∙◌, ap, arith, append_assoc, eq-eqb, ne_eqb}
 use Rattle.std.specs.Prelude.{IsFalse}
 use Rattle.std.proofs.lemmas.Bool.{cases_eq}
-use Rattle.fdp_base.proofs.Pushes.{point_of-push}
+use Rattle.fdp_rules.proofs.Pushes.{point_of-push}
 use Rattle.fdp_base.specs.declared.command.Command.{Command}
 use Rattle.fdp_base.specs.declared.config.DriveConfig.{DriveConfig}
 use Rattle.fdp_base.specs.declared.entry.Entry.{Entry}
 use Rattle.fdp_base.specs.declared.entry.Entry.TheVariants as entries
 use Rattle.fdp_base.specs.declared.entry.Reply.{Reply}
-use Rattle.fdp_base.specs.Change.{after, changed_by}
-use Rattle.fdp_base.specs.Effect.{References, no_reference, with_reference}
+use Rattle.fdp_rules.specs.Change.{after, changed_by}
+use Rattle.fdp_rules.specs.Effect.{References, no_reference, with_reference}
 use Rattle.fdp_base.specs.Config.{IsValidConfig}
-use Rattle.fdp_base.specs.History.{fresh, point_of}
-use Rattle.fdp_base.specs.Next.{next}
-use Rattle.fdp_base.specs.PlainState.{PlainState, Reference}
-use Rattle.fdp_base.specs.Point.{Point}
-use Rattle.fdp_base.specs.Sites.{traced_by}
-use Rattle.fdp_base.specs.Step.{IsQueue}
+use Rattle.fdp_base.specs.Placement.{classes_of}
+use Rattle.fdp_rules.specs.History.{fresh, point_of}
+use Rattle.fdp_rules.specs.Next.{next}
+use Rattle.fdp_rules.specs.PlainState.{PlainState, Reference}
+use Rattle.fdp_rules.specs.Point.{Point}
+use Rattle.fdp_rules.specs.Sites.{traced_by}
+use Rattle.fdp_rules.specs.Step.{IsQueue}
 use Rattle.fdp_flash.specs.declared.cell.Cell.{Cell}
 use Rattle.fdp_handles.specs.HandleTable.{HandleTable, reference_at}
 use Rattle.fdp_history.proofs.Parts.{orderly-later}
@@ -33,7 +34,7 @@ use Rattle.fdp_core.specs.declared.flight.Flight.{Flight}
 use Rattle.fdp_core.specs.Held.{AreHandlesOf, IsHeld, flights_after}
 use Rattle.fdp_core.specs.Pages.{cells_of}
 use Rattle.fdp_core.proofs.Alike.{used-push}
-use Rattle.fdp_core.proofs.Grown.{IsGrown, all_units-grown, map-grown, setting-grown, spaces-grown}
+use Rattle.fdp_core.proofs.Grown.{IsGrown, all_units-grown, classes-grown, map-grown, setting-grown, spaces-grown}
 use Rattle.fdp_core.proofs.HeldAt.{held-at}
 use Rattle.fdp_core.proofs.HeldEnded.{held_unapplied}
 use Rattle.fdp_core.proofs.HeldSums.{are_sums-push}
@@ -92,20 +93,22 @@ shut-kept c references rg ruh i k unit e =
     (λ (ne : i ≢ rg). rw (ne_eqb i rg ne) refl)
     (cases_eq i rg)
 
-handles-shut : (c : DriveConfig) (s t : PlainState) (handles new : HandleTable) (rg ruh : ℕ) → new.unit_pages ≡ handles.unit_pages → new.groups ≡ handles.groups → reference_at new ≡ with_reference (reference_at handles) rg ruh (no_reference c) → t.references ≡ with_reference s.references rg ruh (no_reference c) → AreHandlesOf c s handles → AreHandlesOf c t new
-handles-shut c s t handles new rg ruh pages groups is after_is h =
+handles-shut : (c : DriveConfig) (s t : PlainState) (handles new : HandleTable) (rg ruh : ℕ) → new.unit_pages ≡ handles.unit_pages → new.groups ≡ handles.groups → new.classes ≡ handles.classes → reference_at new ≡ with_reference (reference_at handles) rg ruh (no_reference c) → t.references ≡ with_reference s.references rg ruh (no_reference c) →
+    classes_of c t.enabled t.index ≡ classes_of c s.enabled s.index → AreHandlesOf c s handles → AreHandlesOf c t new
+handles-shut c s t handles new rg ruh pages groups classes is after_is in_force h =
     let same : s.references ≡ reference_at handles = λ d r k. h.references r k d in
     let all : t.references ≡ reference_at new = after_is ∙ ap (λ (refs : References). with_reference refs rg ruh (no_reference c)) same ∙ sym is in
     record {
       unit_pages = h.unit_pages ∙ sym pages;
       groups = h.groups ∙ sym groups;
+      classes = in_force ∙ h.classes ∙ sym classes;
       references = λ r k. ap (λ (refs : References). refs r k) all;
     }
 
 held-shut : (c : DriveConfig) (es : List Entry) (setting : Setting) (sums : Sums) (spaces : SpaceTable) (handles new : HandleTable) (map : MapTable) (flights : List (Option Flight)) (used : List ℕ) (rg ruh : ℕ) →
-    IsHeld c es setting sums spaces handles map flights used → new.unit_pages ≡ handles.unit_pages → new.groups ≡ handles.groups → reference_at new ≡ with_reference (reference_at handles) rg ruh (no_reference c) →
+    IsHeld c es setting sums spaces handles map flights used → new.unit_pages ≡ handles.unit_pages → new.groups ≡ handles.groups → new.classes ≡ handles.classes → reference_at new ≡ with_reference (reference_at handles) rg ruh (no_reference c) →
     IsHeld c (es ++ entries.Shut rg ruh ∷ []) setting sums spaces new map flights used
-held-shut c es setting sums spaces handles new map flights used rg ruh h pages groups references =
+held-shut c es setting sums spaces handles new map flights used rg ruh h pages groups classes references =
     let e : Entry = entries.Shut rg ruh in
     let p : Point = point_of c (fresh c) es in
     let q : Point = next c p e in
@@ -121,7 +124,7 @@ held-shut c es setting sums spaces handles new map flights used rg ruh h pages g
       sums_are = are_sums-push es e sums sums h.sums_are (omega arith) (omega arith) refl (omega arith) (omega arith);
       all_units = all_units-grown p q cells cells unwritten grown h.all_units;
       spaces_are = spaces-grown c p q cells cells unwritten spaces grown h.spaces_are;
-      handles_are = handles-shut c p.state q.state handles new rg ruh pages groups references is.references h.handles_are;
+      handles_are = handles-shut c p.state q.state handles new rg ruh pages groups classes references is.references (classes-grown c p q cells cells unwritten grown) h.handles_are;
       map_is = map-grown c p q cells cells unwritten map grown is.blocks (blocks-written c p cells map h.map_is) h.map_is;
       flights_are = flights-lasting c p q cells flights grown is.going h.flights_are;
       units_are = units-lasting c es (es ++ e ∷ []) p.state q.state cells used (λ unit. used-push es e unit refl)
@@ -134,10 +137,10 @@ held-shut c es setting sums spaces handles new map flights used rg ruh h pages g
 -- the tables after a handle was shut and a command ended whose change is not made
 pub held_shut : (c : DriveConfig) (es longer : List Entry) (setting : Setting) (sums : Sums) (spaces : SpaceTable) (handles new : HandleTable) (map : MapTable) (flights left : List (Option Flight)) (used : List ℕ) (rg ruh queue number : ℕ) (command : Command) (reply : Reply) (moment : ℕ) →
     IsHeld c es setting sums spaces handles map flights used → IsQueue c queue → IsFalse reply.applied →
-    new.unit_pages ≡ handles.unit_pages → new.groups ≡ handles.groups → reference_at new ≡ with_reference (reference_at handles) rg ruh (no_reference c) →
+    new.unit_pages ≡ handles.unit_pages → new.groups ≡ handles.groups → new.classes ≡ handles.classes → reference_at new ≡ with_reference (reference_at handles) rg ruh (no_reference c) →
     longer ≡ es ++ entries.Shut rg ruh ∷ entries.Host queue number command reply moment ∷ [] → left ≡ flights_after command flights queue →
     IsHeld c longer setting sums spaces new map left used
-held_shut c es longer setting sums spaces handles new map flights left used rg ruh queue number command reply moment h queue_is unmade pages groups references longer_is left_is =
+held_shut c es longer setting sums spaces handles new map flights left used rg ruh queue number command reply moment h queue_is unmade pages groups classes references longer_is left_is =
     held_unapplied c (es ++ entries.Shut rg ruh ∷ []) longer setting sums spaces new map flights left used queue number command reply moment
-    (held-shut c es setting sums spaces handles new map flights used rg ruh h pages groups references)
+    (held-shut c es setting sums spaces handles new map flights used rg ruh h pages groups classes references)
     queue_is unmade (longer_is ∙ sym (append_assoc es (entries.Shut rg ruh ∷ []) (entries.Host queue number command reply moment ∷ []))) left_is

@@ -6,15 +6,15 @@ use Rattle.fdp_base.specs.declared.config.DriveConfig.{DriveConfig}
 use Rattle.fdp_base.specs.declared.entry.Entry.{Entry}
 use Rattle.fdp_base.specs.declared.entry.Entry.TheVariants as entries
 use Rattle.fdp_base.specs.declared.entry.Spot.{Spot}
-use Rattle.fdp_base.specs.Change.{after, changed_by, started}
-use Rattle.fdp_base.specs.History.{fresh, point_of}
-use Rattle.fdp_base.specs.Next.{next}
+use Rattle.fdp_rules.specs.Change.{after, changed_by, started}
+use Rattle.fdp_rules.specs.History.{fresh, point_of}
+use Rattle.fdp_rules.specs.Next.{next}
 use Rattle.fdp_base.specs.Numbers.{with_at}
-use Rattle.fdp_base.specs.PlainState.{Going}
-use Rattle.fdp_base.specs.Point.{Point}
-use Rattle.fdp_base.specs.Sites.{traced_by}
-use Rattle.fdp_base.specs.Step.{Follows, IsOnTarget, IsStarted}
-use Rattle.fdp_base.proofs.Pushes.{point_of-push}
+use Rattle.fdp_rules.specs.PlainState.{Going}
+use Rattle.fdp_rules.specs.Point.{Point}
+use Rattle.fdp_rules.specs.Sites.{traced_by}
+use Rattle.fdp_rules.specs.Step.{Follows, IsOnTarget, IsStarted}
+use Rattle.fdp_rules.proofs.Pushes.{point_of-push}
 use Rattle.fdp_flash.specs.declared.cell.Cell.{Cell}
 use Rattle.fdp_handles.specs.HandleTable.{HandleTable}
 use Rattle.fdp_history.proofs.Points.{orderly-next}

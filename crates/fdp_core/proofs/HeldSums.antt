@@ -3,7 +3,7 @@ use Rattle.std.proofs.Common.{◌≡◌, ℕ, ◌+◌, ◌≤◌, List, [], ◌�
 use Rattle.std.specs.Prelude.{sum_by}
 use Rattle.std.proofs.lemmas.List.Sums.{sum_by-append, sum_by-cons}
 use Rattle.fdp_base.specs.declared.entry.Entry.{Entry}
-use Rattle.fdp_base.specs.Totals.{erases_of, host_blocks_of, media_blocks_of}
+use Rattle.fdp_rules.specs.Totals.{erases_of, host_blocks_of, media_blocks_of}
 use Rattle.fdp_core.specs.declared.book.Sums.{Sums}
 use Rattle.fdp_core.specs.Held.{AreSumsOf}
 

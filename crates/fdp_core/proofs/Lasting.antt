@@ -5,8 +5,8 @@ use Rattle.fdp_base.specs.declared.config.DriveConfig.{DriveConfig}
 use Rattle.fdp_base.specs.declared.entry.Entry.{Entry}
 use Rattle.fdp_base.specs.Numbers.{with_at}
 use Rattle.fdp_base.specs.Placement.{geometry_of}
-use Rattle.fdp_base.specs.PlainState.{Block, Going, PageName, PageName.found, PageName.written, PlainState, Reference}
-use Rattle.fdp_base.specs.Point.{Point}
+use Rattle.fdp_rules.specs.PlainState.{Block, Going, PageName, PageName.found, PageName.written, PlainState, Reference}
+use Rattle.fdp_rules.specs.Point.{Point}
 use Rattle.fdp_flash.specs.declared.cell.Cell.{Cell}
 use Rattle.fdp_flash.specs.Cells.{IsBlankFrom}
 use Rattle.fdp_map.specs.declared.mapped.Mapped.{Mapped}

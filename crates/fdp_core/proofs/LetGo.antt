@@ -5,17 +5,17 @@ use Rattle.fdp_base.specs.declared.command.Command.{Command}
 use Rattle.fdp_base.specs.declared.config.DriveConfig.{DriveConfig}
 use Rattle.fdp_base.specs.declared.entry.Entry.{Entry}
 use Rattle.fdp_base.specs.declared.entry.Entry.TheVariants as entries
-use Rattle.fdp_base.specs.Change.{birth_of, started}
+use Rattle.fdp_rules.specs.Change.{birth_of, started}
 use Rattle.fdp_base.specs.CommandKinds.{nsid_of, write_of}
-use Rattle.fdp_base.specs.History.{fresh, point_of}
-use Rattle.fdp_base.specs.Next.{next}
+use Rattle.fdp_rules.specs.History.{fresh, point_of}
+use Rattle.fdp_rules.specs.Next.{next}
 use Rattle.fdp_base.specs.Numbers.{with_at}
-use Rattle.fdp_base.specs.PlainState.{Going}
-use Rattle.fdp_base.specs.Point.{Point}
-use Rattle.fdp_base.specs.Room.{roomiest}
-use Rattle.fdp_base.specs.Step.{Follows, IsOnTarget, goes_to}
-use Rattle.fdp_base.specs.Target.{target_of}
-use Rattle.fdp_base.proofs.Pushes.{point_of-push}
+use Rattle.fdp_rules.specs.PlainState.{Going}
+use Rattle.fdp_rules.specs.Point.{Point}
+use Rattle.fdp_rules.specs.Room.{roomiest}
+use Rattle.fdp_rules.specs.Step.{Follows, IsOnTarget, goes_to}
+use Rattle.fdp_rules.specs.Target.{target_of}
+use Rattle.fdp_rules.proofs.Pushes.{point_of-push}
 use Rattle.fdp_history.specs.Orderly.{IsOrderly}
 use Rattle.fdp_core.specs.declared.destination.Destination.{Destination}
 use Rattle.fdp_core.specs.declared.extent.Extent.{Extent}

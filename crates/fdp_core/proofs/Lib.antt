@@ -1,3 +1,4 @@
+pub mod Silence
 pub mod Longer
 pub mod Configuring
 pub mod HeldFresh
@@ -17,6 +18,7 @@ pub mod Budgets
 pub mod Roomiest
 pub mod Refusals
 pub mod LegalOnce
+pub mod CallsMade
 pub mod GroupSound
 pub mod GroupAdds
 pub mod GroupHost

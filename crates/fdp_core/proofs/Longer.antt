@@ -4,9 +4,9 @@ use Rattle.std.specs.Prelude.{fold}
 use mathlib.Core.List.{append-nil}
 use Rattle.fdp_base.specs.declared.config.DriveConfig.{DriveConfig}
 use Rattle.fdp_base.specs.declared.entry.Entry.{Entry}
-use Rattle.fdp_base.specs.Change.{after}
-use Rattle.fdp_base.specs.History.{first_state, fresh, state_of}
-use Rattle.fdp_base.specs.PlainState.{PlainState}
+use Rattle.fdp_rules.specs.Change.{after}
+use Rattle.fdp_rules.specs.History.{first_state, fresh, state_of}
+use Rattle.fdp_rules.specs.PlainState.{PlainState}
 use Rattle.fdp_flash.specs.declared.cell.Cell.{Cell}
 use Rattle.fdp_core.specs.Pages.{blank_cells, cells_after, cells_from, cells_of}
 use Rattle.fdp_core.specs.UsedOnce.{IsLegalOnce, IsLegalOnceAfter, IsStepOnce}

@@ -3,11 +3,11 @@ use Rattle.std.proofs.Common.{◌≡◌, ℕ, ◌<◌, IsTrue, List, length, Opt
 use Rattle.std.specs.Prelude.{option_map}
 use Rattle.fdp_base.specs.declared.entry.Spot.{Spot}
 use Rattle.fdp_base.specs.CommandKinds.{Write, write_of}
-use Rattle.fdp_base.specs.PlainState.{Going, PlainState}
-use Rattle.fdp_base.specs.Sites.{is_there}
+use Rattle.fdp_rules.specs.PlainState.{Going, PlainState}
+use Rattle.fdp_rules.specs.Sites.{is_there}
 use Rattle.fdp_base.specs.Spare.{data_spare}
-use Rattle.fdp_base.specs.Step.{Follows}
-use Rattle.fdp_base.specs.Totals.{blocks_written}
+use Rattle.fdp_rules.specs.Step.{Follows}
+use Rattle.fdp_rules.specs.Totals.{blocks_written}
 use Rattle.fdp_base.specs.declared.spare.DataSpare.{DataSpare}
 use Rattle.fdp_core.specs.declared.extent.Extent.{Extent}
 use Rattle.fdp_core.specs.declared.flight.Flight.{Flight}

@@ -4,9 +4,9 @@ use Rattle.std.specs.Prelude.{◌==◌, option_map}
 use Rattle.std.specs.Option.{option_map_or}
 use Rattle.fdp_base.specs.declared.entry.Entry.TheVariants as entries
 use Rattle.fdp_base.specs.declared.entry.Spot.{Spot}
-use Rattle.fdp_base.specs.Change.{one_more_placed}
-use Rattle.fdp_base.specs.PlainState.{Going}
-use Rattle.fdp_base.specs.Totals.{blocks_written}
+use Rattle.fdp_rules.specs.Change.{one_more_placed}
+use Rattle.fdp_rules.specs.PlainState.{Going}
+use Rattle.fdp_rules.specs.Totals.{blocks_written}
 use Rattle.fdp_handles.specs.HandleTable.{HandleTable}
 use Rattle.fdp_map.specs.MapTable.{MapTable}
 use Rattle.fdp_spaces.specs.SpaceTable.{SpaceTable}

@@ -6,15 +6,15 @@ use Rattle.std.proofs.lemmas.Bool.{cases_eq}
 use Rattle.fdp_base.specs.declared.config.DriveConfig.{DriveConfig}
 use Rattle.fdp_base.specs.declared.entry.Entry.TheVariants as entries
 use Rattle.fdp_base.specs.declared.entry.Spot.{Spot}
-use Rattle.fdp_base.specs.Change.{after, changed_by, going_with, holds_ticket, one_less, one_more_placed, placed_going, placed_references}
+use Rattle.fdp_rules.specs.Change.{after, changed_by, going_with, holds_ticket, one_less, one_more_placed, placed_going, placed_references}
 use Rattle.fdp_base.specs.CommandKinds.{Write, write_of}
-use Rattle.fdp_base.specs.Effect.{with_reference}
-use Rattle.fdp_base.specs.Next.{next}
+use Rattle.fdp_rules.specs.Effect.{with_reference}
+use Rattle.fdp_rules.specs.Next.{next}
 use Rattle.fdp_base.specs.Numbers.{with_at}
 use Rattle.fdp_base.specs.Placement.{geometry_of}
-use Rattle.fdp_base.specs.PlainState.{Going, PageName, PageName.found, PageName.written, PlainState}
-use Rattle.fdp_base.specs.Point.{Point}
-use Rattle.fdp_base.specs.Sites.{is_page_of, traced_by}
+use Rattle.fdp_rules.specs.PlainState.{Going, PageName, PageName.found, PageName.written, PlainState}
+use Rattle.fdp_rules.specs.Point.{Point}
+use Rattle.fdp_rules.specs.Sites.{is_page_of, traced_by}
 use Rattle.fdp_flash.proofs.Lists.{slice_get-set_other}
 use Rattle.fdp_flash.specs.declared.cell.Cell.{Cell}
 use Rattle.fdp_flash.specs.declared.cell.Cell.TheVariants.{Blank, Whole}

@@ -4,15 +4,15 @@ use Rattle.std.specs.Prelude.{IsTrue}
 use Rattle.fdp_base.specs.declared.config.DriveConfig.{DriveConfig}
 use Rattle.fdp_base.specs.declared.entry.Spot.{Spot}
 use Rattle.fdp_base.specs.declared.spare.DataSpare.{DataSpare}
-use Rattle.fdp_base.specs.Change.{one_more_placed}
+use Rattle.fdp_rules.specs.Change.{one_more_placed}
 use Rattle.fdp_base.specs.CommandKinds.{Write, write_of}
 use Rattle.fdp_base.specs.Pattern.{payload_block}
 use Rattle.fdp_base.specs.Placement.{geometry_of}
-use Rattle.fdp_base.specs.PlainState.{Going, PageName, PageName.written, PlainState}
-use Rattle.fdp_base.specs.Point.{Point}
-use Rattle.fdp_base.specs.Sites.{is_there}
+use Rattle.fdp_rules.specs.PlainState.{Going, PageName, PageName.written, PlainState}
+use Rattle.fdp_rules.specs.Point.{Point}
+use Rattle.fdp_rules.specs.Sites.{is_there}
 use Rattle.fdp_base.specs.Spare.{data_spare}
-use Rattle.fdp_base.specs.Step.{IsOnTarget, IsPage}
+use Rattle.fdp_rules.specs.Step.{IsOnTarget, IsPage}
 use Rattle.fdp_flash.proofs.Lists.{append_cases}
 use Rattle.fdp_flash.specs.declared.cell.Cell.{Cell}
 use Rattle.fdp_flash.specs.declared.cell.Cell.TheVariants.{Whole}

@@ -7,9 +7,9 @@ use Rattle.fdp_base.specs.declared.payload.Payload.{Payload}
 use Rattle.fdp_base.specs.declared.status.Status.{Status}
 use Rattle.fdp_base.specs.declared.status.TheConstants.Status as statuses
 use Rattle.fdp_base.specs.CommandKinds.{directed_by}
-use Rattle.fdp_base.specs.PlainState.{Namespace, PlainState}
-use Rattle.fdp_base.specs.Point.{Point}
-use Rattle.fdp_base.specs.Refusal.{checks_of, first_that_holds, has_no_room, is_absent, is_past_end, refusal_of, ◌⟶◌}
+use Rattle.fdp_rules.specs.PlainState.{Namespace, PlainState}
+use Rattle.fdp_rules.specs.Point.{Point}
+use Rattle.fdp_rules.specs.Refusal.{checks_of, first_that_holds, has_no_room, is_absent, is_past_end, refusal_of, ◌⟶◌}
 use Rattle.fdp_spaces.specs.SpaceTable.{SpaceTable, namespace_at}
 use Rattle.fdp_core.specs.Held.{AreSpacesOf}
 

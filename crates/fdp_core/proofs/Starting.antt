@@ -7,13 +7,13 @@ use Rattle.fdp_base.specs.declared.command.Command.{Command}
 use Rattle.fdp_base.specs.declared.config.DriveConfig.{DriveConfig}
 use Rattle.fdp_base.specs.declared.entry.Entry.{Entry}
 use Rattle.fdp_base.specs.CommandKinds.{IsWellFormed, is_write, nsid_of, write_of}
-use Rattle.fdp_base.specs.History.{fresh, point_of, totals_of}
-use Rattle.fdp_base.specs.PlainState.{Namespace, PlainState}
-use Rattle.fdp_base.specs.Point.{Point}
-use Rattle.fdp_base.specs.Refusal.{is_present, refusal_of}
-use Rattle.fdp_base.specs.Room.{handles_in_force, handles_of, roomiest}
-use Rattle.fdp_base.specs.Step.{IsQueue, IsStarted, goes_to}
-use Rattle.fdp_base.specs.Target.{target_of}
+use Rattle.fdp_rules.specs.History.{fresh, point_of, totals_of}
+use Rattle.fdp_rules.specs.PlainState.{Namespace, PlainState}
+use Rattle.fdp_rules.specs.Point.{Point}
+use Rattle.fdp_rules.specs.Refusal.{is_present, refusal_of}
+use Rattle.fdp_rules.specs.Room.{handles_in_force, handles_of, roomiest}
+use Rattle.fdp_rules.specs.Step.{IsQueue, IsStarted, goes_to}
+use Rattle.fdp_rules.specs.Target.{target_of}
 use Rattle.fdp_history.specs.Orderly.{IsOrderly}
 use Rattle.fdp_history.specs.OrderlyState.{IsOrderlyState}
 use Rattle.fdp_core.specs.declared.destination.Destination.{Destination}

@@ -9,12 +9,12 @@ use Rattle.fdp_base.specs.declared.config.DriveConfig.{DriveConfig}
 use Rattle.fdp_base.specs.declared.entry.Entry.{Entry}
 use Rattle.fdp_base.specs.declared.entry.Entry.TheVariants as entries
 use Rattle.fdp_base.specs.declared.entry.Spot.{Spot}
-use Rattle.fdp_base.specs.Change.{one_less}
-use Rattle.fdp_base.specs.Effect.{References, no_reference, with_reference}
+use Rattle.fdp_rules.specs.Change.{one_less}
+use Rattle.fdp_rules.specs.Effect.{References, no_reference, with_reference}
 use Rattle.fdp_base.specs.Placement.{geometry_of}
-use Rattle.fdp_base.specs.PlainState.{PlainState, Reference}
-use Rattle.fdp_base.specs.Sites.{group_of}
-use Rattle.fdp_base.specs.Step.{IsNextPage, IsUnreferenced}
+use Rattle.fdp_rules.specs.PlainState.{PlainState, Reference}
+use Rattle.fdp_rules.specs.Sites.{group_of}
+use Rattle.fdp_rules.specs.Step.{IsNextPage, IsUnreferenced}
 use Rattle.fdp_flash.proofs.Lists.{slice_get-set_other}
 use Rattle.fdp_flash.specs.declared.cell.Cell.{Cell}
 use Rattle.fdp_flash.specs.declared.cell.Cell.TheVariants.{Blank}

@@ -6,9 +6,9 @@ use Rattle.std.proofs.lemmas.Bool.{cases_eq}
 use Rattle.std.proofs.lemmas.Nat.{mod_below, same_from_place}
 use Rattle.fdp_base.specs.declared.config.DriveConfig.{DriveConfig}
 use Rattle.fdp_base.specs.declared.entry.Entry.{Entry}
-use Rattle.fdp_base.specs.PlainState.{PlainState}
-use Rattle.fdp_base.specs.Sites.{group_of}
-use Rattle.fdp_base.specs.Step.{IsNextPage, IsUnreferenced}
+use Rattle.fdp_rules.specs.PlainState.{PlainState}
+use Rattle.fdp_rules.specs.Sites.{group_of}
+use Rattle.fdp_rules.specs.Step.{IsNextPage, IsUnreferenced}
 use Rattle.fdp_flash.specs.declared.cell.Cell.{Cell}
 use Rattle.fdp_core.specs.Flown.{used_after}
 use Rattle.fdp_core.specs.Held.{AreUnitsOf}

@@ -6,11 +6,11 @@ use Rattle.fdp_flash.proofs.Lists.{slice_get_there}
 use Rattle.fdp_base.specs.declared.config.DriveConfig.{DriveConfig}
 use Rattle.fdp_base.specs.declared.entry.Spot.{Spot}
 use Rattle.fdp_base.specs.CommandKinds.{Write, write_of}
-use Rattle.fdp_base.specs.PlainState.{Going, PlainState}
-use Rattle.fdp_base.specs.Room.{is_over_budget}
-use Rattle.fdp_base.specs.Sites.{is_there}
-use Rattle.fdp_base.specs.Step.{MaySucceed, exceeds_budget}
-use Rattle.fdp_base.specs.Totals.{blocks_written}
+use Rattle.fdp_rules.specs.PlainState.{Going, PlainState}
+use Rattle.fdp_rules.specs.Room.{is_over_budget}
+use Rattle.fdp_rules.specs.Sites.{is_there}
+use Rattle.fdp_rules.specs.Step.{MaySucceed, exceeds_budget}
+use Rattle.fdp_rules.specs.Totals.{blocks_written}
 use Rattle.fdp_core.specs.declared.extent.Extent.{Extent}
 use Rattle.fdp_core.specs.declared.flight.Flight.{Flight}
 use Rattle.fdp_core.specs.declared.ticket.Ticket.{Ticket}

@@ -8,12 +8,12 @@ use Rattle.fdp_base.specs.declared.command.Command.{Command}
 use Rattle.fdp_base.specs.declared.command.Command.TheVariants as commands
 use Rattle.fdp_base.specs.declared.config.DriveConfig.{DriveConfig}
 use Rattle.fdp_base.specs.CommandKinds.{IsWellFormed, Write, is_write, nsid_of, write_of}
-use Rattle.fdp_base.specs.PlainState.{Namespace, PlainState}
-use Rattle.fdp_base.specs.Point.{Point}
-use Rattle.fdp_base.specs.Refusal.{is_present, refusal_of}
-use Rattle.fdp_base.specs.Room.{handles_of, size_of}
-use Rattle.fdp_base.specs.Target.{Target, default_target, group_of_pid, handle_of_pid, target_of}
-use Rattle.fdp_base.specs.Totals.{blocks_written}
+use Rattle.fdp_rules.specs.PlainState.{Namespace, PlainState}
+use Rattle.fdp_rules.specs.Point.{Point}
+use Rattle.fdp_rules.specs.Refusal.{is_present, refusal_of}
+use Rattle.fdp_rules.specs.Room.{handles_of, size_of}
+use Rattle.fdp_rules.specs.Target.{Target, default_target, group_of_pid, handle_of_pid, target_of}
+use Rattle.fdp_rules.specs.Totals.{blocks_written}
 use Rattle.fdp_history.proofs.Checks.{accepted-write, formed-write}
 use Rattle.fdp_core.specs.declared.extent.Extent.{Extent}
 use Rattle.fdp_core.specs.Extent.{extent}

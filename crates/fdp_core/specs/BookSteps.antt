@@ -7,15 +7,15 @@ use Rattle.fdp_base.specs.declared.entry.Reply.{Reply}
 use Rattle.fdp_base.specs.declared.entry.Spot.{Spot}
 use Rattle.fdp_base.specs.declared.status.Status.{Status}
 use Rattle.fdp_base.specs.declared.status.TheConstants.Status as statuses
-use Rattle.fdp_base.specs.Change.{one_more_placed, started}
+use Rattle.fdp_rules.specs.Change.{one_more_placed, started}
 use Rattle.fdp_base.specs.CommandKinds.{IsWellFormed, is_read, is_write, write_of}
-use Rattle.fdp_base.specs.PlainState.{Going}
-use Rattle.fdp_base.specs.Refusal.{refusal_of}
-use Rattle.fdp_base.specs.Room.{roomiest}
-use Rattle.fdp_base.specs.Sites.{is_there}
-use Rattle.fdp_base.specs.Step.{Follows, IsQueue, MaySucceed, exceeds_budget, goes_to}
-use Rattle.fdp_base.specs.Target.{Target}
-use Rattle.fdp_base.specs.Totals.{blocks_written}
+use Rattle.fdp_rules.specs.PlainState.{Going}
+use Rattle.fdp_rules.specs.Refusal.{refusal_of}
+use Rattle.fdp_rules.specs.Room.{roomiest}
+use Rattle.fdp_rules.specs.Sites.{is_there}
+use Rattle.fdp_rules.specs.Step.{Follows, IsQueue, MaySucceed, exceeds_budget, goes_to}
+use Rattle.fdp_rules.specs.Target.{Target}
+use Rattle.fdp_rules.specs.Totals.{blocks_written}
 use Rattle.fdp_core.specs.declared.ticket.Done.{Done}
 use Rattle.fdp_core.specs.declared.ticket.Ticket.{Ticket}
 use Rattle.fdp_core.specs.Book.{BookSeen, IsLonger, point_in, state_in}

@@ -4,8 +4,8 @@ use Rattle.std.specs.List.{enumerate_from}
 use Rattle.std.specs.Option.{ForSome, option_map_or}
 use Rattle.fdp_base.specs.declared.config.DriveConfig.{DriveConfig}
 use Rattle.fdp_base.specs.declared.config.NamespaceConfig.{NamespaceConfig}
-use Rattle.fdp_base.specs.History.{made_namespace, namespace_in}
-use Rattle.fdp_base.specs.PlainState.{Namespace}
+use Rattle.fdp_rules.specs.History.{made_namespace, namespace_in}
+use Rattle.fdp_rules.specs.PlainState.{Namespace}
 use Rattle.fdp_map.specs.MapTable.{MapTable, mapped_at, size_in}
 use Rattle.fdp_spaces.specs.SpaceTable.{SpaceTable, namespace_at}
 

@@ -1,5 +1,5 @@
 -- A destination as a target.
-use Rattle.fdp_base.specs.Target.{Target}
+use Rattle.fdp_rules.specs.Target.{Target}
 use Rattle.fdp_core.specs.declared.destination.Destination.{Destination}
 
 abbrev pub target_at : Destination → Target

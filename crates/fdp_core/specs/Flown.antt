@@ -1,14 +1,14 @@
 -- What is known of the flight of a ticket, and of the next page of its handle.
 use Rattle.std.specs.Prelude.{◌≡◌, ℕ, ◌+◌, ◌-◌, ◌<◌, ◌≤◌, ◌&&◌, ◌==◌, IsTrue, IsFalse, List, [], ◌∷◌, ◌++◌, Option, Some, None, IfSome, length, slice_get, slice_index, slice_set, option_map, if◌then◌else◌}
 use Rattle.fdp_base.specs.declared.entry.Spot.{Spot}
-use Rattle.fdp_base.specs.Change.{one_more_placed}
+use Rattle.fdp_rules.specs.Change.{one_more_placed}
 use Rattle.fdp_base.specs.CommandKinds.{Write, is_write, write_of}
 use Rattle.fdp_base.specs.Config.{IsValidConfig}
 use Rattle.fdp_base.specs.Numbers.{is_among}
 use Rattle.fdp_base.specs.Placement.{geometry_of}
-use Rattle.fdp_base.specs.Sites.{group_of, is_there}
-use Rattle.fdp_base.specs.Step.{IsNextPage, IsPage}
-use Rattle.fdp_base.specs.Totals.{blocks_written}
+use Rattle.fdp_rules.specs.Sites.{group_of, is_there}
+use Rattle.fdp_rules.specs.Step.{IsNextPage, IsPage}
+use Rattle.fdp_rules.specs.Totals.{blocks_written}
 use Rattle.fdp_flash.specs.Cells.{IsBlankFrom}
 use Rattle.fdp_history.specs.OrderlyState.{IsOrderlyGoing}
 use Rattle.fdp_map.specs.declared.mapped.Mapped.{Mapped}

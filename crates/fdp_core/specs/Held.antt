@@ -9,16 +9,16 @@ use Rattle.fdp_base.specs.declared.spare.DataSpare.{DataSpare}
 use Rattle.fdp_base.specs.CommandKinds.{Write, is_write, write_of}
 use Rattle.fdp_base.specs.Config.{IsValidConfig}
 use Rattle.fdp_base.specs.Geometry.{all_pages}
-use Rattle.fdp_base.specs.History.{fresh, point_of}
+use Rattle.fdp_rules.specs.History.{fresh, point_of}
 use Rattle.fdp_base.specs.Pattern.{payload_block}
-use Rattle.fdp_base.specs.Placement.{geometry_of}
-use Rattle.fdp_base.specs.PlainState.{Block, Going, PageName.written, PlainState}
-use Rattle.fdp_base.specs.Point.{Point}
-use Rattle.fdp_base.specs.Room.{size_of}
-use Rattle.fdp_base.specs.Sites.{is_there}
+use Rattle.fdp_base.specs.Placement.{classes_of, geometry_of}
+use Rattle.fdp_rules.specs.PlainState.{Block, Going, PageName.written, PlainState}
+use Rattle.fdp_rules.specs.Point.{Point}
+use Rattle.fdp_rules.specs.Room.{size_of}
+use Rattle.fdp_rules.specs.Sites.{is_there}
 use Rattle.fdp_base.specs.Spare.{data_spare}
-use Rattle.fdp_base.specs.Step.{IsOnTarget, IsPage, IsUnreferenced}
-use Rattle.fdp_base.specs.Totals.{erases, host_blocks, media_blocks}
+use Rattle.fdp_rules.specs.Step.{IsOnTarget, IsPage, IsUnreferenced}
+use Rattle.fdp_rules.specs.Totals.{erases, host_blocks, media_blocks}
 use Rattle.fdp_flash.specs.declared.cell.Cell.{Cell}
 use Rattle.fdp_flash.specs.declared.cell.Cell.TheVariants.{Whole}
 use Rattle.fdp_flash.specs.Cells.{IsBlankFrom, IsBlankUnit}
@@ -59,10 +59,11 @@ pub record AreSpacesOf (c : DriveConfig) (s : PlainState) (x : SpaceTable) : Typ
   pub groups : c.groups ≡ x.groups
   pub namespaces : (nsid : ℕ) → s.namespaces nsid ≡ namespace_at x nsid
 
--- what the handles reference
+-- what the handles reference, and the classes that are in force
 pub record AreHandlesOf (c : DriveConfig) (s : PlainState) (x : HandleTable) : Type 0 where
   pub unit_pages : c.unit_pages ≡ x.unit_pages
   pub groups : c.groups ≡ x.groups
+  pub classes : classes_of c s.enabled s.index ≡ x.classes
   pub references : (rg ruh : ℕ) → s.references rg ruh ≡ reference_at x rg ruh
 
 -- the spare bytes of the page of a block

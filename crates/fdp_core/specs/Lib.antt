@@ -12,9 +12,12 @@ pub mod Configured
 pub mod Held
 pub mod Flown
 pub mod Seen
+pub mod Calls
+pub mod Fetches
 pub mod Media
 pub mod ReadSteps
 pub mod Steps
+pub mod Silence
 pub mod Stages
 pub mod Answers
 pub mod Sound

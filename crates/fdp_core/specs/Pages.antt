@@ -6,13 +6,13 @@ use Rattle.fdp_base.specs.declared.entry.Entry.{Entry}
 use Rattle.fdp_base.specs.declared.entry.Entry.TheVariants as entries
 use Rattle.fdp_base.specs.declared.entry.Spot.{Spot}
 use Rattle.fdp_base.specs.declared.spare.DataSpare.{DataSpare}
-use Rattle.fdp_base.specs.Change.{after, going_with}
+use Rattle.fdp_rules.specs.Change.{after, going_with}
 use Rattle.fdp_base.specs.CommandKinds.{Write, write_of}
 use Rattle.fdp_base.specs.Geometry.{all_pages}
-use Rattle.fdp_base.specs.History.{first_state, fresh}
+use Rattle.fdp_rules.specs.History.{first_state, fresh}
 use Rattle.fdp_base.specs.Pattern.{payload_block}
 use Rattle.fdp_base.specs.Placement.{geometry_of}
-use Rattle.fdp_base.specs.PlainState.{Going, PlainState}
+use Rattle.fdp_rules.specs.PlainState.{Going, PlainState}
 use Rattle.fdp_base.specs.Spare.{data_spare}
 use Rattle.fdp_flash.specs.declared.cell.Cell.{Cell}
 use Rattle.fdp_flash.specs.declared.cell.Cell.TheVariants.{Blank, Whole}

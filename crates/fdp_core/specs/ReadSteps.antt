@@ -1,9 +1,9 @@
 -- What a read of blocks leaves of its buffers and of the flash.
 use Rattle.std.specs.Prelude.{◌≡◌, ℕ, ◌*◌, Bool, false, IsTrue, List, MatchBool, flat_map, length}
 use Rattle.fdp_base.specs.declared.status.TheConstants.Status as statuses
-use Rattle.fdp_base.specs.Answer.{bare, read_block}
+use Rattle.fdp_rules.specs.Answer.{bare, read_block}
 use Rattle.fdp_base.specs.Numbers.{numbers_from}
-use Rattle.fdp_flash.specs.FlashState.{Faulted, FlashState}
+use Rattle.fdp_flash.specs.FlashState.{FlashState}
 use Rattle.fdp_core.specs.declared.extent.Extent.{Extent}
 use Rattle.fdp_core.specs.declared.room.Replies.{Replies}
 use Rattle.fdp_core.specs.Book.{BookSeen, state_in}
@@ -14,18 +14,12 @@ abbrev pub blocks_from : BookSeen → ℕ → ℕ → ℕ → List ℕ
 blocks_from b nsid slba count = flat_map (read_block b.config (state_in b) nsid) (numbers_from slba count)
 
 -- both replies have the blocks that a read asks for, as far as the cells are told
-pub record HasBlocks (old new : FlashState) (b : BookSeen) (x : Extent) (replies : Replies) : Type 0 where
+pub record HasBlocks (old : FlashState) (b : BookSeen) (x : Extent) (replies : Replies) : Type 0 where
   pub bytes : List ℕ
   pub size : length bytes ≡ x.count * b.config.block
   pub blocks : IsTrue old.told → bytes ≡ blocks_from b x.nsid x.slba x.count
   pub twice : IsTwice (read_reply bytes) replies
-  pub no_fault : new.faults ≡ old.faults
 
--- both replies tell of a failed fetch
-pub record HasFault (old new : FlashState) (replies : Replies) : Type 0 where
-  pub twice : IsTwice (bare statuses.UNRECOVERED_READ_ERROR false) replies
-  pub fault : Faulted old new
-
--- the replies to a read
-abbrev pub Reads : FlashState → FlashState → BookSeen → Extent → Replies → Bool → Type 0
-Reads old new b x replies failed = MatchBool failed (HasFault old new replies) (HasBlocks old new b x replies)
+-- the replies to a read: its blocks, or that a fetch failed
+abbrev pub Reads : FlashState → BookSeen → Extent → Replies → Bool → Type 0
+Reads old b x replies failed = MatchBool failed (IsTwice (bare statuses.UNRECOVERED_READ_ERROR false) replies) (HasBlocks old b x replies)

@@ -1,13 +1,14 @@
 -- A group as contracts see it, and its flash beside its history.
-use Rattle.std.specs.Prelude.{◌≡◌, ℕ, zero, suc, ◌≤◌, Bool, true, false, IsTrue, List}
+use Rattle.std.specs.Prelude.{◌≡◌, ℕ, zero, suc, ◌≤◌, Bool, true, false, IsTrue, List, count_by}
 use Rattle.std.specs.List.{list_any}
 use Rattle.fdp_base.specs.declared.config.DriveConfig.{DriveConfig}
 use Rattle.fdp_base.specs.declared.entry.Entry.{Entry}
 use Rattle.fdp_base.specs.declared.entry.Entry.TheVariants as entries
-use Rattle.fdp_base.specs.Change.{is_media_error}
+use Rattle.fdp_rules.specs.Change.{is_media_error}
 use Rattle.fdp_base.specs.Counts.{counted}
-use Rattle.fdp_base.specs.Totals.{media_blocks}
+use Rattle.fdp_rules.specs.Totals.{media_blocks}
 use Rattle.fdp_flash.specs.FlashState.{FlashState, Faulted}
+use Rattle.fdp_core.specs.declared.counts.Counts.{Counts}
 use Rattle.fdp_core.specs.Book.{BookSeen, first_book}
 use Rattle.fdp_core.specs.Pages.{cells_of}
 
@@ -16,11 +17,45 @@ pub record Seen (F : Type 0) : Type 0 where
   pub book : BookSeen
   -- whether a flash call failed
   pub failed : Bool
+  -- what the flash had counted when it was handed in
+  pub handed : Counts
   pub flash : F
 
+-- what a flash has counted
+abbrev pub counts_of : FlashState → Counts
+counts_of flash = record { moment = flash.moment; faults = flash.faults; programs = flash.programs }
+
 -- a group before its first command
-abbrev pub new_over : {F : Type 0} → DriveConfig → F → Seen F
-new_over c flash = record { book = first_book c; failed = false; flash = flash }
+abbrev pub new_over : {F : Type 0} → (F → FlashState) → DriveConfig → F → Seen F
+new_over state c flash = record { book = first_book c; failed = false; handed = counts_of (state flash); flash = flash }
+
+-- whether an entry tells of a media error
+abbrev pub is_media_reply : Entry → Bool
+is_media_reply (entries.Host queue number command reply moment) = is_media_error reply.status
+is_media_reply (entries.Started queue number command rg ruh pid_valid) = false
+is_media_reply (entries.Placed ticket index unit page) = false
+is_media_reply (entries.Copied old new) = false
+is_media_reply (entries.Moved rg blocks) = false
+is_media_reply (entries.Erased unit) = false
+is_media_reply (entries.Retired unit) = false
+is_media_reply (entries.Aside unit) = false
+is_media_reply (entries.Shut rg ruh) = false
+is_media_reply (entries.Worn rg) = false
+is_media_reply entries.Reopened = false
+
+-- whether an entry tells of a handle that was shut
+abbrev pub is_shut : Entry → Bool
+is_shut (entries.Host queue number command reply moment) = false
+is_shut (entries.Started queue number command rg ruh pid_valid) = false
+is_shut (entries.Placed ticket index unit page) = false
+is_shut (entries.Copied old new) = false
+is_shut (entries.Moved rg blocks) = false
+is_shut (entries.Erased unit) = false
+is_shut (entries.Retired unit) = false
+is_shut (entries.Aside unit) = false
+is_shut (entries.Shut rg ruh) = true
+is_shut (entries.Worn rg) = false
+is_shut entries.Reopened = false
 
 -- whether an entry tells of a failed call of the flash: a media error, or a handle that was shut
 abbrev pub tells_failure : Entry → Bool
@@ -61,3 +96,13 @@ pub record Matches (old new : FlashState) (es : List Entry) (failed : Bool) : Ty
 -- where no call failed and the cells are told, they are what the history placed
 abbrev pub HoldsHistory : DriveConfig → FlashState → List Entry → Bool → Type 0
 HoldsHistory c flash es failed = failed ≡ false → IsTrue flash.told → flash.cells ≡ cells_of c es
+
+-- What a flash counted since it was handed in: as many programs as pages were placed or copied; at least as many faults as
+-- replies tell of a media error, and as handles were shut; no fault while no call failed, and exactly then no entry tells of one.
+pub record CountedSince (handed : Counts) (now : FlashState) (es : List Entry) (failed : Bool) : Type 0 where
+  pub moment : handed.moment ≤ now.moment
+  pub programs : now.programs ≡ counted_more handed.programs (media_blocks es)
+  pub media_replies : counted_more handed.faults (count_by is_media_reply es) ≤ now.faults
+  pub shut : counted_more handed.faults (count_by is_shut es) ≤ now.faults
+  pub no_fault : failed ≡ false → now.faults ≡ handed.faults
+  pub told_by : list_any tells_failure es ≡ failed

@@ -1,7 +1,7 @@
 -- How far a write has come, and which numbers are free.
 use Rattle.std.specs.Prelude.{◌≡◌, ◌<◌, ◌≤◌, length}
-use Rattle.fdp_base.specs.PlainState.{Going}
-use Rattle.fdp_base.specs.Totals.{blocks_written}
+use Rattle.fdp_rules.specs.PlainState.{Going}
+use Rattle.fdp_rules.specs.Totals.{blocks_written}
 use Rattle.fdp_core.specs.declared.flight.Flight.{Flight}
 use Rattle.fdp_core.specs.declared.stage.Stage.{Stage}
 use Rattle.fdp_core.specs.declared.stage.Stage.TheVariants as stages

@@ -1,18 +1,20 @@
 -- What a step of a group adds to its history.
-use Rattle.std.specs.Prelude.{◌≡◌, ℕ, List, [], ◌∷◌, ◌++◌, length, Some}
+use Rattle.std.specs.Prelude.{◌≡◌, ℕ, ◌+◌, IsTrue, List, [], ◌∷◌, ◌++◌, length, Some}
 use Rattle.fdp_base.specs.declared.command.Command.{Command}
+use Rattle.fdp_base.specs.declared.config.DriveConfig.{DriveConfig}
 use Rattle.fdp_base.specs.declared.entry.Entry.{Entry}
 use Rattle.fdp_base.specs.declared.entry.Entry.TheVariants as entries
-use Rattle.fdp_base.specs.Change.{is_media_error}
+use Rattle.fdp_rules.specs.Change.{is_media_error}
 use Rattle.fdp_base.specs.CommandKinds.{IsWellFormed}
-use Rattle.fdp_base.specs.PlainState.{Going, PlainState}
-use Rattle.fdp_base.specs.Step.{IsQueue}
-use Rattle.fdp_flash.specs.FlashState.{FlashState}
+use Rattle.fdp_rules.specs.PlainState.{Going, PlainState}
+use Rattle.fdp_rules.specs.Step.{IsQueue}
+use Rattle.fdp_flash.specs.FlashState.{Call, FlashState}
 use Rattle.fdp_core.specs.declared.ticket.Done.{Done}
 use Rattle.fdp_core.specs.Book.{IsLonger, state_in}
 use Rattle.fdp_core.specs.Room.{RoomSeen, room_for}
 use Rattle.fdp_core.specs.BookSteps.{IsServed}
 use Rattle.fdp_core.specs.UsedOnce.{IsLegalOnce}
+use Rattle.fdp_core.specs.Calls.{FailedAt, MakesCalls}
 use Rattle.fdp_core.specs.Seen.{HoldsHistory, Matches, Seen}
 
 -- no write is going in a queue with this number
@@ -27,9 +29,16 @@ pub record MayBegin {F : Type 0} (group : Seen F) (queue number : ℕ) (command 
   pub free : IsFree (state_in group.book) queue number
   pub room_is : room ≡ room_for command group.book.config
 
--- a step adds these entries: the history stays legal, and the flash matches it
+-- the most steps of a command: the first, one for each of its blocks, and the last
+abbrev pub most_steps : DriveConfig → ℕ
+most_steps c = c.blocks_per_command + 2
+
+-- a step adds these entries: the history stays legal, and the flash matches it, which had these calls
 pub record Adds {F : Type 0} (state : F → FlashState) (old new : Seen F) (es : List Entry) : Type 0 where
   pub book : IsLonger old.book new.book es
+  pub handed_is : new.handed ≡ old.handed
+  pub calls : List Call
+  pub made : MakesCalls (state old.flash) (state new.flash) calls
   pub legal : IsLegalOnce (state new.flash).told new.book.config new.book.entries
   pub flash_is : Matches (state old.flash) (state new.flash) es new.failed
   pub cells : HoldsHistory new.book.config (state new.flash) new.book.entries new.failed
@@ -43,9 +52,10 @@ pub record Grows {F : Type 0} (state : F → FlashState) (old new : Seen F) (es 
   pub cells : HoldsHistory old.book.config (state old.flash) old.book.entries old.failed → HoldsHistory new.book.config (state new.flash) new.book.entries new.failed
 
 -- A step completes a command: it adds its Host entry, behind other entries, with the flash's moment. The group has failed
--- exactly where the reply tells of a media error.
+-- exactly where the reply tells of a media error, and then a call of this step failed, at that moment.
 pub record Completes {F : Type 0} (state : F → FlashState) (old new : Seen F) (before : List Entry) (queue number : ℕ) (command : Command) (done : Done) : Type 0 where
   pub step : Adds state old new (before ++ entries.Host queue number command done.reply done.moment ∷ [])
   pub position_is : done.position ≡ length new.book.entries
   pub moment_is : done.moment ≡ (state new.flash).moment
   pub failed_is : new.failed ≡ is_media_error done.reply.status
+  pub media : IsTrue (is_media_error done.reply.status) → FailedAt (state old.flash) (state new.flash) done.moment

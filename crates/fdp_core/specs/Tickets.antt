@@ -5,10 +5,10 @@ use Rattle.fdp_base.specs.declared.entry.Entry.TheVariants as entries
 use Rattle.fdp_base.specs.declared.entry.Spot.{Spot}
 use Rattle.fdp_base.specs.CommandKinds.{Write, write_of}
 use Rattle.fdp_base.specs.Placement.{geometry_of}
-use Rattle.fdp_base.specs.PlainState.{Going, PlainState}
-use Rattle.fdp_base.specs.Sites.{is_there}
+use Rattle.fdp_rules.specs.PlainState.{Going, PlainState}
+use Rattle.fdp_rules.specs.Sites.{is_there}
 use Rattle.fdp_base.specs.Spare.{data_spare}
-use Rattle.fdp_base.specs.Step.{Follows}
+use Rattle.fdp_rules.specs.Step.{Follows}
 use Rattle.fdp_flash.specs.Cells.{IsBlankFrom}
 use Rattle.fdp_core.specs.declared.ticket.Ticket.{Ticket}
 use Rattle.fdp_core.specs.declared.next_page.NextPage.{NextPage}

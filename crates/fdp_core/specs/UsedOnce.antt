@@ -7,12 +7,12 @@ use Rattle.fdp_base.specs.declared.entry.Entry.{Entry}
 use Rattle.fdp_base.specs.declared.entry.Entry.TheVariants as entries
 use Rattle.fdp_base.specs.declared.entry.Reply.{Reply}
 use Rattle.fdp_base.specs.declared.status.TheConstants.Status as statuses
-use Rattle.fdp_base.specs.Answer.{bare}
-use Rattle.fdp_base.specs.History.{fresh, state_of}
-use Rattle.fdp_base.specs.PlainState.{Going, PlainState}
-use Rattle.fdp_base.specs.Sites.{group_of, is_there}
-use Rattle.fdp_base.specs.Step.{IsDataUnit, IsGoing, IsStep}
-use Rattle.fdp_base.specs.Totals.{blocks_written}
+use Rattle.fdp_rules.specs.Answer.{bare}
+use Rattle.fdp_rules.specs.History.{fresh, state_of}
+use Rattle.fdp_rules.specs.PlainState.{Going, PlainState}
+use Rattle.fdp_rules.specs.Sites.{group_of, is_there}
+use Rattle.fdp_rules.specs.Step.{IsDataUnit, IsGoing, IsStep}
+use Rattle.fdp_rules.specs.Totals.{blocks_written}
 
 -- a Placed entry names a unit
 abbrev pub is_placed_in : ℕ → Entry → Bool

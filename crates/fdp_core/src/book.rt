@@ -1,6 +1,6 @@
 ghost use Rattle.std.specs.Prelude.{◌≡◌, ◌+◌, ◌*◌, ◌^◌, ◌≤◌, length, OnErr, OnOk};
 ghost use Rattle.fdp_base.specs.Config.{IsValidConfig};
-ghost use Rattle.fdp_base.specs.History.{fresh, totals_of};
+ghost use Rattle.fdp_rules.specs.History.{fresh, totals_of};
 
 use crate::flight::Flight;
 use crate::log::Log;

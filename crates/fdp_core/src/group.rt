@@ -1,16 +1,17 @@
 ghost use Rattle.std.specs.Prelude.{◌≡◌, ◌↔◌, ◌+◌, ◌*◌, ◌≤◌, ◌^◌, IsTrue, length, OnOk, OnErr, IfOk};
 ghost use Rattle.fdp_base.specs.Config.{IsValidConfig};
-ghost use Rattle.fdp_base.specs.History.{fresh, totals_of};
+ghost use Rattle.fdp_rules.specs.History.{fresh, totals_of};
 ghost use Rattle.fdp_base.specs.Placement.{geometry_of};
 ghost use Rattle.fdp_core.specs.Book.{state_in};
 ghost use Rattle.fdp_core.specs.Pages.{blank_cells};
 ghost use Rattle.fdp_core.specs.BookSteps.{IsFlying};
 ghost use Rattle.fdp_core.specs.UsedOnce.{IsLegalOnce};
-ghost use Rattle.fdp_core.specs.Seen.{HoldsHistory, new_over};
+ghost use Rattle.fdp_core.specs.Seen.{CountedSince, HoldsHistory, new_over};
 ghost use Rattle.fdp_core.specs.Stages.{IsStage};
-ghost use Rattle.fdp_core.specs.Steps.{IsFree};
+ghost use Rattle.fdp_core.specs.Steps.{IsFree, most_steps};
 
 use crate::book::Book;
+use crate::counts::{Counts, counts_of};
 use crate::stage::Stage;
 use crate::ticket::Ticket;
 use fdp_base::{DriveConfig, Entry, Totals};
@@ -30,6 +31,8 @@ pub struct Group<F: Flash> {
     book: Book,
     /// Whether a call of the flash failed.
     failed: bool,
+    /// What the flash had counted when it was handed in.
+    handed: Counts,
     /// A block on its way to the flash.
     block: Vec<u8>,
 }
@@ -39,11 +42,11 @@ impl<F: Flash> Model for Group<F> {
 
     ghost Value = { Seen F };
 
-    ghost use Rattle.fdp_core.specs.Sound.{IsSound};
+    ghost use Rattle.fdp_core.specs.Sound.{IsSoundGroup};
 
-    ghost view = { λ g. record { book = g.book; failed = g.failed; flash = g.flash } };
+    ghost view = { λ g. record { book = g.book; failed = g.failed; handed = g.handed; flash = g.flash } };
 
-    ghost invariant = { λ g. IsSound (F.state g.flash) g.book.config g.book.entries g.failed g.block.items };
+    ghost invariant = { λ g. IsSoundGroup g.handed (F.state g.flash) g.book.config g.book.entries g.failed g.block.items };
 }
 
 impl<F: Flash + Drop> Group<F> {
@@ -52,14 +55,16 @@ impl<F: Flash + Drop> Group<F> {
         requires config { IsValidConfig config.now }
         requires geometry { (F.state flash).geometry ≡ geometry_of config.now }
         requires blank { IsTrue (F.state flash).told → (F.state flash).cells ≡ blank_cells config.now }
-        ensures { IfOk result (λ group. group ≡ new_over config.now flash) }
+        ensures { IfOk result (λ group. group ≡ new_over F.state config.now flash) }
     {
         let block = vec![in alloc; 0; config.block as usize]?;
         let book = Book::fresh(alloc, config)?;
+        let handed = counts_of(&flash);
         Ok(Group {
             flash,
             book,
             failed: false,
+            handed,
             block,
         })
     }
@@ -99,18 +104,26 @@ impl<F: Flash> Group<F> {
         self.book.spent()
     }
 
+    /// The most steps of a command: the first, one for each of its blocks, and the last.
+    pub fn most_steps(&self) -> u32
+        ensures { result ≡ most_steps self.now.book.config }
+    {
+        u32::from(self.book.config().blocks_per_command) + 2
+    }
+
     /// The history, oldest entry first.
     pub fn entries(&self) -> &[Entry]
         ensures entries { result.now ≡ self.now.book.entries }
         ensures few { length result.now ≤ 300 * self.now.book.spent + 1 }
         ensures legal { IsLegalOnce (F.state self.now.flash).told self.now.book.config self.now.book.entries }
         ensures cells { HoldsHistory self.now.book.config (F.state self.now.flash) self.now.book.entries self.now.failed }
+        ensures counted { CountedSince self.now.handed (F.state self.now.flash) self.now.book.entries self.now.failed }
     {
         self.book.entries()
     }
 
     /// The position of the first entry of this run.
-    #[tactic(auto, unfolding(fdp_base::specs::History::fresh))]
+    #[tactic(auto, unfolding(fdp_rules::specs::History::fresh))]
     pub fn first(&self) -> u64
         ensures { result ≡ (fresh self.now.book.config).totals.position + 1 }
     {
@@ -165,11 +178,13 @@ impl<F: Flash> Group<F> {
         ensures entries { result.1.items ≡ self.book.entries }
         ensures legal { IsLegalOnce (F.state self.flash).told self.book.config self.book.entries }
         ensures cells { HoldsHistory self.book.config (F.state self.flash) self.book.entries self.failed }
+        ensures counted { CountedSince self.handed (F.state self.flash) self.book.entries self.failed }
     {
         let Group {
             flash,
             book,
             failed: _,
+            handed: _,
             block: _,
         } = self;
         (flash, book.into_entries())

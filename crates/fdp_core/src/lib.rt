@@ -3,6 +3,7 @@
 
 mod answer;
 mod book;
+mod counts;
 mod destination;
 mod extent;
 mod flight;
@@ -15,6 +16,7 @@ mod stage;
 mod ticket;
 
 pub use answer::{Begun, Placed};
+pub use counts::Counts;
 pub use group::Group;
 pub use room::Room;
 pub use stage::Stage;

@@ -1,10 +1,10 @@
-ghost use Rattle.std.specs.Prelude.{◌≡◌, ◌<◌, IsTrue, OnOk, OnErr, length, slice_get, Some};
+ghost use Rattle.std.specs.Prelude.{◌≡◌, ◌<◌, IsTrue, OnOk, OnErr, length, slice_get, Some, [], ◌∷◌, false, true};
 ghost use Rattle.fdp_base.specs.Geometry.{data_units};
 ghost use Rattle.fdp_base.specs.Pattern.{HasBlock, payload_block};
 ghost use Rattle.fdp_flash.specs.declared.cell.Cell.TheVariants.{Whole};
 ghost use Rattle.fdp_flash.specs.Cells.{IsBlankFrom};
-ghost use Rattle.fdp_flash.specs.FlashState.{Faulted};
 ghost use Rattle.fdp_flash.specs.Layout.{IsIn, page_number};
+ghost use Rattle.fdp_core.specs.Calls.{MakesCalls, fetch_at, program_at};
 ghost use Rattle.fdp_core.specs.Media.{IsProgrammedTo, IsReadFrom, IsWholeAt};
 ghost use Rattle.fdp_core.specs.Seen.{IsKept};
 
@@ -28,12 +28,13 @@ pub fn fetch<F: Flash>(
     ensures read { IsReadFrom (F.state flash.old) (F.state flash.new) }
     ensures size { length block.new ≡ length block.old }
     ensures block { OnOk result (IsTrue (F.state flash.old).told → slice_get (F.state flash.old).cells (page_number (F.state flash.old).geometry at) ≡ Some (Whole spare.now block.new)) }
-    ensures ok { OnOk result ((F.state flash.new).faults ≡ (F.state flash.old).faults) }
-    ensures failed { OnErr result (Faulted (F.state flash.old) (F.state flash.new)) }
+    ensures called { OnOk result (MakesCalls (F.state flash.old) (F.state flash.new) (fetch_at at false ∷ [])) }
+    ensures failed { OnErr result (MakesCalls (F.state flash.old) (F.state flash.new) (fetch_at at true ∷ [])) }
 {
     match flash.fetch(at, spare, block) {
         Fetched::Whole => Ok(()),
-        Fetched::Other | Fetched::Failed => Err(MediaError),
+        Fetched::Other => Err(MediaError),
+        Fetched::Failed => Err(MediaError),
     }
 }
 
@@ -54,7 +55,8 @@ pub fn program<F: Flash>(
     ensures kept { IsKept (F.state flash.old) (F.state flash.new) }
     ensures done { OnOk result (IsProgrammedTo (F.state flash.old) (F.state flash.new) (page_number (F.state flash.old).geometry at) (Whole spare.now (payload_block (length block.old) payload.now index))) }
     ensures size { length block.new ≡ length block.old }
-    ensures failed { OnErr result (Faulted (F.state flash.old) (F.state flash.new)) }
+    ensures called { OnOk result (MakesCalls (F.state flash.old) (F.state flash.new) (program_at at false ∷ [])) }
+    ensures failed { OnErr result (MakesCalls (F.state flash.old) (F.state flash.new) (program_at at true ∷ [])) }
     ensures not_done { OnErr result ((F.state flash.new).programs ≡ (F.state flash.old).programs) }
 {
     payload.fill(index, block);

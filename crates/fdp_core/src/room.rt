@@ -1,5 +1,5 @@
 ghost use Rattle.std.specs.Prelude.{◌≡◌, ◌*◌, [], length, replicate, IfOk, IsTrue};
-ghost use Rattle.fdp_base.specs.Answer.{bare};
+ghost use Rattle.fdp_rules.specs.Answer.{bare};
 ghost use Rattle.fdp_core.specs.Room.{IsTwice, bytes_read, read_reply, room_for};
 
 use fdp_base::{Bytes, Command, DriveConfig, Reply, Status};

@@ -4,10 +4,10 @@ use Rattle.std.proofs.lemmas.List.{take_more}
 use Rattle.std.proofs.lemmas.Option.{get_or_from_slice_get, slice_get_past}
 use Rattle.fdp_base.specs.declared.config.DriveConfig.{DriveConfig}
 use Rattle.fdp_base.specs.declared.entry.Entry.{Entry}
-use Rattle.fdp_base.specs.History.{fresh}
-use Rattle.fdp_base.specs.Legal.{IsLegal, IsLegalAfter}
-use Rattle.fdp_base.specs.Step.{IsStep}
-use Rattle.fdp_base.proofs.Pushes.{legal-push}
+use Rattle.fdp_rules.specs.History.{fresh}
+use Rattle.fdp_rules.specs.Legal.{IsLegal, IsLegalAfter}
+use Rattle.fdp_rules.specs.Step.{IsStep}
+use Rattle.fdp_rules.proofs.Pushes.{legal-push}
 use Rattle.fdp_plain.specs.Refusing.{IsNoStep}
 use Rattle.fdp_plain.specs.Run.{Run}
 use Rattle.fdp_core_tests.specs.Replayed.{IsTaken}

@@ -2,7 +2,7 @@
 ghost use Rattle.std.specs.Prelude.{◌<◌, ◌↔◌, IsTrue};
 ghost use Rattle.fdp_base.specs.CommandKinds.{IsPayloadOf};
 ghost use Rattle.fdp_base.specs.Geometry.{IsWithin};
-ghost use Rattle.fdp_base.specs.Step.{IsQueue};
+ghost use Rattle.fdp_rules.specs.Step.{IsQueue};
 ghost use Rattle.fdp_core_tests.specs.Played.{IsPlayable, MayMakeSteps, MayPlay};
 
 use fdp_base::{Command, DriveConfig, Payload};

@@ -1,5 +1,5 @@
 ghost use Rattle.std.specs.Prelude.{◌≡◌, ◌<◌, false, None, IfOk, Ok, OnErr};
-ghost use Rattle.fdp_base.specs.PlainState.{Going};
+ghost use Rattle.fdp_rules.specs.PlainState.{Going};
 ghost use Rattle.fdp_core.specs.Book.{state_in};
 ghost use Rattle.fdp_core.specs.Steps.{MayBegin};
 ghost use Rattle.fdp_core.specs.Tickets.{IsTicketOf};
@@ -14,9 +14,6 @@ use fdp_core::{Begun, Done, Group, Placed, Room, Stage, Ticket};
 use fdp_flash::Flash;
 use std::alloc::{AllocError, Global};
 use std::marker::Model;
-
-/// The most steps that all queues together may still have to make: each to begin a command, to place 64 pages and to commit.
-const STEPS: u32 = 16 * 66;
 
 /// The rows of a player: one for each queue that a drive may have, and row 0, which stays empty.
 const ROWS: usize = 17;
@@ -58,7 +55,7 @@ impl<F: Flash + Drop> Player<F> {
 
 impl<F: Flash> Player<F> {
     /// The first step of a command of a queue, under the next number: what it came to if it is completed. A write that the queue
-    /// had before is forgotten. It does nothing where the drive has failed, the queue is none of it, or the command is not served.
+    /// had before is forgotten. It makes room for the steps that all queues together may still have to make. It does nothing where the drive has failed, the queue is none of it, or the command is not served.
     pub fn start(
         &mut self,
         alloc: Global,
@@ -72,7 +69,8 @@ impl<F: Flash> Player<F> {
         if !may_play(&self.group, queue, self.next, &command) {
             return Ok(None);
         }
-        self.group.reserve(STEPS)?;
+        let steps = u32::from(self.group.config().queues) * self.group.most_steps();
+        self.group.reserve(steps)?;
         let room = Room::new(alloc, &command, self.group.config())?;
         Ok(self.begin(queue, command, room))
     }

@@ -1,6 +1,7 @@
-//! Tables of moves, and what each comes to: the replies, where the writes went, how many pages were programmed, and how many
-//! entries of the history a plain drive takes. The expected texts come from the rules of the drive.
+//! Tables of moves, and what each comes to: the replies, where the writes went, how many pages were programmed and how many faults
+//! counted, and how many entries of the history a plain drive takes. The expected texts come from the rules of the drive.
 mod drives;
+mod failing;
 mod full;
 mod interleaved;
 mod moves;
@@ -8,8 +9,3 @@ mod places;
 mod play;
 mod refusals;
 mod texts;
-
-use drives::Drive;
-use moves::{Move, directed, read, whole, write};
-use play::told;
-use std::test::Fail;

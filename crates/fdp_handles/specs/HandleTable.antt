@@ -3,7 +3,7 @@ use Rattle.std.specs.Prelude.{◌≡◌, ◌≢◌, ℕ, ◌+◌, ◌*◌, ◌-�
 use Rattle.std.specs.Option.{ForSome, option_map_or}
 use Rattle.fdp_base.specs.declared.config.Class.{Class}
 use Rattle.fdp_base.specs.declared.entry.Spot.{Spot}
-use Rattle.fdp_base.specs.PlainState.{Reference}
+use Rattle.fdp_rules.specs.PlainState.{Reference}
 use Rattle.fdp_handles.specs.declared.reference.HandleReference.{HandleReference}
 
 -- the pages of a unit, the groups, the class of each handle, and sixteen references for each group

@@ -1,7 +1,7 @@
 ghost use Rattle.std.specs.Prelude.{◌≡◌, ◌+◌, ◌*◌, ◌-◌, ◌<◌, ◌≤◌, ℕ, Some, None, IfOk, IfSome, length, replicate, slice_get};
 ghost use Rattle.fdp_base.specs.declared.config.DriveConfig.{DriveConfig};
-ghost use Rattle.fdp_base.specs.Change.{one_less};
-ghost use Rattle.fdp_base.specs.Effect.{no_reference, with_reference};
+ghost use Rattle.fdp_rules.specs.Change.{one_less};
+ghost use Rattle.fdp_rules.specs.Effect.{no_reference, with_reference};
 ghost use Rattle.fdp_handles.specs.HandleTable.{HasRightLeft, MayTake, blank, next_spot, reference_at, reference_of};
 
 use crate::reference::HandleReference;

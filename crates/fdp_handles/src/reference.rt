@@ -6,7 +6,7 @@
 //! | with a unit | some | 1 to `unit_pages - 1` | with this unit, `left` one less; without a unit after the last page | without a unit |
 ghost use Rattle.std.specs.Prelude.{◌≡◌, ◌-◌, ◌≤◌, ◌<◌, None, IfSome};
 ghost use Rattle.fdp_base.specs.declared.config.DriveConfig.{DriveConfig};
-ghost use Rattle.fdp_base.specs.Change.{one_less};
+ghost use Rattle.fdp_rules.specs.Change.{one_less};
 ghost use Rattle.fdp_handles.specs.HandleTable.{MayTake, HasRightLeft, next_spot, reference_of};
 
 use fdp_base::Spot;

@@ -3,8 +3,8 @@ use Rattle.std.proofs.Common.{◌≡◌, ◌≢◌, ℕ, ◌+◌, ◌*◌, ◌-�
 use Rattle.std.specs.Prelude.{◌==◌, if◌then◌else◌}
 use Rattle.std.proofs.lemmas.Bool.Decides.{nat_tests}
 use Rattle.fdp_base.specs.Numbers.{is_among, with_at}
-use Rattle.fdp_base.specs.PlainState.{PlainState}
-use Rattle.fdp_base.specs.Room.{lies_in, namespace_ids, size_of, stored, stored_where}
+use Rattle.fdp_rules.specs.PlainState.{PlainState}
+use Rattle.fdp_rules.specs.Room.{lies_in, namespace_ids, size_of, stored, stored_where}
 use Rattle.fdp_map.specs.Counting.{as_number}
 use Rattle.fdp_map.specs.declared.mapped.Mapped.{Mapped}
 use Rattle.fdp_map.specs.MapTable.{Agrees, MapTable, block_in, is_mapped_in, mapped_at, size_in, stored_from, stored_in, stored_in_row, with_mapped}

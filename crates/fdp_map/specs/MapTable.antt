@@ -2,8 +2,8 @@
 use Rattle.std.specs.Prelude.{◌≡◌, ℕ, ◌≤◌, ◌<◌, ◌==◌, Bool, false, List, [], Option, length, count_by, sum_by, slice_get, slice_index, slice_index_or, IfSome}
 use Rattle.std.specs.Option.{option_flatten, option_map_or}
 use Rattle.fdp_base.specs.Numbers.{count_below, numbers_from, with_at}
-use Rattle.fdp_base.specs.PlainState.{PlainState}
-use Rattle.fdp_base.specs.Room.{lies_in, namespace_ids, size_of}
+use Rattle.fdp_rules.specs.PlainState.{PlainState}
+use Rattle.fdp_rules.specs.Room.{lies_in, namespace_ids, size_of}
 use Rattle.fdp_map.specs.declared.mapped.Mapped.{Mapped}
 
 -- a place for each block, by identifier and address; no namespace has identifier 0

@@ -1,8 +1,8 @@
 ghost use Rattle.std.specs.Prelude.{◌≡◌, ℕ, ◌+◌, ◌^◌, ◌<◌, ◌≤◌, not, ◌&&◌, ◌==◌, Some, None, Option, [], length, replicate, IfOk, IfSome, OnOk, OnErr};
 ghost use Rattle.fdp_base.specs.Geometry.{IsWithin};
 ghost use Rattle.fdp_base.specs.Numbers.{is_among, with_at};
-ghost use Rattle.fdp_base.specs.PlainState.{PlainState};
-ghost use Rattle.fdp_base.specs.Room.{stored, stored_where};
+ghost use Rattle.fdp_rules.specs.PlainState.{PlainState};
+ghost use Rattle.fdp_rules.specs.Room.{stored, stored_where};
 ghost use Rattle.fdp_map.specs.declared.mapped.Mapped.{Mapped as Place};
 ghost use Rattle.fdp_map.specs.MapTable.{Agrees, mapped_at, size_in, stored_from, stored_in, with_mapped};
 

@@ -9,7 +9,7 @@ use Rattle.std.proofs.lemmas.Grind.{common_steps}
 use Rattle.std.proofs.lemmas.Option.{gets, slice_get_past}
 use Rattle.fdp_base.specs.Geometry.{IsWithin}
 use Rattle.fdp_base.specs.Numbers.{with_at}
-use Rattle.fdp_base.specs.PlainState.{Namespace}
+use Rattle.fdp_rules.specs.PlainState.{Namespace}
 use Rattle.fdp_spaces.specs.SpaceTable.{AreRows, IsProper, SpaceTable, namespace_at, row}
 
 -- a word of what a table has at a place

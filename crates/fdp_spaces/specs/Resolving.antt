@@ -1,8 +1,8 @@
 -- Where a write goes, in the words of the drive.
 use Rattle.std.specs.Prelude.{◌≡◌, ℕ, ◌<◌, Bool, true, false, Option, Some, None, Contains, IfSome, option_map}
 use Rattle.fdp_base.specs.declared.config.DriveConfig.{DriveConfig}
-use Rattle.fdp_base.specs.PlainState.{PlainState}
-use Rattle.fdp_base.specs.Target.{Target, named_by}
+use Rattle.fdp_rules.specs.PlainState.{PlainState}
+use Rattle.fdp_rules.specs.Target.{Target, named_by}
 use Rattle.fdp_spaces.specs.declared.resolved.Resolved.{Resolved}
 use Rattle.fdp_spaces.specs.declared.resolved.Resolved.TheVariants.{Given, Default, Invalid}
 use Rattle.fdp_spaces.specs.SpaceTable.{SpaceTable, handles_at, namespace_at}

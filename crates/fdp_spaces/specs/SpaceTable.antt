@@ -2,7 +2,7 @@
 use Rattle.std.specs.Prelude.{ℕ, ◌-◌, ◌≡◌, List, [], Option, Some, None, length, nat_lt, if◌then◌else◌, slice_get}
 use Rattle.std.specs.Option.{option_flatten, option_map_or}
 use Rattle.fdp_base.specs.Geometry.{IsWithin}
-use Rattle.fdp_base.specs.PlainState.{Namespace}
+use Rattle.fdp_rules.specs.PlainState.{Namespace}
 use Rattle.fdp_spaces.specs.declared.space.Space.{Space}
 
 -- how many reclaim groups there are, and the namespaces by identifier, from 1 on

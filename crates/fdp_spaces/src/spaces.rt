@@ -4,8 +4,8 @@ ghost use Rattle.fdp_base.specs.declared.config.DriveConfig.{DriveConfig};
 ghost use Rattle.fdp_base.specs.Geometry.{IsWithin};
 ghost use Rattle.fdp_base.specs.Numbers.{with_at};
 ghost use Rattle.fdp_base.specs.Placement.{group_bits};
-ghost use Rattle.fdp_base.specs.PlainState.{PlainState};
-ghost use Rattle.fdp_base.specs.Target.{named_by, target_of};
+ghost use Rattle.fdp_rules.specs.PlainState.{PlainState};
+ghost use Rattle.fdp_rules.specs.Target.{named_by, target_of};
 ghost use Rattle.fdp_spaces.specs.Resolving.{Agrees, IsNamed, LeadsWithin, is_default, named_in, target_by};
 ghost use Rattle.fdp_spaces.specs.SpaceTable.{IsProper, handles_at, namespace_at, namespace_of};
 

@@ -1,5 +1,5 @@
 ghost use Rattle.std.specs.Prelude.{◌≡◌, ◌+◌, ◌<◌, ◌≤◌, ◌^◌};
-ghost use Rattle.fdp_base.specs.Room.{budget, handles_in_force, has_more_room, is_over_budget, roomiest, size_of};
+ghost use Rattle.fdp_rules.specs.Room.{budget, handles_in_force, has_more_room, is_over_budget, roomiest, size_of};
 ghost use Rattle.fdp_core.specs.Book.{state_in};
 
 use super::Book;

@@ -1,8 +1,8 @@
 ghost use Rattle.std.specs.Prelude.{◌≡◌, ◌+◌, ◌<◌, ◌≤◌, [], length, true};
 ghost use Rattle.fdp_base.specs.declared.status.TheConstants.Status as statuses;
-ghost use Rattle.fdp_base.specs.Answer.{bare};
-ghost use Rattle.fdp_base.specs.PlainState.{Going};
-ghost use Rattle.fdp_base.specs.Step.{MaySucceed};
+ghost use Rattle.fdp_rules.specs.Answer.{bare};
+ghost use Rattle.fdp_rules.specs.PlainState.{Going};
+ghost use Rattle.fdp_rules.specs.Step.{MaySucceed};
 ghost use Rattle.fdp_core.specs.Book.{point_in, state_in};
 ghost use Rattle.fdp_core.specs.BookSteps.{Completes, IsReady, IsVerdict};
 ghost use Rattle.fdp_core.specs.Flown.{with_pages};

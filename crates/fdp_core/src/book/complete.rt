@@ -1,5 +1,5 @@
 ghost use Rattle.std.specs.Prelude.{◌≡◌, ◌<◌, false, [], length};
-ghost use Rattle.fdp_base.specs.Step.{IsQueue};
+ghost use Rattle.fdp_rules.specs.Step.{IsQueue};
 ghost use Rattle.fdp_core.specs.BookSteps.{Completes};
 ghost use Rattle.fdp_core.specs.Held.{flights_after};
 

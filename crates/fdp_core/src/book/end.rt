@@ -1,7 +1,7 @@
 ghost use Rattle.std.specs.Prelude.{◌≡◌, ◌<◌, [], ◌∷◌, ◌++◌, false, length, slice_set, IsSome, None, Some};
 ghost use Rattle.fdp_base.specs.declared.entry.Entry.TheVariants as entries;
-ghost use Rattle.fdp_base.specs.Answer.{bare};
-ghost use Rattle.fdp_base.specs.PlainState.{Going};
+ghost use Rattle.fdp_rules.specs.Answer.{bare};
+ghost use Rattle.fdp_rules.specs.PlainState.{Going};
 ghost use Rattle.fdp_core.specs.Book.{state_in};
 ghost use Rattle.fdp_core.specs.BookSteps.{Completes, IsFlying};
 ghost use Rattle.fdp_core.specs.Held.{flight_in};

@@ -1,7 +1,7 @@
 ghost use Rattle.std.specs.Prelude.{◌≡◌, ◌+◌, ◌<◌, ◌≤◌, All, None, [], ◌∷◌, length, nat_lt, replicate, unwrap_or, IfOk};
 ghost use Rattle.std.specs.Option.{ForSome};
 ghost use Rattle.fdp_base.specs.Config.{IsValidConfig};
-ghost use Rattle.fdp_base.specs.Effect.{chosen_handles};
+ghost use Rattle.fdp_rules.specs.Effect.{chosen_handles};
 ghost use Rattle.fdp_core.specs.Book.{first_book};
 ghost use Rattle.fdp_core.specs.Configured.{AreConfiguredSpaces, HasFewHandles, IsConfiguredMap, made_as};
 ghost use Rattle.fdp_spaces.specs.SpaceTable.{namespace_of};

@@ -1,8 +1,8 @@
 ghost use Rattle.std.specs.Prelude.{◌≡◌, ◌+◌, ◌<◌, ◌^◌, ◌==◌, ◌≤◌, ℕ, None, Some, length, slice_index};
 ghost use Rattle.fdp_base.specs.CommandKinds.{Write, write_of};
-ghost use Rattle.fdp_base.specs.PlainState.{Going};
-ghost use Rattle.fdp_base.specs.Sites.{is_there};
-ghost use Rattle.fdp_base.specs.Totals.{blocks_written};
+ghost use Rattle.fdp_rules.specs.PlainState.{Going};
+ghost use Rattle.fdp_rules.specs.Sites.{is_there};
+ghost use Rattle.fdp_rules.specs.Totals.{blocks_written};
 ghost use Rattle.fdp_core.specs.declared.flight.Flight.{Flight};
 ghost use Rattle.fdp_core.specs.Book.{state_in};
 ghost use Rattle.fdp_core.specs.BookSteps.{IsFlying, IsWaiting, Places};

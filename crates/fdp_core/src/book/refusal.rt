@@ -1,7 +1,7 @@
 ghost use Rattle.std.specs.Prelude.{◌≡◌, ℕ, ◌+◌, ◌<◌, ◌≤◌, ◌^◌, None, ◌||◌, ◌&&◌, ◌==◌, not, nat_lt, IsFalse, IsTrue};
 ghost use Rattle.fdp_base.specs.declared.payload.Payload.{Payload};
-ghost use Rattle.fdp_base.specs.Refusal.{has_no_room, is_past_end, is_present, refusal_of};
-ghost use Rattle.fdp_base.specs.Room.{size_of};
+ghost use Rattle.fdp_rules.specs.Refusal.{has_no_room, is_past_end, is_present, refusal_of};
+ghost use Rattle.fdp_rules.specs.Room.{size_of};
 ghost use Rattle.fdp_core.specs.Book.{point_in, state_in};
 ghost use Rattle.fdp_core.specs.BookSteps.{IsServed};
 
@@ -41,7 +41,7 @@ impl Book {
         }
     }
 
-    #[tactic(auto, unfolding(fdp_base::specs::Refusal::checks_of, fdp_base::specs::Refusal::refusal_of))]
+    #[tactic(auto, unfolding(fdp_rules::specs::Refusal::checks_of, fdp_rules::specs::Refusal::refusal_of))]
     fn refuse_read(&self, nsid: u32, slba: u64, count: u32) -> Option<Status>
         ensures refusal { result ≡ refusal_of self.now.config (point_in self.now) (Command.Read nsid slba count) }
         ensures range { result ≡ None → slba + count < 2 ^ 64 }
@@ -57,7 +57,7 @@ impl Book {
         }
     }
 
-    #[tactic(auto, unfolding(fdp_base::specs::Refusal::checks_of, fdp_base::specs::Refusal::refusal_of))]
+    #[tactic(auto, unfolding(fdp_rules::specs::Refusal::checks_of, fdp_rules::specs::Refusal::refusal_of))]
     fn refuse_write(
         &self,
         nsid: u32,

@@ -1,6 +1,6 @@
 ghost use Rattle.std.specs.Prelude.{◌≡◌, ◌<◌, IsTrue};
-ghost use Rattle.fdp_base.specs.Refusal.{is_present};
-ghost use Rattle.fdp_base.specs.Target.{target_of};
+ghost use Rattle.fdp_rules.specs.Refusal.{is_present};
+ghost use Rattle.fdp_rules.specs.Target.{target_of};
 ghost use Rattle.fdp_core.specs.Book.{state_in};
 ghost use Rattle.fdp_core.specs.Destinations.{target_at};
 

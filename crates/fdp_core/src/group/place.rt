@@ -1,5 +1,5 @@
 ghost use Rattle.std.specs.Prelude.{◌≡◌, ◌<◌, false};
-ghost use Rattle.fdp_base.specs.PlainState.{Going};
+ghost use Rattle.fdp_rules.specs.PlainState.{Going};
 ghost use Rattle.fdp_core.specs.Book.{state_in};
 ghost use Rattle.fdp_core.specs.BookSteps.{IsWaiting};
 ghost use Rattle.fdp_core.specs.Tickets.{ComesTo, IsTicketOf};

@@ -1,17 +1,18 @@
-ghost use Rattle.std.specs.Prelude.{◌≡◌, ◌+◌, ◌*◌, ◌^◌, ◌<◌, ◌≤◌, [], false, IsTrue, None, OnErr, OnOk, length, replicate};
+ghost use Rattle.std.specs.Prelude.{◌≡◌, ◌+◌, ◌*◌, ◌^◌, ◌<◌, ◌≤◌, false, true, IsTrue, None, OnErr, OnOk, length, replicate};
 ghost use Rattle.fdp_base.specs.declared.command.Command.TheVariants as commands;
-ghost use Rattle.fdp_base.specs.Answer.{read_block};
+ghost use Rattle.fdp_rules.specs.Answer.{read_block};
 ghost use Rattle.fdp_base.specs.CommandKinds.{IsWellFormed};
 ghost use Rattle.fdp_base.specs.Placement.{geometry_of};
-ghost use Rattle.fdp_base.specs.Refusal.{refusal_of};
-ghost use Rattle.fdp_base.specs.Step.{IsQueue};
-ghost use Rattle.fdp_flash.specs.FlashState.{Faulted};
+ghost use Rattle.fdp_rules.specs.Refusal.{refusal_of};
+ghost use Rattle.fdp_rules.specs.Step.{IsQueue};
+ghost use Rattle.fdp_core.specs.Answers.{EndsAtOnce};
 ghost use Rattle.fdp_core.specs.Book.{point_in, state_in};
+ghost use Rattle.fdp_core.specs.Calls.{MakesCalls};
+ghost use Rattle.fdp_core.specs.Fetches.{FailsToFetch, MakesFetches, fetches_of, pages_of};
 ghost use Rattle.fdp_core.specs.Media.{IsReadFrom};
 ghost use Rattle.fdp_core.specs.Pages.{cells_of};
 ghost use Rattle.fdp_core.specs.ReadSteps.{Reads, blocks_from};
 ghost use Rattle.fdp_core.specs.Room.{room_for};
-ghost use Rattle.fdp_core.specs.Steps.{Completes};
 
 use super::Group;
 use crate::book::Book;
@@ -40,7 +41,7 @@ impl<F: Flash> Group<F> {
         requires room { room ≡ room_for command self.old.book.config }
         requires spare { 0 < self.old.book.spare }
         requires sound { self.old.failed ≡ false }
-        ensures { Completes F.state self.old self.new [] queue number command result }
+        ensures { EndsAtOnce F.state self.old self.new queue number command result }
     {
         let (replies, failed) = read_replies(&mut self.flash, &self.book, extent, room);
         self.failed = failed;
@@ -57,7 +58,8 @@ fn read_replies<F: Flash>(flash: &mut F, book: &Book, extent: Extent, room: Room
     requires few { extent.count ≤ book.now.config.blocks_per_command }
     requires range { extent.slba + extent.count < 2 ^ 64 }
     ensures read { IsReadFrom (F.state flash.old) (F.state flash.new) }
-    ensures replies { Reads (F.state flash.old) (F.state flash.new) book.now extent result.0 result.1 }
+    ensures replies { Reads (F.state flash.old) book.now extent result.0 result.1 }
+    ensures fetches { MakesFetches (F.state flash.old) (F.state flash.new) book.now extent result.1 }
 {
     let (mut history, mut answer) = room.into_buffers();
     match read_blocks(flash, book, extent, &mut history) {
@@ -86,8 +88,8 @@ fn read_blocks<F: Flash>(
     ensures read { IsReadFrom (F.state flash.old) (F.state flash.new) }
     ensures size { length into.new ≡ length into.old }
     ensures blocks { OnOk result (IsTrue (F.state flash.old).told → into.new ≡ blocks_from book.now extent.nsid extent.slba extent.count) }
-    ensures ok { OnOk result ((F.state flash.new).faults ≡ (F.state flash.old).faults) }
-    ensures failed { OnErr result (Faulted (F.state flash.old) (F.state flash.new)) }
+    ensures called { OnOk result (MakesFetches (F.state flash.old) (F.state flash.new) book.now extent false) }
+    ensures failed { OnErr result (MakesFetches (F.state flash.old) (F.state flash.new) book.now extent true) }
 {
     let size = book.config().block as usize;
     for index in 0..extent.count {
@@ -118,8 +120,8 @@ fn read_block<F: Flash>(
     ensures read { IsReadFrom (F.state flash.old) (F.state flash.new) }
     ensures size { length into.new ≡ length into.old }
     ensures block { OnOk result (IsTrue (F.state flash.old).told → into.new ≡ read_block book.now.config (state_in book.now) nsid lba) }
-    ensures ok { OnOk result ((F.state flash.new).faults ≡ (F.state flash.old).faults) }
-    ensures failed { OnErr result (Faulted (F.state flash.old) (F.state flash.new)) }
+    ensures called { OnOk result (MakesCalls (F.state flash.old) (F.state flash.new) (fetches_of (pages_of book.now nsid lba 1))) }
+    ensures failed { OnErr result (FailsToFetch (F.state flash.old) (F.state flash.new) book.now nsid lba) }
 {
     match book.page_of(nsid, lba) {
         Some(page) => fetch(flash, page.spot, &page.spare, into),

@@ -10,6 +10,15 @@ pub fn push_word(text: &mut String, word: &str) -> Result<(), AllocError> {
     text.push_str(word)
 }
 
+/// A word, so many times.
+pub fn repeated(alloc: Global, word: &str, times: u8) -> Result<String, AllocError> {
+    let mut text = String::new(alloc);
+    for _ in 0..times {
+        text.push_str(word)?;
+    }
+    Ok(text)
+}
+
 /// The reply to a command: `ok` for a write that succeeds, for a read the number of each block, else the status.
 pub fn reply_text(alloc: Global, reply: &Reply, block: u32) -> Result<String, AllocError> {
     if reply.status != Status::SUCCESS {

@@ -1,6 +1,6 @@
 use Rattle.std.proofs.Common.{ℕ, Option, ap, refl, subst, sym}
 use Rattle.std.specs.Prelude.{IsSome}
-use Rattle.fdp_base.specs.PlainState.{Namespace}
+use Rattle.fdp_rules.specs.PlainState.{Namespace}
 use Rattle.fdp_spaces.proofs.tests.resolved.Goals as goal
 
 pub resolve-requires : goal.resolve-requires

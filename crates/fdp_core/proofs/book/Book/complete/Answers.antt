@@ -1,5 +1,5 @@
 use Rattle.std.proofs.Common.{sym, subst}
-use Rattle.fdp_base.specs.Step.{IsQueue}
+use Rattle.fdp_rules.specs.Step.{IsQueue}
 use Rattle.fdp_core.specs.Book.{BookSeen}
 use Rattle.fdp_core.proofs.HeldEnded.{held_unapplied}
 use Rattle.fdp_core.proofs.book.Book.complete.Goals as goal

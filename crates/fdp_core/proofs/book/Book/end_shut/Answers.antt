@@ -27,6 +27,6 @@ invariant_of-self c =
     let orderly = orderly-flight b _ _ _ _ _ old.flights.items c.give_up-queue.result c.take_flight-flight.result c.self.invariant c.take_flight-flight.ensures.flight in
     held_shut old.config old.log.entries c.push_both.new.self.entries old.setting old.sums old.spaces old.handles c.shut.new.self old.map old.flights.items c.take_flight-flight.new.flights.items old.used.items _ _ _ _ _ _ _
     c.self.invariant orderly.queue_is (ap (λ (r : Reply). r.applied) c.end-command.ensures.reply.history_is)
-    (ap (λ (x : HandleTable). x.unit_pages) c.shut.ensures.rest) (ap (λ (x : HandleTable). x.groups) c.shut.ensures.rest) (c.shut.ensures.references old.config c.self.invariant.handles_are.unit_pages)
+    (ap (λ (x : HandleTable). x.unit_pages) c.shut.ensures.rest) (ap (λ (x : HandleTable). x.groups) c.shut.ensures.rest) (ap (λ (x : HandleTable). x.classes) c.shut.ensures.rest) (c.shut.ensures.references old.config c.self.invariant.handles_are.unit_pages)
     c.push_both.ensures.entries_are
     (left-without old.flights.items c.take_flight-flight.new.flights.items c.give_up-queue.result c.end-command.result.0 c.take_flight-flight.result.room.command c.take_flight-flight.ensures.rest c.end-command.ensures.command orderly.write)

@@ -20,6 +20,7 @@ invariant_of-result c =
     c.in_ok-configured_spaces.ensures
     (handles.unit_pages ∙ ap (λ (g : Geometry). g.unit_pages) geometry)
     (handles.groups ∙ ap (λ (g : Geometry). g.groups) geometry)
+    (handles.classes ∙ c.classes-classes.ensures)
     (λ rg ruh. handles.references rg ruh ∙ ap (λ (g : Geometry). blank g.unit_pages) geometry)
     c.in_ok-configured_map.ensures
     (c.in_ok-no_flights.ensures ∙ ap (λ (n : ℕ). replicate (n + 1) None) c.from.ensures)

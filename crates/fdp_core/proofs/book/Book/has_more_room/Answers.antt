@@ -1,5 +1,5 @@
 use Rattle.std.proofs.Common.{◌≡◌, ◌∙◌, subst}
-use Rattle.fdp_base.specs.Room.{budget, stored}
+use Rattle.fdp_rules.specs.Room.{budget, stored}
 use Rattle.fdp_core.specs.Book.{BookSeen, point_in, state_in}
 use Rattle.fdp_core.specs.Held.{IsMapOf}
 use Rattle.fdp_core.specs.Pages.{cells_of}

@@ -1,6 +1,6 @@
 use Rattle.std.proofs.Common.{ℕ, ◌∙◌, ap}
-use Rattle.fdp_base.specs.Room.{is_over_budget}
-use Rattle.fdp_base.specs.Target.{Target, target_of}
+use Rattle.fdp_rules.specs.Room.{is_over_budget}
+use Rattle.fdp_rules.specs.Target.{Target, target_of}
 use Rattle.fdp_core.specs.Book.{BookSeen, state_in}
 use Rattle.fdp_core.proofs.book.Book.has_no_room.Goals as goal
 

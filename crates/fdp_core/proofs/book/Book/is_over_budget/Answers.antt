@@ -1,7 +1,7 @@
 use Rattle.std.proofs.Common.{◌≡◌, ◌-◌, ◌∙◌, subst}
 use Rattle.std.specs.Prelude.{◌==◌, ◌&&◌, not}
 use Rattle.fdp_base.specs.Numbers.{is_among}
-use Rattle.fdp_base.specs.Room.{budget, stored_where}
+use Rattle.fdp_rules.specs.Room.{budget, stored_where}
 use Rattle.fdp_map.specs.MapTable.{Agrees}
 use Rattle.fdp_core.specs.Book.{BookSeen, point_in, state_in}
 use Rattle.fdp_core.specs.Held.{IsMapOf}

@@ -1,7 +1,7 @@
 use Rattle.std.proofs.Common.{◌≡◌, ◌∙◌, ◌+◌, ℕ, List, Option, Some, ap, length, refl, slice_set, subst, sym, [], ◌∷◌, ◌++◌}
 use Rattle.fdp_base.specs.declared.entry.Entry.TheVariants as entries
-use Rattle.fdp_base.specs.PlainState.{Going, Reference}
-use Rattle.fdp_base.specs.Step.{Follows}
+use Rattle.fdp_rules.specs.PlainState.{Going, Reference}
+use Rattle.fdp_rules.specs.Step.{Follows}
 use Rattle.fdp_handles.specs.HandleTable.{HandleTable, reference_at}
 use Rattle.fdp_core.specs.declared.flight.Flight.{Flight}
 use Rattle.fdp_core.specs.Book.{BookSeen, point_in, state_in}
@@ -47,6 +47,7 @@ invariant_of-self c =
       media_blocks = refl;
       unit_pages = ap (λ (x : HandleTable). x.unit_pages) c.place.ensures.rest;
       groups = ap (λ (x : HandleTable). x.groups) c.place.ensures.rest;
+      classes = ap (λ (x : HandleTable). x.classes) c.place.ensures.rest;
       references = c.place.ensures.references old.config pages;
       flights_are = ap (λ (i : ℕ). slice_set old.flights.items i c.push_page.new.flight) c.from.ensures ∙ ap (λ (o : Option Flight). slice_set old.flights.items c.args.ticket.now.queue o) more.1;
       flight = more.2;

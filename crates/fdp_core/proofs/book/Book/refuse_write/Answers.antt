@@ -1,6 +1,6 @@
 use Rattle.std.proofs.Common.{◌≡◌, true, false, sym, ◌∙◌, ap, subst}
 use Rattle.fdp_base.specs.CommandKinds.{directed_by}
-use Rattle.fdp_base.specs.Refusal.{has_no_room, is_absent}
+use Rattle.fdp_rules.specs.Refusal.{has_no_room, is_absent}
 use Rattle.fdp_core.specs.Book.{BookSeen, point_in, state_in}
 use Rattle.fdp_core.specs.Held.{AreSpacesOf}
 use Rattle.fdp_core.proofs.Refusals.{not-absent, refused-room}

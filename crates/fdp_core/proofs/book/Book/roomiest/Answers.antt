@@ -1,6 +1,6 @@
 use Rattle.std.proofs.Common.{◌≡◌, ℕ, ◌+◌, ◌≤◌, sym, ◌∙◌, ap, subst, arith}
 use Rattle.std.proofs.lemmas.Bool.{ltb-false, ltb-true}
-use Rattle.fdp_base.specs.Room.{budget, stored}
+use Rattle.fdp_rules.specs.Room.{budget, stored}
 use Rattle.fdp_core.specs.Book.{BookSeen, state_in}
 use Rattle.fdp_core.proofs.Roomiest.{IsRoomiest, roomiest-first, roomiest-found, roomiest-more, roomiest-no_more}
 use Rattle.fdp_core.proofs.book.Book.roomiest.Goals.{then-has_more_room, else-has_more_room}

@@ -1,4 +1,4 @@
-use Rattle.fdp_base.specs.Room.{budget, stored}
+use Rattle.fdp_rules.specs.Room.{budget, stored}
 use Rattle.fdp_core.specs.Book.{state_in}
 use Rattle.fdp_core.proofs.Roomiest.{IsRoomiest}
 use Rattle.fdp_core.proofs.book.Book.roomiest.Given as goal

@@ -3,7 +3,7 @@ use Rattle.std.specs.Prelude.{option_map, unwrap_or}
 use Rattle.std.specs.Option.{option_map_or}
 use Rattle.fdp_base.specs.declared.entry.Entry.{Entry}
 use Rattle.fdp_base.specs.declared.entry.Entry.TheVariants as entries
-use Rattle.fdp_base.specs.PlainState.{Namespace}
+use Rattle.fdp_rules.specs.PlainState.{Namespace}
 use Rattle.fdp_core.specs.declared.flight.Flight.{Flight}
 use Rattle.fdp_core.specs.Book.{BookSeen, IsLonger, point_in}
 use Rattle.fdp_core.specs.Held.{IsHeld}

@@ -1,7 +1,7 @@
 use Rattle.std.proofs.Common.{◌≡◌, ◌+◌, length, List, sym, ◌∙◌, ap, subst, arith}
 use Rattle.fdp_base.specs.declared.entry.Entry.{Entry}
-use Rattle.fdp_base.specs.History.{fresh, totals_of}
-use Rattle.fdp_base.specs.Totals.{erases, host_blocks, media_blocks}
+use Rattle.fdp_rules.specs.History.{fresh, totals_of}
+use Rattle.fdp_rules.specs.Totals.{erases, host_blocks, media_blocks}
 use Rattle.fdp_core.specs.Book.{BookSeen}
 use Rattle.fdp_core.specs.Held.{AreSumsOf}
 use Rattle.fdp_core.proofs.book.Book.totals.Goals as goal

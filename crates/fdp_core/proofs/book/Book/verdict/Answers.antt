@@ -1,6 +1,6 @@
 use Rattle.std.proofs.Common.{◌≡◌, ◌∙◌, inr, refl, subst, sym, Ok, Err}
 use Rattle.fdp_base.specs.declared.status.TheConstants.Status as statuses
-use Rattle.fdp_base.specs.PlainState.{Going}
+use Rattle.fdp_rules.specs.PlainState.{Going}
 use Rattle.fdp_core.specs.declared.flight.Flight.{Flight}
 use Rattle.fdp_core.specs.Book.{state_in}
 use Rattle.fdp_core.specs.BookSteps.{IsVerdict}

@@ -1,8 +1,9 @@
-use Rattle.std.proofs.Common.{◌≡◌, ◌∙◌, ap, sym, subst, false, None, []}
-use Rattle.fdp_base.specs.Refusal.{refusal_of}
+use Rattle.std.proofs.Common.{◌≡◌, ◌∙◌, ap, sym, subst, false, None, refl}
+use Rattle.fdp_rules.specs.Refusal.{refusal_of}
+use Rattle.fdp_core.specs.Answers.{EndsAtOnce}
 use Rattle.fdp_core.specs.Book.{point_in}
 use Rattle.fdp_core.specs.Seen.{Seen}
-use Rattle.fdp_core.specs.Steps.{Completes}
+use Rattle.fdp_core.proofs.GroupAdds.{grouped-one}
 use Rattle.fdp_core.proofs.GroupBegins.{IsRead, read-completes, sound-read}
 use Rattle.fdp_core.proofs.GroupHost.{accepted-few}
 use Rattle.fdp_core.proofs.group.Group.read.Goals as goal
@@ -16,17 +17,26 @@ read_replies-replies-requires-clause-few g c =
 pub invariant_of-self : goal.invariant_of-self
 invariant_of-self g c =
     let old = c.self.inside in
+    let before : Seen g.row.F.Denot = record { book = old.book; failed = old.failed; handed = old.handed; flash = old.flash } in
+    let new : Seen g.row.F.Denot = record { book = c.complete.new.self; failed = c.read_replies-replies.result.1; handed = old.handed; flash = c.read_replies-replies.new.flash } in
     let well = subst (λ (s : Seen g.row.F.Denot). s.failed ≡ false) (sym c.self.view_is) c.requires.sound in
     let is = subst (λ (s : Seen g.row.F.Denot). IsRead s.book c.args.queue c.args.command c.args.extent) (sym c.self.view_is)
     (record { command_is = c.requires.command; queue_is = c.requires.queue; formed = c.requires.formed; accepted = c.requires.accepted }) in
-    sound-read (g.F.Flash.state old.flash) (g.F.Flash.state c.read_replies-replies.new.flash) old.book c.complete.new.self old.failed c.read_replies-replies.result.1 old.block.items
+    let read = c.read_replies-replies.ensures in
+    let sound = sound-read (g.F.Flash.state old.flash) (g.F.Flash.state c.read_replies-replies.new.flash) old.book c.complete.new.self old.failed c.read_replies-replies.result.1 old.block.items
     c.args.queue c.args.number c.args.command c.args.extent c.read_replies-replies.result.0 c.moment-moment.result c.complete.result
-    c.self.invariant well c.read_replies-replies.ensures.read is c.read_replies-replies.ensures.replies c.complete.ensures
+    c.self.invariant.sound well read.read is read.replies c.complete.ensures in
+    let ends = read-completes g.F.Flash.state before new c.args.queue c.args.number c.args.command c.args.extent c.read_replies-replies.result.0 c.moment-moment.result c.complete.result old.block.items
+    (g.met.F.Flash.well_formed c.read_replies-replies.new.flash) sound refl is read.read read.replies read.fetches c.complete.ensures c.moment-moment.ensures in
+    grouped-one g.F.Flash.state before new _ old.block.items sound ends.completes.step well c.self.invariant.counted
 
 pub returns : goal.returns
 returns g c =
     let old = c.self.inside in
-    let new : Seen g.row.F.Denot = record { book = c.complete.new.self; failed = c.read_replies-replies.result.1; flash = c.read_replies-replies.new.flash } in
-    subst (λ (s : Seen g.row.F.Denot). Completes g.F.Flash.state s new [] c.args.queue c.args.number c.args.command c.complete.result) c.self.view_is
+    let new : Seen g.row.F.Denot = record { book = c.complete.new.self; failed = c.read_replies-replies.result.1; handed = old.handed; flash = c.read_replies-replies.new.flash } in
+    let is = subst (λ (s : Seen g.row.F.Denot). IsRead s.book c.args.queue c.args.command c.args.extent) (sym c.self.view_is)
+    (record { command_is = c.requires.command; queue_is = c.requires.queue; formed = c.requires.formed; accepted = c.requires.accepted }) in
+    let read = c.read_replies-replies.ensures in
+    subst (λ (s : Seen g.row.F.Denot). EndsAtOnce g.F.Flash.state s new c.args.queue c.args.number c.args.command c.complete.result) c.self.view_is
     (read-completes g.F.Flash.state _ new c.args.queue c.args.number c.args.command c.args.extent c.read_replies-replies.result.0 c.moment-moment.result c.complete.result old.block.items
-    (invariant_of-self g c) c.read_replies-replies.ensures.read c.read_replies-replies.ensures.replies c.complete.ensures c.moment-moment.ensures)
+    (g.met.F.Flash.well_formed c.read_replies-replies.new.flash) (invariant_of-self g c).sound refl is read.read read.replies read.fetches c.complete.ensures c.moment-moment.ensures)

@@ -1,11 +1,13 @@
-use Rattle.std.proofs.Common.{◌≡◌, ◌+◌, ◌-◌, ◌*◌, ◌++◌, List, ℕ, refl, ap, sym, ◌∙◌, subst, length}
+use Rattle.std.proofs.Common.{◌≡◌, ◌+◌, ◌-◌, ◌*◌, ◌++◌, List, ℕ, ap, sym, ◌∙◌, subst, length}
 use Rattle.std.proofs.lemmas.List.{length-replicate}
 use borrow.Rule.Slice.PartMut.{put_mid}
 use Rattle.fdp_base.specs.declared.config.DriveConfig.{DriveConfig}
-use Rattle.fdp_base.specs.Answer.{read_block}
+use Rattle.fdp_rules.specs.Answer.{read_block}
 use Rattle.fdp_core.specs.Book.{state_in}
+use Rattle.fdp_core.specs.Calls.{MakesCalls}
+use Rattle.fdp_core.specs.Fetches.{FailsToFetch, fetches_of, pages_of}
 use Rattle.fdp_core.specs.ReadSteps.{blocks_from}
-use Rattle.fdp_core.proofs.GroupReads.{IsFilled, all-left, blocks_from-more, blocks_from-none, filled-next, none-filled, read-joined, read-none, zeros-as}
+use Rattle.fdp_core.proofs.GroupReads.{IsFilled, all-left, at-error, blocks_from-more, blocks_from-none, fetches-cut, fetches-more, fetches-none, filled-next, none-filled, read-joined, read-none, zeros-as}
 use Rattle.fdp_core.proofs.group.read.read_blocks.Goals as goal
 
 pub loop-index-init : goal.loop-index-init
@@ -14,7 +16,7 @@ loop-index-init g c =
     record {
       block = ap (λ (x : DriveConfig). x.block) c.config.ensures.config;
       read = read-none (g.F.Flash.state c.args.flash.now);
-      faults = refl;
+      made = fetches-none (g.F.Flash.state c.args.flash.now) c.args.book.now c.args.extent.nsid c.args.extent.slba;
       size = ap length c.requires.zeros ∙ length-replicate (c.args.extent.count * k) 0;
       done = λ _. none-filled k c.args.into.now ∙ blocks_from-none c.args.book.now c.args.extent.nsid c.args.extent.slba;
       rest = all-left c.args.extent.count k c.args.into.now c.requires.zeros;
@@ -36,7 +38,8 @@ loop-index-preserved g c =
     record {
       block = before.block;
       read = read-joined (g.F.Flash.state c.args.flash.now) (g.F.Flash.state c.loop-index.flash) (g.F.Flash.state c.read_block.new.flash) before.read now.read;
-      faults = now.ok ∙ before.faults;
+      made = fetches-more (g.F.Flash.state c.args.flash.now) (g.F.Flash.state c.loop-index.flash) (g.F.Flash.state c.read_block.new.flash) c.args.book.now c.args.extent.nsid c.args.extent.slba i before.made
+          (subst (λ n. MakesCalls (g.F.Flash.state c.loop-index.flash) (g.F.Flash.state c.read_block.new.flash) (fetches_of (pages_of c.args.book.now c.args.extent.nsid (c.args.extent.slba + n) 1))) c.from.ensures now.called);
       size = filled.size ∙ before.size;
       done = λ tells. filled.done ∙ ap (λ (xs : List ℕ). xs ++ c.read_block.new.into) (before.done tells)
           ∙ ap (λ (xs : List ℕ). blocks_from c.args.book.now c.args.extent.nsid c.args.extent.slba i ++ xs) (now.block (before.read.kept.told ∙ tells))
@@ -44,3 +47,8 @@ loop-index-preserved g c =
           ∙ sym (blocks_from-more c.args.book.now c.args.extent.nsid c.args.extent.slba i);
       rest = filled.rest;
     }
+
+pub returns-in_err-read_block-clause-failed : goal.returns-in_err-read_block-clause-failed
+returns-in_err-read_block-clause-failed g c =
+    at-error c.from_residual.result _ (fetches-cut (g.F.Flash.state c.args.flash.now) (g.F.Flash.state c.loop-index.flash) (g.F.Flash.state c.read_block.new.flash) c.args.book.now c.args.extent c.loop-index.index c.loop-index-test.true c.loop-index.invariant.made
+    (subst (λ n. FailsToFetch (g.F.Flash.state c.loop-index.flash) (g.F.Flash.state c.read_block.new.flash) c.args.book.now c.args.extent.nsid (c.args.extent.slba + n)) c.from.ensures c.in_err-read_block.ensures.failed))

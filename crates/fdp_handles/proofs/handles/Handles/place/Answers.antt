@@ -1,6 +1,6 @@
 use Rattle.std.proofs.Common.{◌≡◌, ◌∙◌, ◌<◌, ap, arith, length, sym}
-use Rattle.fdp_base.specs.Change.{one_less}
-use Rattle.fdp_base.specs.Effect.{with_reference}
+use Rattle.fdp_rules.specs.Change.{one_less}
+use Rattle.fdp_rules.specs.Effect.{with_reference}
 use Rattle.fdp_handles.specs.HandleTable.{HandleTable, reference_at}
 use Rattle.fdp_handles.proofs.Rows.{reference_put, rows_put}
 use Rattle.fdp_handles.proofs.handles.Handles.place.Goals as goal

@@ -1,5 +1,5 @@
 use Rattle.std.proofs.Common.{◌≡◌, ◌∙◌, ap, arith, sym}
-use Rattle.fdp_base.specs.Effect.{no_reference, with_reference}
+use Rattle.fdp_rules.specs.Effect.{no_reference, with_reference}
 use Rattle.fdp_handles.specs.HandleTable.{HandleTable, blank, reference_at, reference_of}
 use Rattle.fdp_handles.proofs.Rows.{reference_put}
 use Rattle.fdp_handles.proofs.handles.Handles.shut.Goals as goal

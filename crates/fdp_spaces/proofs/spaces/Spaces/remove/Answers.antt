@@ -2,7 +2,7 @@ use Rattle.std.proofs.Common.{◌∙◌, ◌-◌, ◌<◌, List, Option, None, a
 use Rattle.std.specs.Prelude.{option_map}
 use Rattle.std.proofs.lemmas.List.{map-set}
 use Rattle.fdp_base.specs.Numbers.{with_at}
-use Rattle.fdp_base.specs.PlainState.{Namespace}
+use Rattle.fdp_rules.specs.PlainState.{Namespace}
 use Rattle.fdp_spaces.specs.SpaceTable.{AreRows, SpaceTable, namespace_at, namespace_of}
 use Rattle.fdp_spaces.proofs.Rows.{namespace_put, rows_put}
 use Rattle.fdp_spaces.proofs.spaces.Spaces.remove.Goals as goal

@@ -1,0 +1,50 @@
+-- The entries of a step are those of one queue: all others are silent in them.
+use Rattle.std.proofs.Common.{◌≢◌, ℕ, Bool, cond, List, [], ◌∷◌, ◌++◌, refl, ap, sym, ◌∙◌, arith, ne_eqb, None, Some}
+use Rattle.std.specs.List.{All, cons_option}
+use Rattle.std.proofs.lemmas.List.Elements.{All-append, All-cons, All-nil, filter_map-append}
+use Rattle.fdp_base.specs.declared.command.Command.{Command}
+use Rattle.fdp_base.specs.declared.entry.Entry.{Entry}
+use Rattle.fdp_base.specs.declared.entry.Entry.TheVariants as entries
+use Rattle.fdp_base.specs.declared.entry.Reply.{Reply}
+use Rattle.fdp_rules.specs.Queue.{completed, completed_by, starting_queue}
+use Rattle.fdp_core.specs.Silence.{OthersStaySilent}
+
+starts-one : (other : ℕ) (e : Entry) → starting_queue e ≢ other → All (λ x. starting_queue x ≢ other) (e ∷ [])
+starts-one other e one = All-cons (λ x. starting_queue x ≢ other) e [] one (All-nil (λ x. starting_queue x ≢ other))
+
+-- no entry
+pub silent-none : (queue : ℕ) → OthersStaySilent queue []
+silent-none queue other some ne = record { completes = refl; starts = All-nil (λ e. starting_queue e ≢ other) }
+
+-- more entries of the queue
+pub silent-joined : (queue : ℕ) (es fs : List Entry) → OthersStaySilent queue es → OthersStaySilent queue fs → OthersStaySilent queue (es ++ fs)
+silent-joined queue es fs first second other some ne =
+    let p = first other some ne in
+    let q = second other some ne in
+    record {
+      completes = filter_map-append (completed_by other) es fs ∙ ap (λ xs. xs ++ completed other fs) p.completes ∙ q.completes;
+      starts = All-append (λ e. starting_queue e ≢ other) es fs p.starts q.starts;
+    }
+
+-- a write is let go
+pub silent-started : (queue number : ℕ) (command : Command) (rg ruh : ℕ) (valid : Bool) → OthersStaySilent queue (entries.Started queue number command rg ruh valid ∷ [])
+silent-started queue number command rg ruh valid other some ne = record { completes = refl; starts = starts-one other _ (λ same. ne (sym same)) }
+
+-- a command is completed
+pub silent-host : (queue number : ℕ) (command : Command) (reply : Reply) (moment : ℕ) → OthersStaySilent queue (entries.Host queue number command reply moment ∷ [])
+silent-host queue number command reply moment other some ne = record {
+  completes = ap (λ (b : Bool). cons_option (cond b (Some (number, command)) None) []) (ne_eqb queue other (λ same. ne (sym same)));
+  starts = starts-one other _ (λ same. omega arith);
+}
+
+-- a command is completed, behind other entries
+pub silent-completed : (queue number : ℕ) (command : Command) (before : List Entry) (reply : Reply) (moment : ℕ) → OthersStaySilent queue before → OthersStaySilent queue (before ++ entries.Host queue number command reply moment ∷ [])
+silent-completed queue number command before reply moment silent = silent-joined queue before (entries.Host queue number command reply moment ∷ []) silent (silent-host queue number command reply moment)
+
+-- a page is placed, for whichever queue
+pub silent-placed : (queue ticket index unit page : ℕ) → OthersStaySilent queue (entries.Placed ticket index unit page ∷ [])
+silent-placed queue ticket index unit page other some ne = record { completes = refl; starts = starts-one other _ (λ same. omega arith) }
+
+-- a handle is shut, for whichever queue
+pub silent-shut : (queue rg ruh : ℕ) → OthersStaySilent queue (entries.Shut rg ruh ∷ [])
+silent-shut queue rg ruh other some ne = record { completes = refl; starts = starts-one other _ (λ same. omega arith) }
