@@ -7,7 +7,7 @@ use Rattle.fdp_config.specs.Document.{IsDocument}
 use Rattle.fdp_config.specs.Faults.{IsFaultOf, IsInByteOrder}
 use Rattle.fdp_io.specs.Bench.{BenchState}
 use Rattle.fdp_cli.specs.Faults.{of_config}
-use Rattle.fdp_cli.specs.Found.{ConfigLacks}
+use Rattle.fdp_cli.specs.Found.{ConfigLacks, CountsSource}
 
 -- a fault of the text that was read is one of the run
 pub config_lacks : (old new : BenchState) (name text : List ℕ) (fault : ConfigFault) → length text ≤ 65536 → (IsTrue old.told → old.text name ≡ Some text) → (fault ≢ configs.NoMemory → IsFaultOf text fault) → ((doc : Members) → IsDocument text doc → IsInByteOrder doc fault) → ConfigLacks old new name (of_config fault)
@@ -18,3 +18,13 @@ config_lacks old new name text (configs.Kind key) short there first order = λ t
 config_lacks old new name text (configs.Range key value) short there first order = λ told. record { text = text; there = there told; short = short; first = first (λ e. absurd (cc)); in_order = order }
 config_lacks old new name text (configs.NoRoom needed budget) short there first order = λ told. record { text = text; there = there told; short = short; first = first (λ e. absurd (cc)); in_order = order }
 config_lacks old new name text configs.NoMemory short there first order = tt
+
+-- a fault of a text that was read counts nothing
+pub config_counts : (old new : ℕ) (fault : ConfigFault) → new ≡ old → CountsSource old new (of_config fault)
+config_counts old new configs.NotToml still = still
+config_counts old new (configs.Unknown key) still = still
+config_counts old new (configs.Missing key) still = still
+config_counts old new (configs.Kind key) still = still
+config_counts old new (configs.Range key value) still = still
+config_counts old new (configs.NoRoom needed budget) still = still
+config_counts old new configs.NoMemory still = still

@@ -7,7 +7,7 @@ use Rattle.std.proofs.lemmas.List.{append-nil}
 use Rattle.std.proofs.lemmas.List.Sums.{sum_by-append}
 use Rattle.fdp_base.specs.declared.entry.Entry.{Entry}
 use Rattle.fdp_base.specs.Counts.{counted}
-use Rattle.fdp_base.specs.Totals.{media_blocks, media_blocks_of}
+use Rattle.fdp_rules.specs.Totals.{media_blocks, media_blocks_of}
 use Rattle.fdp_flash.specs.FlashState.{FlashState, Faulted}
 use Rattle.fdp_core.specs.Seen.{IsKept, Seen, counted_more, tells_failure}
 use Rattle.fdp_core.specs.Steps.{Adds, Grows}

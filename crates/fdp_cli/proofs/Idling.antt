@@ -6,12 +6,12 @@ use Rattle.fdp_base.specs.declared.config.DriveConfig.{DriveConfig}
 use Rattle.fdp_base.specs.declared.entry.Entry.{Entry}
 use Rattle.fdp_base.specs.declared.entry.Entry.TheVariants as entries
 use Rattle.fdp_base.specs.declared.entry.Reply.{Reply}
-use Rattle.fdp_base.specs.Change.{after, changed_by}
+use Rattle.fdp_rules.specs.Change.{after, changed_by}
 use Rattle.fdp_base.specs.CommandKinds.{is_write}
-use Rattle.fdp_base.specs.History.{fresh, point_of, state_of}
+use Rattle.fdp_rules.specs.History.{fresh, point_of, state_of}
 use Rattle.fdp_base.specs.Numbers.{with_at}
-use Rattle.fdp_base.specs.PlainState.{Going, PlainState}
-use Rattle.fdp_base.proofs.Pushes.{state_of-push}
+use Rattle.fdp_rules.specs.PlainState.{Going, PlainState}
+use Rattle.fdp_rules.proofs.Pushes.{state_of-push}
 use Rattle.fdp_core.specs.Book.{BookSeen, state_in}
 use Rattle.fdp_cli.specs.Serving.{IsIdle}
 

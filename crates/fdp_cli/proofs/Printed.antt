@@ -5,7 +5,7 @@ use Rattle.std.proofs.Math.Seq.{drop-cons, take-append_seam, take-append-add}
 use Rattle.std.specs.declared.alloc.AllocError.{AllocError}
 use Rattle.std.proofs.lemmas.List.{append-nil, drop_all, take-append-le}
 use Rattle.fdp_base.specs.declared.entry.Entry.{Entry}
-use Rattle.fdp_base.specs.Output.{completion_of}
+use Rattle.fdp_output.specs.Output.{completion_of}
 use Rattle.fdp_base.specs.Text.{line}
 use Rattle.fdp_io.specs.declared.sink.SinkFailed.{SinkFailed}
 use Rattle.fdp_io.specs.Sink.{Holds, HoldsFront, SinkState}
@@ -17,11 +17,11 @@ pub record IsPrinting (old new : SinkState) (buffer rest text : List ℕ) : Type
   pub held : Holds old new printed
   pub all : printed ++ (buffer ++ rest) ≡ text
   pub tells : new.told ≡ old.told
-  pub faults : old.faults ≤ new.faults
+  pub faults : new.faults ≡ old.faults
 
 -- nothing is printed yet
 pub printing_none : (s : SinkState) (buffer rest text : List ℕ) → buffer ++ rest ≡ text → IsPrinting s s buffer rest text
-printing_none s buffer rest text all = record { printed = []; held = λ told. sym (append-nil s.bytes); all = all; tells = refl; faults = omega arith }
+printing_none s buffer rest text all = record { printed = []; held = λ told. sym (append-nil s.bytes); all = all; tells = refl; faults = refl }
 
 -- more text is in the buffer
 pub printing_more : (old new : SinkState) (buffer next piece rest left text : List ℕ) → IsPrinting old new buffer left text → left ≡ piece ++ rest → next ≡ buffer ++ piece → IsPrinting old new next rest text
@@ -34,13 +34,13 @@ printing_more old new buffer next piece rest left text p left_is next_is = recor
 }
 
 -- the beginning of the buffer was written
-pub printing_written : (old mid new : SinkState) (buffer left rest text : List ℕ) → IsPrinting old mid buffer rest text → new.told ≡ mid.told → mid.faults ≤ new.faults → HoldsFirst mid new buffer left → IsPrinting old new left rest text
+pub printing_written : (old mid new : SinkState) (buffer left rest text : List ℕ) → IsPrinting old mid buffer rest text → new.told ≡ mid.told → new.faults ≡ mid.faults → HoldsFirst mid new buffer left → IsPrinting old new left rest text
 printing_written old mid new buffer left rest text p told faults h = record {
   printed = p.printed ++ h.0;
   held = λ tells. h.2 (subst IsTrue (sym p.tells) tells) ∙ ap (λ xs. xs ++ h.0) (p.held tells) ∙ append_assoc old.bytes p.printed h.0;
   all = append_assoc p.printed h.0 (left ++ rest) ∙ ap (λ xs. p.printed ++ xs) (sym (append_assoc h.0 left rest)) ∙ ap (λ xs. p.printed ++ (xs ++ rest)) h.1 ∙ p.all;
   tells = told ∙ p.tells;
-  faults = omega (arith, p.faults, faults);
+  faults = faults ∙ p.faults;
 }
 
 -- the buffer was written, and nothing is to come
@@ -104,6 +104,10 @@ failed_of A B (Err x) p m = m
 pub done_of : (A B : Type 0) (r : Result ⊤ SinkFailed) → is_err r ≡ false → MatchResult r (λ _. A) (λ _. B) → A
 done_of A B (Ok x) p m = m
 done_of A B (Err x) p m = absurd (cc)
+
+pub kept_of : {A : Type 0} (r : Result ⊤ SinkFailed) → is_err r ≡ false → OnOk r A → A
+kept_of (Ok x) p m = m
+kept_of (Err x) p m = absurd (cc)
 
 pub pushed_of : {A : Type 0} (r : Result ⊤ AllocError) → is_err r ≡ false → OnOk r A → A
 pushed_of (Ok x) p m = m

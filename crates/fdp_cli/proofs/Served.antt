@@ -4,13 +4,14 @@ use Rattle.std.specs.Prelude.{Option}
 use Rattle.std.specs.List.{enumerate_from}
 use Rattle.std.proofs.lemmas.List.{take_more}
 use Rattle.std.proofs.lemmas.List.Elements.{filter_map-append}
+use Rattle.std.proofs.Math.Nat.{add-mul, one-mul}
 use Rattle.fdp_base.specs.declared.command.Command.{Command}
 use Rattle.fdp_base.specs.declared.entry.Entry.{Entry}
 use Rattle.fdp_base.specs.declared.entry.Entry.TheVariants as entries
 use Rattle.fdp_base.specs.declared.entry.Reply.{Reply}
-use Rattle.fdp_base.specs.PlainState.{Going}
-use Rattle.fdp_base.specs.Queue.{completed, completed_by, numbered}
-use Rattle.fdp_base.specs.Totals.{blocks_written}
+use Rattle.fdp_rules.specs.PlainState.{Going}
+use Rattle.fdp_rules.specs.Queue.{completed, completed_by, numbered}
+use Rattle.fdp_rules.specs.Totals.{blocks_written}
 use Rattle.fdp_flash.specs.FlashState.{FlashState}
 use Rattle.fdp_core.specs.declared.ticket.Done.{Done}
 use Rattle.fdp_core.specs.declared.ticket.Ticket.{Ticket}
@@ -18,8 +19,10 @@ use Rattle.fdp_core.specs.Book.{state_in}
 use Rattle.fdp_core.specs.Answers.{EndsAlone, EndsInPlacing, PlacesPage, Starts, Commits}
 use Rattle.fdp_core.specs.BookSteps.{IsReady, IsWaiting}
 use Rattle.fdp_core.specs.Seen.{Seen}
-use Rattle.fdp_core.specs.Steps.{Completes}
+use Rattle.fdp_core.specs.Silence.{OthersStaySilent}
+use Rattle.fdp_core.specs.Steps.{Completes, most_steps}
 use Rattle.fdp_core.specs.Tickets.{IsTicketOf}
+use Rattle.fdp_core.proofs.Silence.{silent-completed, silent-host, silent-joined, silent-none, silent-placed, silent-shut, silent-started}
 use Rattle.fdp_cli.specs.Serving.{EndsWrite, IsIdle, IsPlacing, PlacesSome, ServesFirst, ServesOne}
 use Rattle.fdp_cli.proofs.Growing.{grows-joined, grows-none, grows-reserved, grows-reserving, grows-step, with_spare}
 use Rattle.fdp_cli.proofs.Idling.{idle_ended, idle_ended_behind, idle_still}
@@ -34,7 +37,9 @@ places-none state old ticket pages well from = record {
   same = refl;
   es = [];
   grown = grows-none state old well;
+  handed_is = refl;
   silent = refl;
+  others = silent-none 1;
   spent = omega arith;
   spare = omega arith;
   well = well;
@@ -48,7 +53,9 @@ places-more state old mid new ticket next last pages k p q = record {
   same = q.next_is ∙ p.same;
   es = p.es ++ entries.Placed next.position k q.unit q.page ∷ [];
   grown = grows-joined state old mid new p.es (entries.Placed next.position k q.unit q.page ∷ []) p.grown p.well (grows-step state mid new _ q.step);
+  handed_is = q.step.handed_is ∙ p.handed_is;
   silent = filter_map-append (completed_by 1) p.es (entries.Placed next.position k q.unit q.page ∷ []) ∙ ap (λ xs. xs ++ []) p.silent;
+  others = silent-joined 1 p.es (entries.Placed next.position k q.unit q.page ∷ []) p.others (silent-placed 1 next.position k q.unit q.page);
   spent = omega (arith, p.spent, q.step.book.spent_is);
   spare = omega (arith, p.spare, q.step.book.spare_is);
   well = q.well;
@@ -76,13 +83,15 @@ placed_all state old mid new ticket next last pages k p h =
 -- ---- the end of a write
 
 ends_behind : {F : Type 0} (state : F → FlashState) (old mid new : Seen F) (ticket next : Ticket) (pages k : ℕ) (p : PlacesSome state old mid ticket next pages k) (before : List Entry) (done : Done) →
-    k ≤ pages → completed 1 before ≡ [] → IsIdle new.book → Completes state mid new before 1 p.from.going.number p.from.going.command done → EndsWrite state old new ticket pages
-ends_behind state old mid new ticket next pages k p before done few silent idle h =
+    k ≤ pages → completed 1 before ≡ [] → OthersStaySilent 1 before → IsIdle new.book → Completes state mid new before 1 p.from.going.number p.from.going.command done → EndsWrite state old new ticket pages
+ends_behind state old mid new ticket next pages k p before done few silent others idle h =
     let host : Entry = entries.Host 1 p.from.going.number p.from.going.command done.reply done.moment in
     record {
       from = p.from;
       es = p.es ++ (before ++ host ∷ []);
       grown = grows-joined state old mid new p.es (before ++ host ∷ []) p.grown p.well (grows-step state mid new _ h.step);
+      handed_is = h.step.handed_is ∙ p.handed_is;
+      others = silent-joined 1 p.es (before ++ host ∷ []) p.others (silent-completed 1 p.from.going.number p.from.going.command before done.reply done.moment others);
       completes = filter_map-append (completed_by 1) p.es (before ++ host ∷ [])
           ∙ ap (λ xs. xs ++ completed 1 (before ++ host ∷ [])) p.silent
           ∙ filter_map-append (completed_by 1) before (host ∷ [])
@@ -99,7 +108,7 @@ pub ends_alone : {F : Type 0} (state : F → FlashState) (old mid new : Seen F) 
     k ≤ pages → EndsAlone state mid new next (record p.from.going { placed = k }) reply done → EndsWrite state old new ticket pages
 ends_alone state old mid new ticket next pages k p reply done few e =
     let h = subst (λ q. Completes state mid new [] q p.from.going.number p.from.going.command done) (queue_one state old mid ticket next pages k p) e.completes in
-    ends_behind state old mid new ticket next pages k p [] done few refl
+    ends_behind state old mid new ticket next pages k p [] done few refl (silent-none 1)
     (idle_ended mid.book new.book p.from.going.number p.from.going.command done.reply done.moment h.step.book.config_is h.step.book.entries_are p.from.write) h
 
 -- a write ended in place of a page
@@ -110,7 +119,7 @@ ends_placing state old mid new ticket next pages k p done few (inr (inl wants)) 
 ends_placing state old mid new ticket next pages k p done few (inr (inr fails)) =
     let shut : Entry = entries.Shut p.from.going.rg p.from.going.ruh in
     let h = subst (λ q. Completes state mid new (shut ∷ []) q p.from.going.number p.from.going.command done) (queue_one state old mid ticket next pages k p) fails.1.completes in
-    ends_behind state old mid new ticket next pages k p (shut ∷ []) done few refl
+    ends_behind state old mid new ticket next pages k p (shut ∷ []) done few refl (silent-shut 1 p.from.going.rg p.from.going.ruh)
     (idle_ended_behind mid.book new.book shut p.from.going.number p.from.going.command done.reply done.moment h.step.book.config_is h.step.book.entries_are p.from.write) h
 
 -- a write ended whose pages were placed
@@ -128,7 +137,9 @@ pub ends_at_once : {F : Type 0} (state : F → FlashState) (old mid new : Seen F
 ends_at_once state old mid new number command done same idle h = record {
   es = entries.Host 1 number command done.reply done.moment ∷ [];
   grown = grows-reserved state old mid new _ same (grows-step state mid new _ h.step);
+  handed_is = h.step.handed_is ∙ ap (λ (s : Seen _). s.handed) same;
   completes = refl;
+  others = silent-host 1 number command done.reply done.moment;
   steps = omega (arith, h.step.book.spent_is, ap (λ (s : Seen _). s.book.spent) same);
   idle = idle_still mid.book new.book number command done.reply done.moment h.step.book.config_is h.step.book.entries_are (subst (λ (s : Seen _). IsIdle s.book) (sym same) idle);
 }
@@ -138,15 +149,17 @@ same_going a b x p q = cc
 
 -- a write was started, and ended
 pub ends_started : {F : Type 0} (state : F → FlashState) (old mid started new : Seen F) (number : ℕ) (command : Command) (ticket : Ticket) →
-    mid ≡ with_spare old mid.book.spare → Starts state mid started 1 number command ticket → blocks_written command + 2 ≤ 66 → EndsWrite state started new ticket (blocks_written command) → ServesOne state old new number command
-ends_started state old mid started new number command ticket same h few e =
+    mid ≡ with_spare old mid.book.spare → Starts state mid started 1 number command ticket → EndsWrite state started new ticket (blocks_written command) → ServesOne state old new number command
+ends_started state old mid started new number command ticket same h e =
     let start : Entry = entries.Started 1 number command h.target.rg h.target.ruh h.target.valid in
     let going = same_going e.from.going _ _ e.from.ticket_is.going_is h.going.going_is in
     record {
       es = start ∷ e.es;
       grown = grows-reserved state old mid new _ same (grows-joined state mid started new (start ∷ []) e.es (grows-step state mid started _ h.step) h.well e.grown);
+      handed_is = e.handed_is ∙ h.step.handed_is ∙ ap (λ (s : Seen _). s.handed) same;
+      others = silent-joined 1 (start ∷ []) e.es (silent-started 1 number command h.target.rg h.target.ruh h.target.valid) e.others;
       completes = e.completes ∙ ap (λ (g : Going). (g.number, g.command) ∷ []) going;
-      steps = omega (arith, h.step.book.spent_is, e.steps, few, ap (λ (s : Seen _). s.book.spent) same);
+      steps = omega (arith, h.step.book.spent_is, e.steps, h.few, ap (λ (s : Seen _). s.book.spent) same, ap (λ (s : Seen _). s.book.config.blocks_per_command) same);
       idle = e.idle;
     }
 
@@ -164,11 +177,14 @@ numbered-more trace n command low is =
     ∙ ap (λ k. numbered (take n trace) ++ (k, command) ∷ []) size
 
 -- no command was served yet
-pub first-none : {F : Type 0} (state : F → FlashState) (old : Seen F) (trace : List Command) → old.failed ≡ false → ServesFirst state old old trace 0 false
-first-none state old trace well = record {
+pub first-none : {F : Type 0} (state : F → FlashState) (old : Seen F) (trace : List Command) → old.failed ≡ false → IsIdle old.book → ServesFirst state old old trace 0 false
+first-none state old trace well idle = record {
   es = [];
   grown = grows-none state old well;
+  handed_is = refl;
   completes = refl;
+  others = silent-none 1;
+  idle = idle;
   steps = omega arith;
   well = well;
 }
@@ -179,8 +195,13 @@ pub first-more : {F : Type 0} (state : F → FlashState) (old mid new : Seen F) 
 first-more state old mid new trace n command failed p low is q well = record {
   es = p.es ++ q.es;
   grown = grows-joined state old mid new p.es q.es p.grown p.well q.grown;
+  handed_is = q.handed_is ∙ p.handed_is;
+  others = silent-joined 1 p.es q.es p.others q.others;
+  idle = q.idle;
   completes = filter_map-append (completed_by 1) p.es q.es ∙ ap (λ xs. xs ++ completed 1 q.es) p.completes ∙ ap (λ xs. numbered (take n trace) ++ xs) q.completes ∙ sym (numbered-more trace n command low is);
-  steps = omega (arith, p.steps, q.steps);
+  steps =
+      let same : most_steps mid.book.config ≡ most_steps old.book.config = ap most_steps p.grown.config_is in
+      omega (arith, p.steps, q.steps, same, add-mul n 1 (most_steps old.book.config), one-mul (most_steps old.book.config));
   well = well;
 }
 
@@ -189,7 +210,10 @@ pub first-reserved : {F : Type 0} (state : F → FlashState) (old mid new : Seen
 first-reserved state old mid new trace n p same = record {
   es = p.es;
   grown = grows-reserving state old mid new p.es same p.grown;
+  handed_is = ap (λ (s : Seen _). s.handed) same ∙ p.handed_is;
   completes = p.completes;
+  others = p.others;
+  idle = subst (λ (s : Seen _). IsIdle s.book) (sym same) p.idle;
   steps = omega (arith, p.steps, ap (λ (s : Seen _). s.book.spent) same);
   well = ap (λ (s : Seen _). s.failed) same ∙ p.well;
 }

@@ -9,10 +9,10 @@ use Rattle.fdp_base.specs.declared.entry.Entry.{Entry}
 use Rattle.fdp_base.specs.declared.entry.Totals.{Totals}
 use Rattle.fdp_base.specs.Counts.{counted}
 use Rattle.fdp_base.specs.Geometry.{all_pages}
-use Rattle.fdp_base.specs.History.{first_state, fresh, point_of, state_of, totals_of}
+use Rattle.fdp_rules.specs.History.{first_state, fresh, point_of, state_of, totals_of}
 use Rattle.fdp_base.specs.Placement.{geometry_of}
-use Rattle.fdp_base.specs.Queue.{completed, numbered}
-use Rattle.fdp_base.specs.Totals.{media_blocks}
+use Rattle.fdp_rules.specs.Queue.{completed, numbered}
+use Rattle.fdp_rules.specs.Totals.{media_blocks}
 use Rattle.fdp_flash.specs.declared.cell.Cell.TheVariants.{Blank}
 use Rattle.fdp_flash.specs.declared.memory.FlashMem.{FlashMem}
 use Rattle.fdp_flash.specs.declared.plan.Plan.{Plan}
@@ -22,6 +22,8 @@ use Rattle.fdp_flash.specs.Plan.{plan_is_empty}
 use Rattle.fdp_io.specs.Sink.{HoldsFront, SinkState}
 use Rattle.fdp_core.specs.Pages.{blank_cells, cells_from, cells_of}
 use Rattle.fdp_core.specs.Seen.{HoldsHistory, Seen, counted_more, new_over, tells_failure}
+use Rattle.fdp_core.specs.Silence.{OthersStaySilent}
+use Rattle.fdp_core.specs.Steps.{most_steps}
 use Rattle.fdp_core.specs.UsedOnce.{IsLegalOnce, IsLegalOnceAfter}
 use Rattle.fdp_cli.specs.declared.print.Cut.{Cut}
 use Rattle.fdp_cli.specs.declared.print.Cut.TheVariants as cuts
@@ -39,7 +41,7 @@ small_count zero low = refl
 small_count (suc n) low = let before = small_count n (omega (arith, low)) in ap counted before ∙ omega (arith, low)
 
 -- the group that was made over a blank flash
-fresh_over : (c : DriveConfig) (plan : Plan) (flash : FlashMem) (group : Seen FlashMem) → BeginsWith (geometry_of c) (blank_cells c) plan flash → IsTrue (plan_is_empty plan) → group ≡ new_over c flash → IsFresh c group
+fresh_over : (c : DriveConfig) (plan : Plan) (flash : FlashMem) (group : Seen FlashMem) → BeginsWith (geometry_of c) (blank_cells c) plan flash → IsTrue (plan_is_empty plan) → group ≡ new_over memory_state c flash → IsFresh c group
 fresh_over c plan flash group begins empty is =
     let plan_is : plan_of flash ≡ plan = begins.plan_is in
     subst (IsFresh c) (sym is) (record {
@@ -63,7 +65,7 @@ unfolding IsLegalOnceAfter
 legal_fresh c group f = subst (λ (s : Seen FlashMem). IsLegalOnce true s.book.config s.book.entries) (sym f.is_new) tt
 
 -- the configuration of the group that served a trace
-pub same_config : (c : DriveConfig) (old new : Seen FlashMem) (flash : FlashMem) (trace : List Command) → old ≡ new_over c flash → ServesFirst memory_state old new trace (length trace) false → new.book.config ≡ c
+pub same_config : (c : DriveConfig) (old new : Seen FlashMem) (flash : FlashMem) (trace : List Command) → old ≡ new_over memory_state c flash → ServesFirst memory_state old new trace (length trace) false → new.book.config ≡ c
 same_config c old new flash trace is served = served.grown.config_is ∙ ap (λ (s : Seen FlashMem). s.book.config) is
 
 -- the record of a group that served the whole trace
@@ -80,6 +82,7 @@ record_of c old new trace es fresh served is small =
       entries_are = is;
       legal = subst (λ (x : DriveConfig). IsLegalOnce true x es) config (subst (λ xs. IsLegalOnce true new.book.config xs) is (served.grown.legal (legal_fresh c old fresh)));
       whole = ap (completed 1) all ∙ served.completes ∙ ap numbered (take_all (length trace) trace (omega arith));
+      others = subst (OthersStaySilent 1) (sym all) served.others;
       unfailing = ap (list_any tells_failure) all ∙ served.grown.flash_is.told_by ∙ served.well;
       held = record {
         no_faults = served.grown.flash_is.no_fault served.well ∙ fresh.blank.faults;
@@ -93,16 +96,17 @@ pub served_whole : {F : Type 0} (state : F → FlashState) (old new : Seen F) (t
 served_whole state old new trace end is served = subst (λ e. Serves state old new trace (Ok e)) is served
 
 -- the history of a group that served a trace is short
-pub served_few : (c : DriveConfig) (flash : FlashMem) (old new : Seen FlashMem) (trace : List Command) (count : ℕ) → old ≡ new_over c flash → ServesFirst memory_state old new trace (length trace) false → count ≤ 300 * new.book.spent + 1 → length trace ≤ 8192 → count ≤ 2 ^ 28
-served_few c flash old new trace count made served few short = few_entries count new.book.spent (length trace) few (omega (arith, served.steps, ap (λ (s : Seen FlashMem). s.book.spent) made)) short
+pub served_few : (c : DriveConfig) (flash : FlashMem) (old new : Seen FlashMem) (trace : List Command) (count : ℕ) → c.blocks_per_command ≤ 64 → old ≡ new_over memory_state c flash → ServesFirst memory_state old new trace (length trace) false → count ≤ 300 * new.book.spent + 1 → length trace ≤ 8192 → count ≤ 2 ^ 28
+served_few c flash old new trace count most made served few short =
+    few_entries c count new.book.spent (length trace) most few (omega (arith, served.steps, ap (λ (s : Seen FlashMem). s.book.spent) made, ap (λ (s : Seen FlashMem). length trace * most_steps s.book.config) made)) short
 
 -- the record of the group that was made over a blank flash and then served the whole trace
 pub recorded : (c : DriveConfig) (plan : Plan) (flash : FlashMem) (old new : Seen FlashMem) (trace : List Command) (es : List Entry) →
-    BeginsWith (geometry_of c) (blank_cells c) plan flash → IsTrue (plan_is_empty plan) → old ≡ new_over c flash →
+    c.blocks_per_command ≤ 64 → BeginsWith (geometry_of c) (blank_cells c) plan flash → IsTrue (plan_is_empty plan) → old ≡ new_over memory_state c flash →
     ServesFirst memory_state old new trace (length trace) false → es ≡ new.book.entries → length es ≤ 300 * new.book.spent + 1 → length trace ≤ 8192 → IsRecordOf c trace es
-recorded c plan flash old new trace es begins empty made served shown few short =
+recorded c plan flash old new trace es most begins empty made served shown few short =
     record_of c old new trace es (fresh_over c plan flash old begins empty made) served (sym shown)
-    (few_pages es (served_few c flash old new trace (length es) made served few short))
+    (few_pages es (served_few c flash old new trace (length es) most made served few short))
 
 -- what was printed where memory was wanting
 pub printed_some : (old new : SinkState) (text : List ℕ) (cut : Cut) → cut ≡ cuts.NoMemory → Prints old new text (Err cut) → HoldsSome old new text
@@ -118,12 +122,12 @@ unfolding blank_cells
 begun_blank c geometry plan flash is begins = subst (λ (x : Geometry). BeginsWith x (replicate (all_pages x) Blank) plan flash) is begins
 
 -- no write is going before the first command
-pub idle_fresh : (c : DriveConfig) (flash : FlashMem) (group : Seen FlashMem) → group ≡ new_over c flash → IsIdle group.book
+pub idle_fresh : (c : DriveConfig) (flash : FlashMem) (group : Seen FlashMem) → group ≡ new_over memory_state c flash → IsIdle group.book
 unfolding point_of state_of first_state
 idle_fresh c flash group is = subst (λ (s : Seen FlashMem). IsIdle s.book) (sym is) refl
 
 -- the sums of a group that served a trace can be told in bytes
-pub served_small : (told : Bool) (c : DriveConfig) (flash : FlashMem) (old new : Seen FlashMem) (trace : List Command) (es : List Entry) (sums : Totals) → old ≡ new_over c flash → ServesFirst memory_state old new trace (length trace) false →
+pub served_small : (told : Bool) (c : DriveConfig) (flash : FlashMem) (old new : Seen FlashMem) (trace : List Command) (es : List Entry) (sums : Totals) → c.blocks_per_command ≤ 64 → old ≡ new_over memory_state c flash → ServesFirst memory_state old new trace (length trace) false →
     es ≡ new.book.entries → length es ≤ 300 * new.book.spent + 1 → length trace ≤ 8192 → IsLegalOnce told new.book.config new.book.entries → sums ≡ totals_of (fresh new.book.config) new.book.entries → AreSmall sums
-served_small told c flash old new trace es sums made served shown few short legal is =
-    subst AreSmall (sym is) (small_sums told new.book.config new.book.entries legal (omega (arith, served_few c flash old new trace (length es) made served few short, ap length shown)))
+served_small told c flash old new trace es sums most made served shown few short legal is =
+    subst AreSmall (sym is) (small_sums told new.book.config new.book.entries legal (omega (arith, served_few c flash old new trace (length es) most made served few short, ap length shown)))

@@ -1,6 +1,7 @@
 -- The sums of a short history are small.
 use Rattle.std.proofs.Common.{◌≡◌, ℕ, ◌+◌, ◌*◌, ◌^◌, ◌≤◌, Bool, true, false, cond, List, [], ◌∷◌, ◌++◌, length, ap, arith, inl, inr}
 use Rattle.std.proofs.lemmas.List.Sums.{sum_by-cons}
+use Rattle.std.proofs.lemmas.Nat.{mul-le}
 use Rattle.fdp_base.specs.declared.command.Command.{Command}
 use Rattle.fdp_base.specs.declared.command.Command.TheVariants as commands
 use Rattle.fdp_base.specs.declared.config.DriveConfig.{DriveConfig}
@@ -8,9 +9,10 @@ use Rattle.fdp_base.specs.declared.entry.Entry.{Entry}
 use Rattle.fdp_base.specs.declared.entry.Entry.TheVariants as entries
 use Rattle.fdp_base.specs.declared.entry.Reply.{Reply}
 use Rattle.fdp_base.specs.CommandKinds.{IsWellFormed}
-use Rattle.fdp_base.specs.History.{fresh, totals_of}
-use Rattle.fdp_base.specs.Step.{Follows}
-use Rattle.fdp_base.specs.Totals.{blocks_written, erases, erases_of, host_blocks, host_blocks_of, media_blocks, media_blocks_of}
+use Rattle.fdp_rules.specs.History.{fresh, totals_of}
+use Rattle.fdp_rules.specs.Step.{Follows}
+use Rattle.fdp_rules.specs.Totals.{blocks_written, erases, erases_of, host_blocks, host_blocks_of, media_blocks, media_blocks_of}
+use Rattle.fdp_core.specs.Steps.{most_steps}
 use Rattle.fdp_core.specs.UsedOnce.{IsLegalOnce, IsLegalOnceAfter, IsStepOnce}
 use Rattle.fdp_cli.specs.Printing.{AreSmall}
 
@@ -92,9 +94,13 @@ few_erases : (es : List Entry) → erases es ≤ length es
 few_erases [] = omega arith
 few_erases (e ∷ es) = omega (arith, few_erases_of e, few_erases es, sum_by-cons erases_of e es)
 
--- the entries of at most 8,192 commands of at most 66 steps are few
-pub few_entries : (entries spent count : ℕ) → entries ≤ 300 * spent + 1 → spent ≤ 66 * count → count ≤ 8192 → entries ≤ 2 ^ 28
-few_entries entries spent count few steps low = omega (arith, few, steps, low)
+-- the steps of at most 8,192 commands of at most 64 blocks are few
+pub few_steps : (c : DriveConfig) (count : ℕ) → c.blocks_per_command ≤ 64 → count ≤ 8192 → count * most_steps c ≤ 8192 * 66
+few_steps c count most low = mul-le count (most_steps c) 8192 66 low (omega (arith, most))
+
+-- so are their entries
+pub few_entries : (c : DriveConfig) (entries spent count : ℕ) → c.blocks_per_command ≤ 64 → entries ≤ 300 * spent + 1 → spent ≤ count * most_steps c → count ≤ 8192 → entries ≤ 2 ^ 28
+few_entries c entries spent count most few steps low = omega (arith, few, steps, few_steps c count most low)
 
 -- so are their pages
 pub few_pages : (es : List Entry) → length es ≤ 2 ^ 28 → media_blocks es ≤ 2 ^ 28

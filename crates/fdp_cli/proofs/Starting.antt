@@ -7,10 +7,10 @@ use Rattle.fdp_base.specs.declared.command.Command.TheVariants as commands
 use Rattle.fdp_base.specs.declared.config.DriveConfig.{DriveConfig}
 use Rattle.fdp_base.specs.declared.status.Status.{Status}
 use Rattle.fdp_base.specs.CommandKinds.{Write, is_write, write_of}
-use Rattle.fdp_base.specs.Point.{Point}
-use Rattle.fdp_base.specs.Refusal.{Check, checks_of, first_that_holds, refusal_of}
-use Rattle.fdp_base.specs.Target.{Target}
-use Rattle.fdp_base.specs.Totals.{blocks_written}
+use Rattle.fdp_rules.specs.Point.{Point}
+use Rattle.fdp_rules.specs.Refusal.{Check, checks_of, first_that_holds, refusal_of}
+use Rattle.fdp_rules.specs.Target.{Target}
+use Rattle.fdp_rules.specs.Totals.{blocks_written}
 use Rattle.fdp_flash.specs.FlashState.{FlashState}
 use Rattle.fdp_core.specs.declared.ticket.Ticket.{Ticket}
 use Rattle.fdp_core.specs.Answers.{Starts}
@@ -84,7 +84,3 @@ started-write state old new number command ticket s = targeted _ command s.targe
 pub started_spare : {F : Type 0} (state : F → FlashState) (old new : Seen F) (number : ℕ) (command : Command) (ticket : Ticket) → old.book.config.blocks_per_command + 2 ≤ old.book.spare → Starts state old new 1 number command ticket → blocks_written command + 1 ≤ new.book.spare
 started_spare state old new number command ticket spare s =
     omega (arith, spare, s.step.book.spare_is, accepted-few old.book.config _ command s.accepted (started-write state old new number command ticket s))
-
--- nor than a command may have
-pub started_few : {F : Type 0} (state : F → FlashState) (old new : Seen F) (number : ℕ) (command : Command) (ticket : Ticket) → old.book.config.blocks_per_command ≤ 64 → Starts state old new 1 number command ticket → blocks_written command + 2 ≤ 66
-started_few state old new number command ticket most s = omega (arith, most, accepted-few old.book.config _ command s.accepted (started-write state old new number command ticket s))

@@ -1,5 +1,5 @@
 -- What a run finds to serve: a configuration and the commands of a trace.
-use Rattle.std.specs.Prelude.{String, ◌≡◌, ◌⊎◌, ℕ, nat_lt, IsTrue, if◌then◌else◌, List, length, Option, Some, None, Result, Ok, Err}
+use Rattle.std.specs.Prelude.{String, ◌≡◌, ◌⊎◌, ℕ, ◌<◌, ◌≤◌, true, false, IsTrue, List, length, Option, Some, None, Result, Ok, Err}
 use Rattle.std.specs.declared.alloc.Global.{Global}
 use Rattle.std.specs.List.{list_all}
 use Rattle.fdp_base.specs.declared.command.Command.{Command}
@@ -8,41 +8,61 @@ use Rattle.fdp_base.specs.Config.{IsValidConfig}
 use Rattle.fdp_base.specs.Counts.{Rose}
 use Rattle.fdp_config.specs.declared.fault.NoConfig.{NoConfig}
 use Rattle.fdp_io.specs.Bench.{BenchState}
-use Rattle.fdp_trace.specs.declared.fault.FaultKind.{FaultKind}
-use Rattle.fdp_trace.specs.Trace.{trace_of}
+use Rattle.fdp_trace.specs.Grammar.{IsTraceOf, IsFaultOf}
 use Rattle.fdp_cli.specs.declared.fault.Fault.{Fault}
 use Rattle.fdp_cli.specs.declared.fault.Fault.TheVariants as faults
 use Rattle.fdp_cli.specs.Asked.{Texts, asked_of}
 use Rattle.fdp_cli.specs.Servable.{is_served}
 use Rattle.fdp_cli.specs.Configured.{ReadsConfig, ReadsNoConfig}
 
--- the commands of a trace, or its fault
-abbrev pub served_of : Result (List Command) (ℕ × FaultKind) → Result (List Command) Fault
-served_of (Err fault) = Err (faults.TraceLine fault.0 fault.1)
-served_of (Ok trace) = if list_all is_served trace then Ok trace else Err faults.NotBuilt
+-- a text comes to these commands: it is their trace, and all of them are such as are served
+pub record IsServedTrace (text : List ℕ) (commands : List Command) : Type 0 where
+  pub trace : IsTraceOf text commands
+  pub served : list_all is_served commands ≡ true
 
-abbrev pub commands_of : List ℕ → Result (List Command) Fault
-commands_of text = served_of (trace_of text)
+-- a text is the trace of commands that are not all served
+pub record IsUnservedTrace (text : List ℕ) : Type 0 where
+  pub commands : List Command
+  pub trace : IsTraceOf text commands
+  pub unserved : list_all is_served commands ≡ false
 
--- the commands of the text of a name, or its fault
-abbrev pub text_of : Option (List ℕ) → Result (List Command) Fault
-text_of None = Err faults.TraceAbsent
-text_of (Some text) = if nat_lt 16777216 (length text) then Err faults.TraceLong else commands_of text
+-- a text that may be there is there, of at most 16,777,216 bytes
+pub record IsReadable (found : Option (List ℕ)) (text : List ℕ) : Type 0 where
+  pub there : found ≡ Some text
+  pub short : length text ≤ 16777216
+
+-- it is there, and longer
+pub record IsTooLong (found : Option (List ℕ)) : Type 0 where
+  pub text : List ℕ
+  pub there : found ≡ Some text
+  pub long : 16777216 < length text
+
+-- the fault of a text, unless memory was wanting; no text comes to a fault of the words or of a configuration
+abbrev pub HasFault : List ℕ → Fault → Type 0
+HasFault text faults.Usage = ⊥
+HasFault text faults.NotBuilt = IsUnservedTrace text
+HasFault text (faults.Config cause) = ⊥
+HasFault text faults.TraceAbsent = ⊥
+HasFault text faults.TraceLong = ⊥
+HasFault text (faults.TraceLine line kind) = IsFaultOf text line kind
+HasFault text faults.Source = ⊥
+HasFault text faults.NoMemory = Unit {0}
+
+-- a text that may be there comes to these commands, or to this fault
+abbrev pub ComesTo : Option (List ℕ) → Result (List Command) Fault → Type 0
+ComesTo found (Ok commands) = (text : List ℕ) × IsReadable found text × IsServedTrace text commands
+ComesTo found (Err faults.Usage) = ⊥
+ComesTo found (Err faults.NotBuilt) = (text : List ℕ) × IsReadable found text × IsUnservedTrace text
+ComesTo found (Err (faults.Config cause)) = ⊥
+ComesTo found (Err faults.TraceAbsent) = found ≡ None
+ComesTo found (Err faults.TraceLong) = IsTooLong found
+ComesTo found (Err (faults.TraceLine line kind)) = (text : List ℕ) × IsReadable found text × IsFaultOf text line kind
+ComesTo found (Err faults.Source) = ⊥
+ComesTo found (Err faults.NoMemory) = ⊥
 
 -- where the bench tells its texts, the text of this name comes to this
 abbrev pub Reads : BenchState → List ℕ → Result (List Command) Fault → Type 0
-Reads bench name found = IsTrue bench.told → text_of (bench.text name) ≡ found
-
--- the text of a trace comes to this fault, unless memory was wanting; no text comes to a fault of the words or of a configuration
-abbrev pub IsFaultOf : Fault → Result (List Command) Fault → Type 0
-IsFaultOf faults.Usage found = ⊥
-IsFaultOf faults.NotBuilt found = found ≡ Err faults.NotBuilt
-IsFaultOf (faults.Config cause) found = ⊥
-IsFaultOf faults.TraceAbsent found = ⊥
-IsFaultOf faults.TraceLong found = ⊥
-IsFaultOf (faults.TraceLine line kind) found = found ≡ Err (faults.TraceLine line kind)
-IsFaultOf faults.Source found = ⊥
-IsFaultOf faults.NoMemory found = Unit {0}
+Reads bench name found = IsTrue bench.told → ComesTo (bench.text name) found
 
 -- why a run finds no configuration of this name
 abbrev pub ConfigLacks : BenchState → BenchState → List ℕ → Fault → Type 0
@@ -65,6 +85,17 @@ TraceLacks old new name faults.TraceLong = Reads old name (Err faults.TraceLong)
 TraceLacks old new name (faults.TraceLine line kind) = Reads old name (Err (faults.TraceLine line kind))
 TraceLacks old new name faults.Source = Rose old.faults new.faults
 TraceLacks old new name faults.NoMemory = Unit {0}
+
+-- a call of the bench that failed was counted where that is the fault, and nothing was where it is another
+abbrev pub CountsSource : ℕ → ℕ → Fault → Type 0
+CountsSource old new faults.Usage = new ≡ old
+CountsSource old new faults.NotBuilt = new ≡ old
+CountsSource old new (faults.Config cause) = new ≡ old
+CountsSource old new faults.TraceAbsent = new ≡ old
+CountsSource old new faults.TraceLong = new ≡ old
+CountsSource old new (faults.TraceLine line kind) = new ≡ old
+CountsSource old new faults.Source = Rose old new
+CountsSource old new faults.NoMemory = new ≡ old
 
 -- the words ask for a configuration and a trace, and these are they; a drive can be made with the configuration
 pub record Finds (bench : BenchState) (words : List (String Global)) (c : DriveConfig) (trace : List Command) : Type 0 where

@@ -2,9 +2,9 @@
 use Rattle.std.specs.Prelude.{ℕ, List, ◌++◌}
 use Rattle.fdp_base.specs.declared.config.DriveConfig.{DriveConfig}
 use Rattle.fdp_base.specs.declared.entry.Entry.{Entry}
-use Rattle.fdp_base.specs.History.{fresh, totals_of}
-use Rattle.fdp_base.specs.Output.{queue_text}
-use Rattle.fdp_base.specs.RunOutput.{totals_line}
+use Rattle.fdp_rules.specs.History.{fresh, totals_of}
+use Rattle.fdp_output.specs.Output.{queue_text}
+use Rattle.fdp_output.specs.RunOutput.{totals_line}
 
 -- the completions of queue 1 and the line of the sums. The whole output of a run (`output_of` in RunOutput) has the usage of
 -- the handles and the events behind them, which are not printed yet

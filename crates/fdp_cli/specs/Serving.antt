@@ -4,14 +4,15 @@ use Rattle.std.specs.declared.alloc.AllocError.{AllocError}
 use Rattle.fdp_base.specs.declared.command.Command.{Command}
 use Rattle.fdp_base.specs.declared.entry.Entry.{Entry}
 use Rattle.fdp_base.specs.CommandKinds.{is_write}
-use Rattle.fdp_base.specs.PlainState.{Going}
-use Rattle.fdp_base.specs.Queue.{completed, numbered}
-use Rattle.fdp_base.specs.Totals.{blocks_written}
+use Rattle.fdp_rules.specs.PlainState.{Going}
+use Rattle.fdp_rules.specs.Queue.{completed, numbered}
+use Rattle.fdp_rules.specs.Totals.{blocks_written}
 use Rattle.fdp_flash.specs.FlashState.{FlashState}
 use Rattle.fdp_core.specs.declared.ticket.Ticket.{Ticket}
 use Rattle.fdp_core.specs.Book.{BookSeen, state_in}
 use Rattle.fdp_core.specs.Seen.{Seen}
-use Rattle.fdp_core.specs.Steps.{Grows}
+use Rattle.fdp_core.specs.Silence.{OthersStaySilent}
+use Rattle.fdp_core.specs.Steps.{Grows, most_steps}
 use Rattle.fdp_core.specs.Tickets.{IsTicketOf}
 use Rattle.fdp_cli.specs.declared.serving.ServeEnd.{ServeEnd}
 use Rattle.fdp_cli.specs.declared.serving.ServeEnd.TheVariants as ends
@@ -29,24 +30,28 @@ pub record IsPlacing (b : BookSeen) (ticket : Ticket) (pages placed : ℕ) : Typ
   pub pages_are : blocks_written going.command ≡ pages
   pub placed_are : going.placed ≡ placed
 
--- the entries that place so many pages of a going write were added, and no other
+-- the entries that place so many pages of a going write were added, and no other; the other queues are silent in them
 pub record PlacesSome {F : Type 0} (state : F → FlashState) (old new : Seen F) (ticket next : Ticket) (pages placed : ℕ) : Type 0 where
   pub from : IsPlacing old.book ticket pages 0
   pub to : IsTicketOf (state_in new.book) next (record from.going { placed = placed })
   pub same : next ≡ ticket
   pub es : List Entry
   pub grown : Grows state old new es
+  pub handed_is : new.handed ≡ old.handed
   pub silent : completed 1 es ≡ []
+  pub others : OthersStaySilent 1 es
   pub spent : new.book.spent ≡ old.book.spent + placed
   pub spare : new.book.spare + placed ≡ old.book.spare
   pub well : new.failed ≡ false
 
--- the entries that end a going write were added: they complete its command, once
+-- the entries that end a going write were added: they complete its command, once, and the other queues are silent in them
 pub record EndsWrite {F : Type 0} (state : F → FlashState) (old new : Seen F) (ticket : Ticket) (pages : ℕ) : Type 0 where
   pub from : IsPlacing old.book ticket pages 0
   pub es : List Entry
   pub grown : Grows state old new es
+  pub handed_is : new.handed ≡ old.handed
   pub completes : completed 1 es ≡ (from.going.number, from.going.command) ∷ []
+  pub others : OthersStaySilent 1 es
   pub steps : new.book.spent ≤ old.book.spent + pages + 1
   pub idle : IsIdle new.book
 
@@ -55,24 +60,31 @@ abbrev pub PlacesAll : {F : Type 0} → (F → FlashState) → Seen F → Seen F
 PlacesAll state old new ticket pages (Some next) = PlacesSome state old new ticket next pages pages
 PlacesAll state old new ticket pages None = EndsWrite state old new ticket pages
 
--- the entries of one command were added: they complete this command, once. It takes at most 66 steps: the first, one for each
--- of at most 64 blocks, and the last
+-- the entries of one command were added: they complete this command, once, and the other queues are silent in them. It takes no
+-- more steps than a command may have: the first, one for each block, and the last
 pub record ServesOne {F : Type 0} (state : F → FlashState) (old new : Seen F) (number : ℕ) (command : Command) : Type 0 where
   pub es : List Entry
   pub grown : Grows state old new es
+  pub handed_is : new.handed ≡ old.handed
   pub completes : completed 1 es ≡ (number, command) ∷ []
-  pub steps : new.book.spent ≤ old.book.spent + 66
+  pub others : OthersStaySilent 1 es
+  pub steps : new.book.spent ≤ old.book.spent + most_steps old.book.config
   pub idle : IsIdle new.book
 
--- the first commands of a trace were completed, in order, each once, and nothing else
+-- the first commands of a trace were completed, in order, each once, and nothing else: the other queues are silent, and no
+-- write is going
 pub record ServesFirst {F : Type 0} (state : F → FlashState) (old new : Seen F) (trace : List Command) (count : ℕ) (failed : Bool) : Type 0 where
   pub es : List Entry
   pub grown : Grows state old new es
+  pub handed_is : new.handed ≡ old.handed
   pub completes : completed 1 es ≡ numbered (take count trace)
-  pub steps : new.book.spent ≤ old.book.spent + 66 * count
+  pub others : OthersStaySilent 1 es
+  pub steps : new.book.spent ≤ old.book.spent + count * most_steps old.book.config
+  pub idle : IsIdle new.book
   pub well : new.failed ≡ failed
 
--- the whole trace was served; or a flash call failed or memory was wanting, and the first commands of it were
+-- the whole trace was served; or a flash call failed, or memory was wanting before a command, and the first commands of it
+-- were: then all stands as it does behind the last of them, but for the memory that was reserved
 abbrev pub Serves : {F : Type 0} → (F → FlashState) → Seen F → Seen F → List Command → Result ServeEnd AllocError → Type 0
 Serves state old new trace (Ok ends.Whole) = ServesFirst state old new trace (length trace) false
 Serves state old new trace (Ok ends.Broken) = (count : ℕ) × (count ≤ length trace) × ServesFirst state old new trace count true

@@ -8,7 +8,7 @@ use Rattle.fdp_io.specs.Bench.{BenchState}
 use Rattle.fdp_io.specs.Sink.{Holds, HoldsFront, SinkState}
 use Rattle.fdp_cli.specs.declared.fault.Fault.{Fault}
 use Rattle.fdp_cli.specs.Faults.{fault_text, status_of}
-use Rattle.fdp_cli.specs.Found.{Finds, Lacks}
+use Rattle.fdp_cli.specs.Found.{CountsSource, Finds, Lacks}
 use Rattle.fdp_cli.specs.OutputText.{printed_text}
 use Rattle.fdp_cli.specs.Printing.{HoldsSome}
 use Rattle.fdp_cli.specs.Session.{IsRecordOf}
@@ -37,8 +37,9 @@ Runs old new c trace status =
 abbrev pub FindsAndRuns : BenchState → List (String Global) → SinkState → SinkState → ℕ → Type 0
 FindsAndRuns bench words old new status = (c : DriveConfig) × (trace : List Command) × Finds bench words c trace × Runs old new c trace status
 
--- a configuration and a trace were found, and the trace was served; or there was a fault
+-- a configuration and a trace were found, and the trace was served; or there was a fault. The bench counts a call that failed
+-- where that is the fault, and nothing else
 abbrev pub Answers : BenchState → BenchState → List (String Global) → SinkState → SinkState → ℕ → Type 0
 Answers bench bench' words old new status =
-    FindsAndRuns bench words old new status
-    ⊎ ((fault : Fault) × Lacks bench bench' words fault × Refuses old new fault status)
+    ((bench'.faults ≡ bench.faults) × FindsAndRuns bench words old new status)
+    ⊎ ((fault : Fault) × CountsSource bench.faults bench'.faults fault × Lacks bench bench' words fault × Refuses old new fault status)

@@ -5,7 +5,7 @@ ghost use Rattle.fdp_base.specs.Config.{IsValidConfig};
 ghost use Rattle.fdp_io.specs.Bench.{SameTexts};
 ghost use Rattle.fdp_cli.specs.Asked.{asked_of};
 ghost use Rattle.fdp_cli.specs.Configured.{ReadsConfig};
-ghost use Rattle.fdp_cli.specs.Found.{ConfigLacks, Finds, IsFaultOf, Lacks, Reads, TraceLacks, commands_of};
+ghost use Rattle.fdp_cli.specs.Found.{ConfigLacks, CountsSource, Finds, HasFault, IsServedTrace, Lacks, Reads, TraceLacks};
 ghost use Rattle.fdp_cli.specs.Servable.{IsServable, is_served};
 
 use crate::asked::asked;
@@ -30,6 +30,9 @@ pub struct Found {
 pub fn find<B: Bench>(alloc: Global, words: &[String], bench: &mut B) -> Result<Found, Fault>
     ensures texts { SameTexts (B.state bench.old) (B.state bench.new) }
     ensures faults { (B.state bench.old).faults ≤ (B.state bench.new).faults }
+    ensures counts { MatchResult result
+        (λ _. (B.state bench.new).faults ≡ (B.state bench.old).faults)
+        (λ fault. CountsSource (B.state bench.old).faults (B.state bench.new).faults fault) }
     ensures answer { MatchResult result
         (λ found. Finds (B.state bench.old) words.now found.config found.trace.items)
         (λ fault. Lacks (B.state bench.old) (B.state bench.new) words.now fault) }
@@ -49,6 +52,9 @@ pub fn find<B: Bench>(alloc: Global, words: &[String], bench: &mut B) -> Result<
 fn find_config<B: Bench>(alloc: Global, name: &str, bench: &mut B) -> Result<DriveConfig, Fault>
     ensures texts { SameTexts (B.state bench.old) (B.state bench.new) }
     ensures faults { (B.state bench.old).faults ≤ (B.state bench.new).faults }
+    ensures counts { MatchResult result
+        (λ _. (B.state bench.new).faults ≡ (B.state bench.old).faults)
+        (λ fault. CountsSource (B.state bench.old).faults (B.state bench.new).faults fault) }
     ensures answer { MatchResult result
         (λ c. ReadsConfig (B.state bench.old) name.now c)
         (λ fault. ConfigLacks (B.state bench.old) (B.state bench.new) name.now fault) }
@@ -71,6 +77,9 @@ fn find_config<B: Bench>(alloc: Global, name: &str, bench: &mut B) -> Result<Dri
 fn find_trace<B: Bench>(alloc: Global, name: &str, bench: &mut B) -> Result<Vec<Command>, Fault>
     ensures texts { SameTexts (B.state bench.old) (B.state bench.new) }
     ensures faults { (B.state bench.old).faults ≤ (B.state bench.new).faults }
+    ensures counts { MatchResult result
+        (λ _. (B.state bench.new).faults ≡ (B.state bench.old).faults)
+        (λ fault. CountsSource (B.state bench.old).faults (B.state bench.new).faults fault) }
     ensures answer { MatchResult result
         (λ commands. Reads (B.state bench.old) name.now (Ok commands.items))
         (λ fault. TraceLacks (B.state bench.old) (B.state bench.new) name.now fault) }
@@ -90,8 +99,8 @@ fn find_trace<B: Bench>(alloc: Global, name: &str, bench: &mut B) -> Result<Vec<
 /// The commands of a text, all of them such as are served.
 fn read_commands(alloc: Global, text: &[u8]) -> Result<Vec<Command>, Fault>
     ensures answer { MatchResult result
-        (λ commands. commands_of text.now ≡ Ok commands.items)
-        (λ fault. IsFaultOf fault (commands_of text.now)) }
+        (λ commands. IsServedTrace text.now commands.items)
+        (λ fault. HasFault text.now fault) }
     ensures served { IfOk result (λ commands. (c : DriveConfig) → All (IsServable c) commands.items) }
     ensures few { IfOk result (λ commands. length commands.items ≤ 8192) }
 {

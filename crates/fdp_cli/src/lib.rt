@@ -2,12 +2,14 @@
 #![tactic(auto)]
 
 mod asked;
+mod exit;
 mod fault;
 mod find;
 mod print;
 mod serving;
 mod top;
 
+pub use exit::drive_process;
 pub use fault::Fault;
 pub use print::{Cut, print_output};
 pub use serving::{ServeEnd, serve};

@@ -1,10 +1,10 @@
 ghost use Rattle.std.specs.Prelude.{◌≡◌, ◌≤◌, ◌^◌, ◌*◌, ◌++◌, ◌∷◌, [], MatchResult, OnOk, codes, decimal};
-ghost use Rattle.fdp_base.specs.Output.{completion_of, stats_line};
+ghost use Rattle.fdp_output.specs.Output.{completion_of, stats_line};
 ghost use Rattle.fdp_base.specs.Config.{IsValidConfig};
-ghost use Rattle.fdp_base.specs.History.{fresh, totals_of};
-ghost use Rattle.fdp_base.specs.RunOutput.{totals_line};
+ghost use Rattle.fdp_rules.specs.History.{fresh, totals_of};
+ghost use Rattle.fdp_output.specs.RunOutput.{totals_line};
 ghost use Rattle.fdp_cli.specs.OutputText.{printed_text};
-ghost use Rattle.fdp_cli.specs.Printing.{AreSmall, HoldsFirst, Prints};
+ghost use Rattle.fdp_cli.specs.Printing.{AreSmall, CountsCut, HoldsFirst, Prints};
 ghost use Rattle.fdp_io.specs.Sink.{HoldsFront};
 ghost use Rattle.fdp_base.specs.Text.{line};
 
@@ -37,6 +37,7 @@ pub fn print_output<K: Sink>(
     requires small { AreSmall totals }
     ensures told { (K.state sink.new).told ≡ (K.state sink.old).told }
     ensures faults { (K.state sink.old).faults ≤ (K.state sink.new).faults }
+    ensures counts { CountsCut (K.state sink.old).faults (K.state sink.new).faults result }
     ensures ends { Prints (K.state sink.old) (K.state sink.new) (printed_text config.now entries.now) result }
 {
     let mut text = Vec::new(alloc);
@@ -64,6 +65,7 @@ pub fn print_output<K: Sink>(
 fn write_piece<K: Sink>(text: &mut Vec<u8>, sink: &mut K) -> Result<(), SinkFailed>
     ensures told { (K.state sink.new).told ≡ (K.state sink.old).told }
     ensures faults { (K.state sink.old).faults ≤ (K.state sink.new).faults }
+    ensures counts { OnOk result ((K.state sink.new).faults ≡ (K.state sink.old).faults) }
     ensures ends { MatchResult result
         (λ _. HoldsFirst (K.state sink.old) (K.state sink.new) text.old.items text.new.items)
         (λ _. HoldsFront (K.state sink.old) (K.state sink.new) text.old.items) }

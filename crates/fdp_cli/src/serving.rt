@@ -1,5 +1,6 @@
 ghost use Rattle.std.specs.Prelude.{◌≡◌, ◌+◌, ◌*◌, ◌≤◌, ◌<◌, ◌^◌, false, All, MatchResult, length};
-ghost use Rattle.fdp_base.specs.Totals.{blocks_written};
+ghost use Rattle.fdp_rules.specs.Totals.{blocks_written};
+ghost use Rattle.fdp_core.specs.Steps.{most_steps};
 ghost use Rattle.fdp_cli.specs.Servable.{IsServable};
 ghost use Rattle.fdp_cli.specs.Serving.{EndsWrite, IsIdle, IsPlacing, PlacesAll, Serves, ServesOne};
 
@@ -27,7 +28,7 @@ pub fn serve<F: Flash>(
     requires sound { group.old.failed ≡ false }
     requires servable { All (IsServable group.old.book.config) trace.now }
     requires number { length trace.now ≤ 8192 }
-    requires steps { group.old.book.spent + 66 * length trace.now ≤ 2 ^ 30 }
+    requires steps { group.old.book.spent + length trace.now * most_steps group.old.book.config ≤ 2 ^ 30 }
     requires idle { IsIdle group.old.book }
     ensures { Serves F.state group.old group.new trace.now result }
 {
@@ -48,14 +49,13 @@ fn serve_one<F: Flash>(
 ) -> Result<(), AllocError>
     requires sound { group.old.failed ≡ false }
     requires servable { IsServable group.old.book.config command.now }
-    requires steps { group.old.book.spent + 66 ≤ 2 ^ 30 }
+    requires steps { group.old.book.spent + most_steps group.old.book.config ≤ 2 ^ 30 }
     requires idle { IsIdle group.old.book }
     ensures { MatchResult result
         (λ _. ServesOne F.state group.old group.new number command.now)
         (λ _. group.new ≡ record group.old { book = record group.old.book { spare = group.new.book.spare } }) }
 {
-    let steps = u32::from(group.config().blocks_per_command) + 2;
-    group.reserve(steps)?;
+    group.reserve(group.most_steps())?;
     let room = Room::new(alloc, command, group.config())?;
     let begun = command.copied()?;
     match group.start(1, number, begun, room) {

@@ -5,21 +5,15 @@ use std::test::Fail;
 
 mod calls;
 mod configurations;
-mod drives;
-mod lines;
 mod texts;
-mod words;
 
-/// What is asked for, the configuration of the name `c` and the trace of the name `t`, the bench's and the sink's calls that
-/// fail, and the room of the sink.
+/// What is asked for, the configuration of the name `c` and the trace of the name `t`, and the sink's call that fails.
 #[derive(Drop)]
 struct Run<'a> {
     words: &'a [&'a str],
     config: &'a [u8],
     trace: &'a [u8],
-    bench_fails: Option<u64>,
     sink_fails: Option<u64>,
-    room: usize,
 }
 
 const RUN: [&str; 4] = ["run", "c", "blank", "t"];
@@ -51,9 +45,7 @@ fn run_of<'a>(words: &'a [&'a str], config: &'a [u8], trace: &'a [u8]) -> Run<'a
         words,
         config,
         trace,
-        bench_fails: None,
         sink_fails: None,
-        room: AMPLE,
     }
 }
 
@@ -71,10 +63,10 @@ fn outcome(alloc: Global, run: &Run) -> Result<(u8, Vec<u8>), AllocError> {
     for word in run.words {
         words.push(String::from_str(alloc, word)?)?;
     }
-    let mut bench = BenchMem::new(alloc, failing(alloc, run.bench_fails)?);
+    let mut bench = BenchMem::new(alloc, Vec::new(alloc));
     bench.add(alloc, "c", run.config)?;
     bench.add(alloc, "t", run.trace)?;
-    let mut sink = SinkMem::new(alloc, run.room, failing(alloc, run.sink_fails)?)?;
+    let mut sink = SinkMem::new(alloc, AMPLE, failing(alloc, run.sink_fails)?)?;
     let status = drive_top(alloc, &words, &mut bench, &mut sink);
     Ok((status, Vec::from_slice(alloc, sink.bytes())?))
 }

@@ -1,4 +1,4 @@
-ghost use Rattle.std.specs.Prelude.{◌≤◌, All, length};
+ghost use Rattle.std.specs.Prelude.{◌≡◌, ◌≢◌, ◌≤◌, All, length};
 ghost use Rattle.fdp_base.specs.Config.{IsValidConfig};
 ghost use Rattle.fdp_io.specs.Bench.{SameTexts};
 ghost use Rattle.fdp_cli.specs.Servable.{IsServable};
@@ -28,6 +28,10 @@ pub fn drive_top<B: Bench, K: Sink>(
     sink: &mut K,
 ) -> u8
     ensures texts { SameTexts (B.state bench.old) (B.state bench.new) }
+    ensures bench_faults { (B.state bench.old).faults ≤ (B.state bench.new).faults }
+    ensures told { (K.state sink.new).told ≡ (K.state sink.old).told }
+    ensures sink_faults { (K.state sink.old).faults ≤ (K.state sink.new).faults }
+    ensures unfailing { result ≢ 8 → (K.state sink.new).faults ≡ (K.state sink.old).faults }
     ensures answers { Answers (B.state bench.old) (B.state bench.new) words.now (K.state sink.old) (K.state sink.new) result }
 {
     match find(alloc, words, bench) {
@@ -38,7 +42,10 @@ pub fn drive_top<B: Bench, K: Sink>(
 
 /// Prints the line of a fault.
 fn refuse<K: Sink>(alloc: Global, fault: Fault, sink: &mut K) -> u8
-    ensures { Refuses (K.state sink.old) (K.state sink.new) fault result }
+    ensures told { (K.state sink.new).told ≡ (K.state sink.old).told }
+    ensures faults { (K.state sink.old).faults ≤ (K.state sink.new).faults }
+    ensures unfailing { result ≢ 8 → (K.state sink.new).faults ≡ (K.state sink.old).faults }
+    ensures refuses { Refuses (K.state sink.old) (K.state sink.new) fault result }
 {
     let mut text = Vec::new(alloc);
     if push_fault(alloc, &fault, &mut text).is_err() {
@@ -55,7 +62,10 @@ fn run<K: Sink>(alloc: Global, config: &DriveConfig, trace: &[Command], sink: &m
     requires valid { IsValidConfig config.now }
     requires servable { All (IsServable config.now) trace.now }
     requires few { length trace.now ≤ 8192 }
-    ensures { Runs (K.state sink.old) (K.state sink.new) config.now trace.now result }
+    ensures told { (K.state sink.new).told ≡ (K.state sink.old).told }
+    ensures faults { (K.state sink.old).faults ≤ (K.state sink.new).faults }
+    ensures unfailing { result ≢ 8 → (K.state sink.new).faults ≡ (K.state sink.old).faults }
+    ensures runs { Runs (K.state sink.old) (K.state sink.new) config.now trace.now result }
 {
     let Ok(flash) = FlashMem::new(alloc, config.geometry(), Plan::empty(alloc)) else {
         return 7;

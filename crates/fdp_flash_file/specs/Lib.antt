@@ -2,3 +2,4 @@ pub mod FlashFile
 pub mod Head
 pub mod PageStates
 pub mod Places
+pub mod Taking

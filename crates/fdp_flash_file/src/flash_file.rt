@@ -1,24 +1,13 @@
 ghost use Rattle.std.proofs.Props.{props};
-ghost use Rattle.std.specs.Prelude.{IfOk, IfSome};
 ghost use Rattle.fdp_base.specs.Geometry.{IsValidGeometry};
 ghost use Rattle.fdp_flash.specs.FlashState.{AreCounts};
 
-use crate::head::{HEAD_BYTES, read_head, write_head};
+use crate::head::{HEAD_BYTES, write_head};
 use crate::page::{blank_pages, file_bytes, place_of, write_at};
+use crate::take::{TakeError, told_geometry};
 use fdp_base::{Geometry, Spot};
 use std::io;
 use std::io::{Read, Seek, SeekFrom, Write};
-
-/// Why a file was not taken.
-#[derive(Clone, Copy, Debug, PartialEq, Eq)]
-pub enum TakeError {
-    /// A call of the file failed.
-    Failed,
-    /// The file does not begin with the head of a flash.
-    NotFlash,
-    /// The file begins with the head of a flash, and ends before its last page.
-    CutShort,
-}
 
 /// A flash over a file, or over anything that is read, written and sought as one. It does not tell what the file holds.
 ///
@@ -115,29 +104,4 @@ fn write_blank<S: Write + Seek>(file: &mut S, geometry: Geometry) -> io::Result<
     write_at(file, file_bytes(geometry) - 1, &[0])?;
     file.seek(SeekFrom::Start(0))?;
     write_head(file, geometry)
-}
-
-/// The geometry that a file tells, if it is the file of a flash.
-fn told_geometry<S: Read + Seek>(file: &mut S) -> Result<Geometry, TakeError>
-    ensures { IfOk result (λ geometry. IsValidGeometry geometry) }
-{
-    let Ok(bytes) = file.seek(SeekFrom::End(0)) else {
-        return Err(TakeError::Failed);
-    };
-    if bytes < HEAD_BYTES as u64 {
-        return Err(TakeError::NotFlash);
-    }
-    match head_geometry(file) {
-        Ok(Some(geometry)) if bytes < file_bytes(geometry) => Err(TakeError::CutShort),
-        Ok(Some(geometry)) => Ok(geometry),
-        Ok(None) => Err(TakeError::NotFlash),
-        Err(_) => Err(TakeError::Failed),
-    }
-}
-
-fn head_geometry<S: Read + Seek>(file: &mut S) -> io::Result<Option<Geometry>>
-    ensures { IfOk result (λ told. IfSome told (λ geometry. IsValidGeometry geometry)) }
-{
-    file.seek(SeekFrom::Start(0))?;
-    read_head(file)
 }

@@ -5,8 +5,10 @@ mod calls;
 mod flash_file;
 mod head;
 mod page;
+mod take;
 #[cfg(test)]
 mod tests;
 
-pub use flash_file::{FlashFile, TakeError};
+pub use flash_file::FlashFile;
 pub use head::is_valid_geometry;
+pub use take::TakeError;

@@ -1,4 +1,5 @@
-use crate::flash_file::{FlashFile, TakeError};
+use crate::flash_file::FlashFile;
+use crate::take::TakeError;
 use fdp_base::{Geometry, Spot};
 use fdp_flash::{Fetched, Flash, Seen, Wrote};
 use std::alloc::{AllocError, Global};

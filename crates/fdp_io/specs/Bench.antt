@@ -32,3 +32,19 @@ ReadsText old new name limit bytes Missing = IsTrue old.told → old.text name �
 ReadsText old new name limit bytes TooLong = IsTrue old.told → (text : List ℕ) × (old.text name ≡ Some text) × (limit < length text)
 ReadsText old new name limit bytes Failed = Rose old.faults new.faults
 ReadsText old new name limit bytes NoMemory = Unit {0}
+
+-- Done puts the text in the place of what was there; after every other answer that is as it was
+abbrev pub ReplacesOnDone : List ℕ → List ℕ → TextRead → Type 0
+ReplacesOnDone before after Done = Unit {0}
+ReplacesOnDone before after Missing = after ≡ before
+ReplacesOnDone before after TooLong = after ≡ before
+ReplacesOnDone before after Failed = after ≡ before
+ReplacesOnDone before after NoMemory = after ≡ before
+
+-- a failed read is counted, and no other
+abbrev pub CountsFailedRead : ℕ → ℕ → TextRead → Type 0
+CountsFailedRead old new Done = new ≡ old
+CountsFailedRead old new Missing = new ≡ old
+CountsFailedRead old new TooLong = new ≡ old
+CountsFailedRead old new Failed = Rose old new
+CountsFailedRead old new NoMemory = new ≡ old

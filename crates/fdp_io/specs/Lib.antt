@@ -4,3 +4,6 @@ pub mod BenchMem
 pub mod Sink
 pub mod SinkMem
 pub mod Texts
+pub mod Reading
+pub mod Writing
+pub mod SinkWriter

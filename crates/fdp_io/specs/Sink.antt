@@ -1,5 +1,5 @@
 -- What contracts see of a sink.
-use Rattle.std.specs.Prelude.{◌≡◌, ℕ, ◌<◌, ◌≤◌, Bool, IsTrue, List, ◌++◌, length, take}
+use Rattle.std.specs.Prelude.{◌≡◌, ℕ, ◌<◌, ◌≤◌, Bool, true, false, IsTrue, List, ◌++◌, length, take}
 use Rattle.fdp_base.specs.Counts.{Rose}
 use Rattle.fdp_io.specs.declared.sink.SinkEnd.{SinkEnd}
 use Rattle.fdp_io.specs.declared.sink.SinkEnd.TheVariants.{Took, Failed}
@@ -16,6 +16,16 @@ pub record SinkState : Type 0 where
 abbrev pub Takes : SinkState → SinkState → List ℕ → SinkEnd → Type 0
 Takes old new piece (Took count) = (count ≤ length piece) × (0 < length piece → 0 < count) × (IsTrue old.told → new.bytes ≡ old.bytes ++ take count piece)
 Takes old new piece Failed = Rose old.faults new.faults × (IsTrue old.told → new.bytes ≡ old.bytes)
+
+-- a failed write is counted, and no other
+abbrev pub CountsFailedWrite : ℕ → ℕ → SinkEnd → Type 0
+CountsFailedWrite old new (Took count) = new ≡ old
+CountsFailedWrite old new Failed = Rose old new
+
+-- whether a write failed
+abbrev pub write_failed : SinkEnd → Bool
+write_failed (Took count) = false
+write_failed Failed = true
 
 -- the sink holds this text more
 abbrev pub Holds : SinkState → SinkState → List ℕ → Type 0

@@ -1,5 +1,5 @@
 ghost use Rattle.std.specs.Prelude.{◌≡◌, ◌≤◌};
-ghost use Rattle.fdp_io.specs.Bench.{BenchState, SameTexts, ReadsText};
+ghost use Rattle.fdp_io.specs.Bench.{BenchState, CountsFailedRead, ReadsText, ReplacesOnDone, SameTexts};
 
 /// How a read of a text ended.
 #[derive(Clone, Copy, Debug, PartialEq, Eq)]
@@ -23,10 +23,11 @@ pub trait Bench {
     fn faults(&self) -> u64
         ensures { result ≡ (state self.now).faults };
 
-    /// Reads the text of a name into `into`, in the place of what was there. After another answer than Done nothing
-    /// is said of `into`.
+    /// Reads the text of a name into `into`, in the place of what was there.
     fn read_text(&mut self, name: &str, into: &mut Vec<u8>, limit: u64) -> TextRead
         ensures kept { SameTexts (state self.old) (state self.new) }
         ensures faults { (state self.old).faults ≤ (state self.new).faults }
+        ensures counts { CountsFailedRead (state self.old).faults (state self.new).faults result }
+        ensures replaces { ReplacesOnDone into.old.items into.new.items result }
         ensures answer { ReadsText (state self.old) (state self.new) name.now limit into.new.items result };
 }

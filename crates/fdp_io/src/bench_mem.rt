@@ -60,7 +60,7 @@ fn find<'a>(texts: &'a [Text], name: &str) -> Option<&'a [u8]>
 
 impl Bench for BenchMem {
     ghost use Rattle.std.specs.Prelude.{◌≤◌};
-    ghost use Rattle.fdp_io.specs.Bench.{ReadsText, SameTexts, read_failed};
+    ghost use Rattle.fdp_io.specs.Bench.{CountsFailedRead, ReadsText, ReplacesOnDone, SameTexts, read_failed};
     ghost use Rattle.fdp_io.specs.BenchMem.{bench_calls, bench_state};
     ghost use Rattle.fdp_io.specs.Calls.{MakesCall};
 
@@ -73,6 +73,8 @@ impl Bench for BenchMem {
     fn read_text(&mut self, name: &str, into: &mut Vec<u8>, limit: u64) -> TextRead
         ensures kept { SameTexts (bench_state self.old) (bench_state self.new) }
         ensures faults { (bench_state self.old).faults ≤ (bench_state self.new).faults }
+        ensures counts { CountsFailedRead (bench_state self.old).faults (bench_state self.new).faults result }
+        ensures replaces { ReplacesOnDone into.old.items into.new.items result }
         ensures answer { ReadsText (bench_state self.old) (bench_state self.new) name.now limit into.new.items result }
         ensures calls { MakesCall (bench_calls self.old) (bench_calls self.new) (read_failed result) }
     {
@@ -85,9 +87,11 @@ impl Bench for BenchMem {
         if text.len() as u64 > limit {
             return TextRead::TooLong;
         }
-        into.clear();
-        match into.extend_from_slice(text) {
-            Ok(()) => TextRead::Done,
+        match Vec::from_slice(*into.allocator(), text) {
+            Ok(copy) => {
+                *into = copy;
+                TextRead::Done
+            }
             Err(_) => TextRead::NoMemory,
         }
     }

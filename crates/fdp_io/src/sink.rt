@@ -1,5 +1,5 @@
-ghost use Rattle.std.specs.Prelude.{◌≡◌, ◌≤◌, MatchResult};
-ghost use Rattle.fdp_io.specs.Sink.{SinkState, Takes, Holds, HoldsFront};
+ghost use Rattle.std.specs.Prelude.{◌≡◌, ◌≤◌, MatchResult, OnOk};
+ghost use Rattle.fdp_io.specs.Sink.{CountsFailedWrite, Holds, HoldsFront, SinkState, Takes};
 
 /// How a write ended.
 #[derive(Clone, Copy, Debug, PartialEq, Eq)]
@@ -23,6 +23,7 @@ pub trait Sink {
     fn write(&mut self, bytes: &[u8]) -> SinkEnd
         ensures told { (state self.new).told ≡ (state self.old).told }
         ensures faults { (state self.old).faults ≤ (state self.new).faults }
+        ensures counts { CountsFailedWrite (state self.old).faults (state self.new).faults result }
         ensures answer { Takes (state self.old) (state self.new) bytes.now result };
 }
 
@@ -34,6 +35,7 @@ pub struct SinkFailed;
 pub fn write_all<K: Sink>(sink: &mut K, bytes: &[u8]) -> Result<(), SinkFailed>
     ensures told { (K.state sink.new).told ≡ (K.state sink.old).told }
     ensures faults { (K.state sink.old).faults ≤ (K.state sink.new).faults }
+    ensures counts { OnOk result ((K.state sink.new).faults ≡ (K.state sink.old).faults) }
     ensures ends { MatchResult result
         (λ _. Holds (K.state sink.old) (K.state sink.new) bytes.now)
         (λ _. HoldsFront (K.state sink.old) (K.state sink.new) bytes.now) }

@@ -1,4 +1,4 @@
-ghost use Rattle.std.specs.Prelude.{◌≡◌, IfOk};
+ghost use Rattle.std.specs.Prelude.{◌≡◌, ◌≤◌, IfOk, vec_capacity, vec_len};
 
 use crate::calls::Calls;
 use crate::sink::{Sink, SinkEnd};
@@ -10,6 +10,8 @@ pub struct SinkMem {
     bytes: Vec<u8>,
     room: usize,
     calls: Calls,
+    ghost within: { vec_len bytes ≤ room },
+    ghost enough: { room ≤ vec_capacity bytes },
 }
 
 impl SinkMem {
@@ -38,8 +40,7 @@ impl SinkMem {
 }
 
 impl Sink for SinkMem {
-    ghost use Rattle.std.specs.Prelude.{◌≤◌};
-    ghost use Rattle.fdp_io.specs.Sink.{Takes};
+    ghost use Rattle.fdp_io.specs.Sink.{CountsFailedWrite, Takes};
     ghost use Rattle.fdp_io.specs.SinkMem.{WritesAsPlanned, sink_state};
 
     ghost state = { sink_state };
@@ -52,23 +53,21 @@ impl Sink for SinkMem {
     fn write(&mut self, bytes: &[u8]) -> SinkEnd
         ensures told { (sink_state self.new).told ≡ (sink_state self.old).told }
         ensures faults { (sink_state self.old).faults ≤ (sink_state self.new).faults }
+        ensures counts { CountsFailedWrite (sink_state self.old).faults (sink_state self.new).faults result }
         ensures answer { Takes (sink_state self.old) (sink_state self.new) bytes.now result }
         ensures planned { WritesAsPlanned self.old self.new bytes.now result }
     {
         if self.calls.begin() {
             return SinkEnd::Failed;
         }
-        let count = bytes.len().min(self.room.saturating_sub(self.bytes.len()));
+        let count = bytes.len().min(self.room - self.bytes.len());
         if count == 0 && !bytes.is_empty() {
             self.calls.fail();
             return SinkEnd::Failed;
         }
-        match self.bytes.extend_from_slice(&bytes[..count]) {
-            Ok(()) => SinkEnd::Took(count),
-            Err(_) => {
-                self.calls.fail();
-                SinkEnd::Failed
-            }
+        if self.bytes.extend_from_slice(&bytes[..count]).is_err() {
+            unreachable!()
         }
+        SinkEnd::Took(count)
     }
 }

@@ -15,15 +15,24 @@ impl<W: Write> SinkWriter<W> {
 }
 
 impl<W: Write> Sink for SinkWriter<W> {
-    ghost use Rattle.std.specs.Prelude.{false, []};
+    ghost use Rattle.std.specs.Prelude.{◌≡◌, ◌≤◌};
+    ghost use Rattle.fdp_io.specs.Sink.{CountsFailedWrite, Takes};
+    ghost use Rattle.fdp_io.specs.SinkWriter.{writer_state};
+    ghost use Rattle.fdp_io.specs.Writing.{WritesClaimed};
 
-    ghost state = { λ sink. record { faults = sink.faults; told = false; bytes = [] } };
+    ghost state = { writer_state };
 
     fn faults(&self) -> u64 {
         self.faults
     }
 
-    fn write(&mut self, bytes: &[u8]) -> SinkEnd {
+    fn write(&mut self, bytes: &[u8]) -> SinkEnd
+        ensures told { (writer_state self.new).told ≡ (writer_state self.old).told }
+        ensures faults { (writer_state self.old).faults ≤ (writer_state self.new).faults }
+        ensures counts { CountsFailedWrite (writer_state self.old).faults (writer_state self.new).faults result }
+        ensures answer { Takes (writer_state self.old) (writer_state self.new) bytes.now result }
+        ensures claimed { WritesClaimed (W.contents self.old.writer) (W.contents self.new.writer) bytes.now result }
+    {
         match self.writer.write(bytes) {
             Ok(count) if count > 0 || bytes.is_empty() => SinkEnd::Took(count),
             _ => {

@@ -1,7 +1,7 @@
 //! The program: its words come from the command line, its texts from files, and its output goes to standard output.
 #![tactic(auto)]
 
-use fdp_cli::drive_top;
+use fdp_cli::drive_process;
 use fdp_io::{BenchFile, SinkWriter};
 use std::process::ExitCode;
 use std::{env, io};
@@ -15,8 +15,7 @@ fn main(rt: HostRuntime) -> ExitCode {
     };
     let mut bench = BenchFile::new(&rt);
     let mut sink = SinkWriter::new(io::writer(&rt));
-    let status = drive_top(rt.alloc(), &words, &mut bench, &mut sink);
-    ExitCode::from(status)
+    drive_process(rt.alloc(), &words, &mut bench, &mut sink)
 }
 
 /// The words behind the program's name.

@@ -1,7 +1,7 @@
 use Rattle.std.proofs.Common.{ap, sym, subst, ◌∙◌, Some, arith, length}
 use Rattle.fdp_cli.specs.declared.fault.Fault.{Fault}
-use Rattle.fdp_cli.specs.Found.{ConfigLacks}
-use Rattle.fdp_cli.proofs.Configuring.{config_lacks}
+use Rattle.fdp_cli.specs.Found.{ConfigLacks, CountsSource}
+use Rattle.fdp_cli.proofs.Configuring.{config_counts, config_lacks}
 use Rattle.fdp_cli.proofs.find.find_config.Goals as goal
 
 pub returns-in-Done : goal.returns-in-Done
@@ -13,6 +13,7 @@ returns-in-Done g c =
     record {
       texts = c.read_text.ensures.kept;
       faults = c.read_text.ensures.faults;
+      counts = subst (λ (fault : Fault). CountsSource old.faults new.faults fault) (sym c.from.ensures) (config_counts old.faults new.faults c.in-Err.fault c.in-Done.ensures.counts);
       answer = subst (λ (fault : Fault). ConfigLacks old new c.args.name.now fault) (sym c.from.ensures)
           (config_lacks old new c.args.name.now c.as_slice.result.now c.in-Err.fault
           (omega (arith, read.0, ap length at)) (λ told. read.1 told ∙ ap Some (sym at)) c.in-Err.ensures.fault c.in-Err.ensures.first);

@@ -6,5 +6,4 @@ use Rattle.fdp_cli.proofs.find.read_commands.Goals as goal
 
 pub returns-then-all_served-clause-served : goal.returns-then-all_served-clause-served
 returns-then-all_served-clause-served c config =
-    let said = (c.in-Ok.ensures.commands c.in-Ok.commands.items).1 c.in-Ok.ensures.answer in
-    servable_trace config c.args.text.now c.in-Ok.commands.items said (ap (list_all is_served) (sym c.as_slice.ensures.value) ∙ sym c.all_served.ensures ∙ c.if-all_served.true)
+    servable_trace config c.args.text.now c.in-Ok.commands.items c.in-Ok.ensures.commands (ap (list_all is_served) (sym c.as_slice.ensures.value) ∙ sym c.all_served.ensures ∙ c.if-all_served.true)

@@ -1,10 +1,10 @@
 use Rattle.std.proofs.Common.{◌++◌, ◌∷◌, [], codes, ap, sym, ◌∙◌, append_assoc, flat_map, decimal, arith}
 use Rattle.fdp_base.specs.declared.entry.Totals.{Totals}
-use Rattle.fdp_base.specs.Output.{completion_of}
-use Rattle.fdp_base.specs.RunOutput.{totals_line}
+use Rattle.fdp_output.specs.Output.{completion_of}
+use Rattle.fdp_output.specs.RunOutput.{totals_line}
 use Rattle.fdp_base.specs.Text.{line}
 use Rattle.fdp_cli.specs.OutputText.{printed_text}
-use Rattle.fdp_cli.proofs.Printed.{done_of, failed_of, last_entry, next_entry, printing_failed, printing_more, printing_none, printing_some, printing_whole, printing_written, pushed_of}
+use Rattle.fdp_cli.proofs.Printed.{done_of, failed_of, kept_of, last_entry, next_entry, printing_failed, printing_more, printing_none, printing_some, printing_whole, printing_written, pushed_of}
 use Rattle.fdp_cli.proofs.print.print_output.Goals as goal
 
 pub loop-entry-init : goal.loop-entry-init
@@ -34,7 +34,8 @@ loop-entry-preserved g c =
     let sums = totals_line c.args.config.now c.args.totals in
     let pushed = pushed_of _ (sym c.is_err-in-loop-entry.ensures.value ∙ c.if-is_err-2.false) c.push_entry.ensures in
     let more = printing_more _ _ _ _ _ _ _ _ c.loop-entry.invariant (next_entry es c.loop-entry.entry-index _ sums (omega arith) c.entry-item.is) pushed in
-    printing_written _ _ _ _ _ _ _ more c.write_piece.ensures.told c.write_piece.ensures.faults (done_of _ _ _ (sym c.is_err-in-loop-entry-2.ensures.value ∙ c.if-is_err-3.false) c.write_piece.ensures.ends)
+    let written = sym c.is_err-in-loop-entry-2.ensures.value ∙ c.if-is_err-3.false in
+    printing_written _ _ _ _ _ _ _ more c.write_piece.ensures.told (kept_of _ written c.write_piece.ensures.counts) (done_of _ _ _ (sym c.is_err-in-loop-entry-2.ensures.value ∙ c.if-is_err-3.false) c.write_piece.ensures.ends)
 
 pub returns-then-is_err-4-clause-ends : goal.returns-then-is_err-4-clause-ends
 returns-then-is_err-4-clause-ends g c = printing_some _ _ _ _ _ c.loop-entry.invariant

@@ -1,6 +1,6 @@
 use Rattle.std.proofs.Common.{◌++◌, drop, flat_map}
-use Rattle.fdp_base.specs.Output.{completion_of}
-use Rattle.fdp_base.specs.RunOutput.{totals_line}
+use Rattle.fdp_output.specs.Output.{completion_of}
+use Rattle.fdp_output.specs.RunOutput.{totals_line}
 use Rattle.fdp_cli.specs.OutputText.{printed_text}
 use Rattle.fdp_cli.proofs.Printed.{IsPrinting}
 use Rattle.fdp_cli.proofs.print.print_output.Given as goal

@@ -1,0 +1,129 @@
+use crate::text::Text;
+use fdp_cli::drive_top;
+use fdp_io::{BenchMem, SinkMem};
+use std::alloc::{AllocError, Global};
+
+/// Room for every output of these rows.
+const AMPLE: usize = 1 << 20;
+
+/// The texts that were named, of which the last of a name counts, and what the next run does otherwise than others.
+#[derive(Drop)]
+pub struct Rows {
+    texts: Vec<Text>,
+    /// The text whose lines follow.
+    open: Option<Text>,
+    bench_fails: Option<u64>,
+    sink_fails: Option<u64>,
+    room: usize,
+}
+
+impl Rows {
+    pub fn new(alloc: Global) -> Rows {
+        Rows {
+            texts: Vec::new(alloc),
+            open: None,
+            bench_fails: None,
+            sink_fails: None,
+            room: AMPLE,
+        }
+    }
+
+    /// Takes a line: one of a text, or a command.
+    pub fn take(
+        &mut self,
+        alloc: Global,
+        line: &[u8],
+        output: &mut Vec<u8>,
+    ) -> Result<(), AllocError> {
+        match self.open.take() {
+            Some(text) => self.go_on(text, line),
+            None => match str::from_utf8(line) {
+                Ok(line) => self.command(alloc, line, output),
+                Err(_) => Ok(()),
+            },
+        }
+    }
+
+    /// A line of a text. A dot ends it, and a dot with a tilde ends it without the end of its last line.
+    fn go_on(&mut self, mut text: Text, line: &[u8]) -> Result<(), AllocError> {
+        if line == b".~".as_slice() {
+            text.bytes.pop();
+        } else if line != b".".as_slice() {
+            text.bytes.extend_from_slice(line)?;
+            text.bytes.push(b'\n')?;
+            self.open = Some(text);
+            return Ok(());
+        }
+        self.texts.push(text)?;
+        Ok(())
+    }
+
+    /// `text NAME` begins a text; `bench N` and `sink N` let that call of the next run fail, and `room N` gives its sink so
+    /// much room; `run WORD..` makes it. An underscore is an empty word.
+    fn command(
+        &mut self,
+        alloc: Global,
+        line: &str,
+        output: &mut Vec<u8>,
+    ) -> Result<(), AllocError> {
+        let (word, rest) = line.split_once(' ').unwrap_or((line, ""));
+        match word {
+            "text" => self.open = Some(Text::new(alloc, rest)?),
+            "bench" => self.bench_fails = rest.parse().ok(),
+            "sink" => self.sink_fails = rest.parse().ok(),
+            "room" => self.room = rest.parse().unwrap_or(AMPLE),
+            "run" => self.run(alloc, rest, output)?,
+            _ => {}
+        }
+        Ok(())
+    }
+
+    fn run(&mut self, alloc: Global, words: &str, output: &mut Vec<u8>) -> Result<(), AllocError> {
+        let words = words_of(alloc, words)?;
+        let mut bench = BenchMem::new(alloc, failing(alloc, self.bench_fails.take())?);
+        for text in self.texts.iter().rev() {
+            bench.add(alloc, &text.name, &text.bytes)?;
+        }
+        let mut sink = SinkMem::new(alloc, self.room, failing(alloc, self.sink_fails.take())?)?;
+        self.room = AMPLE;
+        let status = drive_top(alloc, &words, &mut bench, &mut sink);
+        push_end(alloc, status, sink.bytes(), output)
+    }
+}
+
+fn words_of(alloc: Global, line: &str) -> Result<Vec<String>, AllocError> {
+    let mut words = Vec::new(alloc);
+    if line.is_empty() {
+        return Ok(words);
+    }
+    for word in line.split(' ') {
+        let word = if word == "_" { "" } else { word };
+        words.push(String::from_str(alloc, word)?)?;
+    }
+    Ok(words)
+}
+
+fn failing(alloc: Global, call: Option<u64>) -> Result<Vec<u64>, AllocError> {
+    let mut calls = Vec::new(alloc);
+    if let Some(call) = call {
+        calls.push(call)?;
+    }
+    Ok(calls)
+}
+
+/// The status of a run, how many bytes its sink then holds, and these.
+fn push_end(
+    alloc: Global,
+    status: u8,
+    held: &[u8],
+    output: &mut Vec<u8>,
+) -> Result<(), AllocError> {
+    let count = held.len();
+    let line = format!(in alloc; "status {status}, bytes {count}\n")?;
+    output.extend_from_slice(line.as_bytes())?;
+    output.extend_from_slice(held)?;
+    if held.last() != Some(&b'\n') && !held.is_empty() {
+        output.push(b'\n')?;
+    }
+    Ok(())
+}

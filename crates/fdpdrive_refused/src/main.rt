@@ -1,0 +1,28 @@
+//! The program: its words come from the command line, its texts from files, and its output goes to standard output.
+#![tactic(auto)]
+
+use fdp_cli::drive_process;
+use fdp_io::{BenchFile, SinkWriter};
+use std::process::ExitCode;
+use std::{env, io};
+
+/// Serves the run that the words of the command line ask for, and ends with its status.
+fn main(rt: HostRuntime) -> ExitCode {
+    let words = match words(&rt) {
+        Ok(words) => words,
+        Err(error) if error.kind() == io::ErrorKind::OutOfMemory => return ExitCode::from(7),
+        Err(_) => Vec::new(rt.alloc()),
+    };
+    let mut bench = BenchFile::new(&rt);
+    let mut sink = SinkWriter::new(io::writer(&rt));
+    drive_process(rt.alloc(), &words, &mut bench, &mut sink)
+}
+
+/// The words behind the program's name.
+fn words(rt: &HostRuntime) -> io::Result<Vec<String>> {
+    let mut words = Vec::new(rt.alloc());
+    for word in env::args(rt)?.skip(1) {
+        words.push(word)?;
+    }
+    Ok(words)
+}
