@@ -1,0 +1,97 @@
+-- What an image reads as: the checkpoint of its current area with the changes of its journal.
+use Rattle.std.specs.Prelude.{ℕ, suc, ◌+◌, ◌^◌, Bool, true, false, ◌&&◌, ◌||◌, List, [], ◌∷◌, length, map, take, nat_lt, nat_le, Option, Some, None, if◌then◌else◌, fold, option_map}
+use Rattle.std.specs.List.{list_all, list_any, concat}
+use Rattle.std.specs.Option.{option_and_then}
+use Rattle.fdp_base.specs.declared.config.DriveConfig.{DriveConfig}
+use Rattle.fdp_base.specs.declared.entry.Totals.{Totals}
+use Rattle.fdp_base.specs.Placement.{geometry_of}
+use Rattle.fdp_flash.specs.declared.cell.Cell.{Cell}
+use Rattle.fdp_flash.specs.declared.cell.Cell.TheVariants.{Blank, Torn, Whole}
+use Rattle.fdp_records.specs.declared.change.Change.{Change}
+use Rattle.fdp_records.specs.declared.change.Change.TheVariants as changes
+use Rattle.fdp_records.specs.Reading.{decoded}
+use Rattle.fdp_rules.specs.History.{first_state, fresh}
+use Rattle.fdp_rules.specs.PlainState.{PlainState}
+use Rattle.fdp_image.specs.Applied.{applied}
+use Rattle.fdp_image.specs.Areas.{Sealed, current_area, data_pages}
+use Rattle.fdp_image.specs.Checkpoint.{checkpoint_size, is_checkpoint, said_by_checkpoint}
+use Rattle.fdp_image.specs.CheckpointFields.{same_keys}
+use Rattle.fdp_image.specs.Reading.{Reading}
+
+-- how many pages of the journal the record of a change takes
+abbrev pub extent : Change → ℕ
+extent (changes.Write nsid slba pid pid_invalid pages) = 1
+extent (changes.Clear nsid ranges) = 1
+extent (changes.Update nsid closed pids) = 1
+extent (changes.Create nsid size given handles) = 1
+extent (changes.Delete nsid) = 1
+extent (changes.SetFdp enabled index generation) = 1
+extent (changes.SetEvents ruh on mask) = 1
+extent (changes.Moved victim first second handles) = 1
+extent (changes.Shut rg ruh) = 1
+
+-- the elements, where each is there
+unfoldable pub all_of : {X : Type 0} → List (Option X) → Option (List X)
+all_of [] = Some []
+all_of (x ∷ xs) = option_and_then (λ y. option_map (λ ys. y ∷ ys) (all_of xs)) x
+
+-- the changes of a journal, where each of its pages tells one
+unfoldable pub changes_in : List (List ℕ) → Option (List (Change × Totals))
+changes_in journal = all_of (map decoded journal)
+
+-- the page of the area behind the journal
+abbrev pub next_page : Sealed → ℕ
+next_page area = suc (length area.checkpoint) + length area.journal
+
+-- the checkpoint just fills its pages, and names the sizes of the configuration
+unfoldable pub is_checkpoint_of : DriveConfig → Sealed → Bool
+is_checkpoint_of c area =
+    let bytes = concat area.checkpoint in
+    is_checkpoint area.stamp.version bytes && list_all (λ same. same) (same_keys c bytes)
+    && nat_lt (length bytes) (checkpoint_size bytes + c.block)
+
+-- what a sealed area says: its checkpoint with the changes of its journal
+unfoldable pub said_by_area : DriveConfig → Sealed → Option Reading
+said_by_area c area =
+    if is_checkpoint_of c area
+    then option_map (fold (applied c) (said_by_checkpoint (concat area.checkpoint))) (changes_in area.journal)
+    else None
+
+-- a page is blank
+abbrev pub is_blank : Cell → Bool
+is_blank Blank = true
+is_blank Torn = false
+is_blank (Whole spare bytes) = false
+
+-- what a state says that has no block and no event
+abbrev pub reading_of : PlainState → Totals → Reading
+reading_of s totals = record {
+  totals = totals;
+  enabled = s.enabled;
+  index = s.index;
+  generation = s.generation;
+  reports = s.reports;
+  namespaces = s.namespaces;
+  pages = λ nsid lba. None;
+  host_events = [];
+  controller_events = [];
+}
+
+-- what a drive says as the configuration makes it
+unfoldable pub fresh_reading : DriveConfig → Reading
+fresh_reading c = reading_of (first_state c (fresh c)) (fresh c).totals
+
+-- what an image says with this current area, or with none: the fresh drive where all data pages are blank
+unfoldable pub said_by_current : DriveConfig → List Cell → Option (ℕ × Sealed) → Option Reading
+said_by_current c cells None = if list_all is_blank (take (data_pages (geometry_of c)) cells) then Some (fresh_reading c) else None
+said_by_current c cells (Some x) = said_by_area c x.1
+
+-- what an image reads as, if it can be read
+unfoldable pub reads_as : DriveConfig → List Cell → Option Reading
+reads_as c cells = said_by_current c cells (current_area (geometry_of c) cells)
+
+-- an image is spent: a run might bring its position, epoch, one of its sums or its generation past the last value
+abbrev pub is_spent : Reading → ℕ → Bool
+is_spent r epoch =
+    list_any (nat_le (2 ^ 62)) (r.totals.position ∷ epoch ∷ r.totals.host_blocks ∷ r.totals.media_blocks ∷ r.totals.erases ∷ [])
+    || nat_le (2 ^ 31) r.generation

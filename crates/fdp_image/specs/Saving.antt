@@ -1,0 +1,57 @@
+-- What is known before the page of a change is programmed, and what its programming may leave.
+use Rattle.std.specs.Prelude.{◌≡◌, ◌⊎◌, slice_get, ℕ, ◌+◌, ◌<◌, ◌≤◌, List, [], ◌∷◌, ◌++◌, length, Some}
+use Rattle.fdp_base.specs.declared.config.DriveConfig.{DriveConfig}
+use Rattle.fdp_base.specs.declared.entry.Entry.{Entry}
+use Rattle.fdp_base.specs.declared.entry.Spot.{Spot}
+use Rattle.fdp_base.specs.declared.entry.Totals.{Totals}
+use Rattle.fdp_base.specs.Geometry.{area_pages}
+use Rattle.fdp_base.specs.Placement.{geometry_of}
+use Rattle.fdp_flash.specs.declared.cell.Cell.{Cell}
+use Rattle.fdp_flash.specs.declared.cell.Cell.TheVariants.{Blank}
+use Rattle.fdp_flash.specs.Layout.{first_page, page_number}
+use Rattle.fdp_records.specs.declared.change.Change.{Change}
+use Rattle.fdp_records.specs.declared.spare.SystemKind.TheVariants.{Journal}
+use Rattle.fdp_records.specs.Reading.{decoded}
+use Rattle.fdp_records.specs.Spares.{system_spare}
+use Rattle.fdp_rules.specs.History.{Found}
+use Rattle.fdp_image.specs.Applied.{applied}
+use Rattle.fdp_image.specs.Areas.{Sealed, area_of, area_unit, current_area, data_pages}
+use Rattle.fdp_image.specs.Reading.{Reading}
+use Rattle.fdp_image.specs.Reads.{extent, next_page, reads_as}
+use Rattle.fdp_image.specs.StandsFor.{Says}
+use Rattle.fdp_image.specs.Valid.{IsValid}
+
+-- from this page on all pages are blank
+abbrev pub AreBlankFrom : ℕ → List Cell → Type 0
+AreBlankFrom first cells = (k : ℕ) → first ≤ k → k < length cells → slice_get cells k ≡ Some Blank
+
+-- a page behind the journal of the current area, blank as all behind it, would tell a change with this spare and these bytes
+pub record IsNextRecord (c : DriveConfig) (cells : List Cell) (at : Spot) (spare bytes : List ℕ) (x : Change × Totals) : Type 0 where
+  pub number : ℕ
+  pub area : Sealed
+  pub current : current_area (geometry_of c) cells ≡ Some (number, area)
+  pub room : next_page area + extent x.0 ≤ area_pages (geometry_of c)
+  pub blank : AreBlankFrom (next_page area) (area_of (geometry_of c) number cells)
+  pub place : page_number (geometry_of c) at ≡ first_page (geometry_of c) (area_unit (geometry_of c) number) + next_page area
+  pub spare_is : spare ≡ system_spare (record { kind = Journal; number = length area.journal; stamp = area.stamp })
+  pub told : decoded bytes ≡ Some x
+
+-- A change is that of some entries that follow a history, where an image says what the history gives.
+pub record IsChangeOf (c : DriveConfig) (f : Found) (cells : List Cell) (es added : List Entry) (r : Reading) (x : Change × Totals) : Type 0 where
+  pub valid : IsValid c cells (applied c r x)
+  pub says : Says c f cells (es ++ added) (applied c r x)
+
+-- the data pages of two images are the same
+abbrev pub SameDataPages : DriveConfig → List Cell → List Cell → Type 0
+SameDataPages c old new = (page : ℕ) → page < data_pages (geometry_of c) → slice_get new page ≡ slice_get old page
+
+-- What saving a change may leave: an image reads as the cells did, or as that with the change; its data pages are as they were.
+pub record ReadsWithOrWithout (c : DriveConfig) (cells : List Cell) (r : Reading) (x : Change × Totals) (image : List Cell) : Type 0 where
+  pub reads : (reads_as c image ≡ Some r) ⊎ (reads_as c image ≡ Some (applied c r x))
+  pub data_pages_same : SameDataPages c cells image
+
+-- A change is saved: the image reads with it, and behind its page the journal can go on.
+pub record IsSavedIn (c : DriveConfig) (r : Reading) (number : ℕ) (area : Sealed) (bytes : List ℕ) (x : Change × Totals) (image : List Cell) : Type 0 where
+  pub reads : reads_as c image ≡ Some (applied c r x)
+  pub current : current_area (geometry_of c) image ≡ Some (number, record area { journal = area.journal ++ bytes ∷ [] })
+  pub blank : AreBlankFrom (next_page area + extent x.0) (area_of (geometry_of c) number image)

@@ -1,0 +1,39 @@
+ghost use Rattle.std.specs.Prelude.{◌≡◌, ℕ, ◌<◌, ◌++◌, ◌∷◌, [], List, Some, None, length, slice_set};
+ghost use Rattle.fdp_base.specs.declared.config.DriveConfig.{DriveConfig};
+ghost use Rattle.fdp_flash.specs.declared.cell.Cell.{Cell};
+ghost use Rattle.fdp_base.specs.declared.entry.Spot.{Spot};
+ghost use Rattle.fdp_base.specs.declared.entry.Totals.{Totals};
+ghost use Rattle.fdp_base.specs.Geometry.{all_pages};
+ghost use Rattle.fdp_base.specs.Placement.{geometry_of};
+ghost use Rattle.fdp_flash.specs.Cells.{IsProgrammed, ProgramMayLeave};
+ghost use Rattle.fdp_records.specs.declared.change.Change.{Change};
+ghost use Rattle.fdp_records.specs.declared.spare.SystemKind.TheVariants.{Journal};
+ghost use Rattle.fdp_rules.specs.History.{fresh};
+ghost use Rattle.fdp_image.specs.Areas.{Sealed, page_bytes, sealed_in};
+ghost use Rattle.fdp_image.specs.Reads.{fresh_reading, next_page, reads_as};
+ghost use Rattle.fdp_image.specs.Reading.{Reading};
+ghost use Rattle.fdp_image.specs.Saving.{AreBlankFrom, IsNextRecord, IsSavedIn, ReadsWithOrWithout};
+ghost use Rattle.fdp_image.specs.StandsFor.{Says};
+
+/// The fresh drive says what the empty history of its configuration gives.
+pub fn fresh_drive_says_its_history()
+    ensures { (c : DriveConfig) (image : List Cell) → Says c (fresh c) image [] (fresh_reading c) }
+{}
+
+/// A page that is programmed behind the journal of a sealed area, the pages behind it being blank, adds its bytes where it is
+/// whole with the next number and the version and epoch of the area. Any other page there adds nothing.
+pub fn journal_grows_by_its_next_page()
+    ensures added { (cells : List Cell) (s : Sealed) (cell : Cell) (bytes : List ℕ) → sealed_in cells ≡ Some s → next_page s < length cells → AreBlankFrom (next_page s) cells → page_bytes Journal (length s.journal) s.stamp cell ≡ Some bytes → sealed_in (slice_set cells (next_page s) cell) ≡ Some (record s { journal = s.journal ++ bytes ∷ [] }) }
+    ensures left { (cells : List Cell) (s : Sealed) (cell : Cell) → sealed_in cells ≡ Some s → next_page s < length cells → page_bytes Journal (length s.journal) s.stamp cell ≡ None → sealed_in (slice_set cells (next_page s) cell) ≡ Some s }
+{}
+
+/// Saving a change: whatever a stop or a fault leaves of the program of its record behind the journal, the image reads as it did, or
+/// as that with the change, and its data pages are as they were.
+pub fn saving_leaves_the_image_with_or_without_the_change()
+    ensures { (c : DriveConfig) (cells : List Cell) (r : Reading) (at : Spot) (spare bytes : List ℕ) (x : Change × Totals) (image : List Cell) → length cells ≡ all_pages (geometry_of c) → reads_as c cells ≡ Some r → IsNextRecord c cells at spare bytes x → ProgramMayLeave (geometry_of c) cells at spare bytes image → ReadsWithOrWithout c cells r x image }
+{}
+
+/// Once the program of its record is done, a change is saved, and the journal can go on behind it.
+pub fn a_record_that_is_done_is_saved()
+    ensures { (c : DriveConfig) (cells : List Cell) (r : Reading) (at : Spot) (spare bytes : List ℕ) (x : Change × Totals) (image : List Cell) → length cells ≡ all_pages (geometry_of c) → reads_as c cells ≡ Some r → (next : IsNextRecord c cells at spare bytes x) → IsProgrammed (geometry_of c) cells at spare bytes image → IsSavedIn c r next.number next.area bytes x image }
+{}
