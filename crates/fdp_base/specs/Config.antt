@@ -3,6 +3,7 @@ use Rattle.std.specs.Prelude.{◌≢◌, ℕ, ◌<◌, ◌≤◌, List, length, 
 use Rattle.std.specs.Option.{ForSome}
 use Rattle.fdp_base.specs.declared.config.DriveConfig.{DriveConfig}
 use Rattle.fdp_base.specs.declared.config.NamespaceConfig.{NamespaceConfig}
+use Rattle.fdp_base.specs.declared.limits.TheConstants.{MOST_COMMAND_BLOCKS, MOST_HANDLES, MOST_NAMESPACES, MOST_PAGES, MOST_QUEUE_DEPTH}
 use Rattle.fdp_base.specs.Geometry.{IsBlockSize, IsWithin, all_pages, area_pages}
 use Rattle.fdp_base.specs.Placement.{geometry_of, handle_count, full_budget, needed_area_pages, namespace_blocks}
 
@@ -12,7 +13,7 @@ HasNoRepeat xs = (i k : ℕ) → i < k → k < length xs → slice_index xs i �
 
 -- a list of handles that a namespace may have, of so many: one to sixteen of them, each once
 pub record IsHandleList (count : ℕ) (handles : List ℕ) : Type 0 where
-  pub number : IsWithin 1 16 (length handles)
+  pub number : IsWithin 1 MOST_HANDLES (length handles)
   pub known : All (λ ruh. ruh < count) handles
   pub distinct : HasNoRepeat handles
 
@@ -27,17 +28,17 @@ pub record IsInRange (c : DriveConfig) : Type 0 where
   pub unit_pages : IsWithin 2 256 c.unit_pages
   pub groups : IsWithin 1 16 c.groups
   pub units : IsWithin 1 131072 c.units
-  pub pages : all_pages (geometry_of c) ≤ 262144
+  pub pages : all_pages (geometry_of c) ≤ MOST_PAGES
   pub area_units : IsWithin 1 65536 c.area_units
   pub queues : IsWithin 1 16 c.queues
-  pub blocks_per_command : IsWithin 1 64 c.blocks_per_command
+  pub blocks_per_command : IsWithin 1 MOST_COMMAND_BLOCKS c.blocks_per_command
   pub command_in_unit : c.blocks_per_command ≤ c.unit_pages
   pub configurations : IsWithin 1 4 (length c.fdp)
-  pub handles : All (λ classes. IsWithin 1 16 (length classes)) c.fdp
+  pub handles : All (λ classes. IsWithin 1 MOST_HANDLES (length classes)) c.fdp
   pub index : c.index < length c.fdp
-  pub namespaces : length c.namespaces ≤ 16
+  pub namespaces : length c.namespaces ≤ MOST_NAMESPACES
   pub each_namespace : All (IsValidNamespace c) c.namespaces
-  pub queue_depth : IsWithin 2 1024 c.queue_depth
+  pub queue_depth : IsWithin 2 MOST_QUEUE_DEPTH c.queue_depth
   pub collectors : IsWithin 0 8 c.collectors
   pub turns : IsWithin 0 4294967295 c.turns
 

@@ -1,96 +1,139 @@
 ghost use Rattle.std.specs.Prelude.{◌≡◌, IfOk};
-ghost use Rattle.fdp_base.specs.CommandKinds.{directed_by};
 
 use crate::payload::Payload;
 use crate::sequence::{EventTypes, HandleList, Pids, Ranges};
 use std::alloc::AllocError;
 
+/// Writes `count` blocks from `slba` on. `dtype` 2 is the Data Placement Directive, and `dspec` its placement identifier.
+#[derive(Clone, Debug, Drop, PartialEq, Eq)]
+pub struct Write {
+    pub nsid: u32,
+    pub slba: u64,
+    pub count: u32,
+    pub dtype: u8,
+    pub dspec: u16,
+    pub payload: Payload,
+}
+
+/// Reads `count` blocks from `slba` on.
+#[derive(Clone, Copy, Debug, PartialEq, Eq)]
+pub struct Read {
+    pub nsid: u32,
+    pub slba: u64,
+    pub count: u32,
+}
+
+/// Write Zeroes: `count` blocks from `slba` on read as zeros.
+#[derive(Clone, Copy, Debug, PartialEq, Eq)]
+pub struct Zero {
+    pub nsid: u32,
+    pub slba: u64,
+    pub count: u32,
+}
+
+/// Dataset Management. Without `deallocate` it changes nothing.
+#[derive(Clone, Debug, Drop, PartialEq, Eq)]
+pub struct Dealloc {
+    pub nsid: u32,
+    pub deallocate: bool,
+    pub ranges: Ranges,
+}
+
+/// Flush.
+#[derive(Clone, Copy, Debug, PartialEq, Eq)]
+pub struct Flush {
+    pub nsid: u32,
+}
+
+/// Deletes a namespace.
+#[derive(Clone, Copy, Debug, PartialEq, Eq)]
+pub struct Delete {
+    pub nsid: u32,
+}
+
+/// I/O Management Receive with management operation `mo`.
+#[derive(Clone, Copy, Debug, PartialEq, Eq)]
+pub struct HandleStatus {
+    pub nsid: u32,
+    pub mo: u8,
+    pub dwords: u32,
+}
+
+/// I/O Management Send with management operation `mo`.
+#[derive(Clone, Debug, Drop, PartialEq, Eq)]
+pub struct HandleUpdate {
+    pub nsid: u32,
+    pub mo: u8,
+    pub pids: Pids,
+}
+
+/// Get Log Page; `offset` is in bytes.
+#[derive(Clone, Copy, Debug, PartialEq, Eq)]
+pub struct GetLog {
+    pub lid: u8,
+    pub lsp: u8,
+    pub group: u16,
+    pub offset: u64,
+    pub dwords: u32,
+}
+
+/// Set Features, Flexible Data Placement.
+#[derive(Clone, Copy, Debug, PartialEq, Eq)]
+pub struct SetFdp {
+    pub group: u16,
+    pub enable: bool,
+    pub index: u8,
+}
+
+/// Get Features, Flexible Data Placement.
+#[derive(Clone, Copy, Debug, PartialEq, Eq)]
+pub struct GetFdp {
+    pub group: u16,
+}
+
+/// Set Features, Flexible Data Placement Events, for a placement handle of the namespace.
+#[derive(Clone, Debug, Drop, PartialEq, Eq)]
+pub struct SetEvents {
+    pub nsid: u32,
+    pub handle: u16,
+    pub enable: bool,
+    pub types: EventTypes,
+}
+
+/// Creates a namespace of `size` blocks. Where no list is `given`, `list` is empty.
+#[derive(Clone, Debug, Drop, PartialEq, Eq)]
+pub struct Create {
+    pub size: u64,
+    pub given: bool,
+    pub list: HandleList,
+}
+
+/// A command that the drive does not serve. `flags` are byte 1 of its entry, `feature` its feature identifier.
+#[derive(Clone, Copy, Debug, PartialEq, Eq)]
+pub struct Other {
+    pub admin: bool,
+    pub opcode: u8,
+    pub flags: u8,
+    pub feature: u8,
+}
+
 /// A command of a host. The fields are those of its submission queue entry; `docs/DRIVE.md` has the table.
 #[derive(Clone, Debug, Drop, PartialEq, Eq)]
 pub enum Command {
-    /// `count` blocks from `slba` on. `dtype` 2 is the Data Placement Directive, and `dspec` its placement identifier.
-    Write {
-        nsid: u32,
-        slba: u64,
-        count: u32,
-        dtype: u8,
-        dspec: u16,
-        payload: Payload,
-    },
-    Read {
-        nsid: u32,
-        slba: u64,
-        count: u32,
-    },
-    /// Write Zeroes.
-    Zero {
-        nsid: u32,
-        slba: u64,
-        count: u32,
-    },
-    /// Dataset Management. Without `deallocate` it changes nothing.
-    Dealloc {
-        nsid: u32,
-        deallocate: bool,
-        ranges: Ranges,
-    },
-    Flush {
-        nsid: u32,
-    },
-    /// Deletes a namespace.
-    Delete {
-        nsid: u32,
-    },
-    /// I/O Management Receive with management operation `mo`.
-    Status {
-        nsid: u32,
-        mo: u8,
-        dwords: u32,
-    },
-    /// I/O Management Send with management operation `mo`.
-    Update {
-        nsid: u32,
-        mo: u8,
-        pids: Pids,
-    },
-    /// Get Log Page; `offset` is in bytes.
-    Log {
-        lid: u8,
-        lsp: u8,
-        group: u16,
-        offset: u64,
-        dwords: u32,
-    },
-    /// Set Features, Flexible Data Placement.
-    SetFdp {
-        group: u16,
-        enable: bool,
-        index: u8,
-    },
-    /// Get Features, Flexible Data Placement.
-    GetFdp {
-        group: u16,
-    },
-    /// Set Features, Flexible Data Placement Events, for a placement handle of the namespace.
-    SetEvents {
-        nsid: u32,
-        handle: u16,
-        enable: bool,
-        types: EventTypes,
-    },
-    /// Creates a namespace of `size` blocks. Where no list is `given`, `list` is empty.
-    Create {
-        size: u64,
-        given: bool,
-        list: HandleList,
-    },
-    /// A command that the drive does not serve. `flags` are byte 1 of its entry, `feature` its feature identifier.
-    Other {
-        admin: bool,
-        opcode: u8,
-        flags: u8,
-        feature: u8,
-    },
+    Write(Write),
+    Read(Read),
+    Zero(Zero),
+    Dealloc(Dealloc),
+    Flush(Flush),
+    Delete(Delete),
+    Status(HandleStatus),
+    Update(HandleUpdate),
+    Log(GetLog),
+    SetFdp(SetFdp),
+    GetFdp(GetFdp),
+    SetEvents(SetEvents),
+    Create(Create),
+    Other(Other),
 }
 
 /// `length` blocks from `slba` on.
@@ -108,20 +151,20 @@ impl Command {
         ensures { result.now ≡ word_of self.now }
     {
         match self {
-            Command::Write { .. } => "write",
-            Command::Read { .. } => "read",
-            Command::Zero { .. } => "zero",
-            Command::Dealloc { .. } => "dealloc",
-            Command::Flush { .. } => "flush",
-            Command::Delete { .. } => "delete",
-            Command::Status { .. } => "status",
-            Command::Update { .. } => "update",
-            Command::Log { .. } => "log",
-            Command::SetFdp { .. } => "set-fdp",
-            Command::GetFdp { .. } => "get-fdp",
-            Command::SetEvents { .. } => "set-events",
-            Command::Create { .. } => "create",
-            Command::Other { .. } => "entry",
+            Command::Write(_) => "write",
+            Command::Read(_) => "read",
+            Command::Zero(_) => "zero",
+            Command::Dealloc(_) => "dealloc",
+            Command::Flush(_) => "flush",
+            Command::Delete(_) => "delete",
+            Command::Status(_) => "status",
+            Command::Update(_) => "update",
+            Command::Log(_) => "log",
+            Command::SetFdp(_) => "set-fdp",
+            Command::GetFdp(_) => "get-fdp",
+            Command::SetEvents(_) => "set-events",
+            Command::Create(_) => "create",
+            Command::Other(_) => "entry",
         }
     }
 
@@ -131,12 +174,4 @@ impl Command {
     {
         self.clone()
     }
-}
-
-/// The placement identifier of a write with these directive fields: directive type 2 is Data Placement (Base Specification
-/// 2.1, "Directives").
-pub fn directed_by(dtype: u8, dspec: u16) -> Option<u16>
-    ensures { result ≡ directed_by dtype dspec }
-{
-    if dtype == 2 { Some(dspec) } else { None }
 }

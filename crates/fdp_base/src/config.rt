@@ -1,5 +1,6 @@
 ghost use Rattle.std.specs.Prelude.{◌≡◌, ℕ, ◌+◌, ◌*◌, ◌^◌, ◌<◌, ◌≤◌, length, IfOk, Some, slice_get};
 
+use crate::limits::MOST_PAGES;
 use crate::sequence::{Classes, HandleList, Sequence};
 use std::alloc::AllocError;
 
@@ -82,7 +83,7 @@ impl Geometry {
     pub fn all_pages(&self) -> u32
         requires { IsValidGeometry self.now }
         ensures value { result ≡ all_pages self.now }
-        ensures bound { result ≤ 262144 }
+        ensures bound { result ≤ MOST_PAGES }
     {
         self.unit_pages * self.all_units()
     }

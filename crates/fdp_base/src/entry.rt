@@ -29,63 +29,94 @@ pub struct Reply {
     pub applied: bool,
 }
 
+/// A command was completed. `moment` counts the flash calls that had begun.
+#[derive(Clone, Debug, Drop, PartialEq, Eq)]
+pub struct Host {
+    pub queue: u8,
+    pub number: u16,
+    pub command: Command,
+    pub reply: Reply,
+    pub moment: u64,
+}
+
+/// A write was accepted for a reclaim group and a handle. The entry's position is the ticket of the write.
+#[derive(Clone, Debug, Drop, PartialEq, Eq)]
+pub struct Started {
+    pub queue: u8,
+    pub number: u16,
+    pub command: Command,
+    pub rg: u16,
+    pub ruh: u8,
+    pub pid_valid: bool,
+}
+
+/// Block `index` of the write with this ticket was programmed.
+#[derive(Clone, Copy, Debug, PartialEq, Eq)]
+pub struct Placed {
+    pub ticket: u64,
+    pub index: u32,
+    pub unit: u32,
+    pub page: u32,
+}
+
+/// Relocation copied a page.
+#[derive(Clone, Copy, Debug, PartialEq, Eq)]
+pub struct Copied {
+    pub from: Spot,
+    pub to: Spot,
+}
+
+/// The blocks that a pass of relocation copied now stand at their copies.
+#[derive(Clone, Debug, Drop, PartialEq, Eq)]
+pub struct Moved {
+    pub rg: u16,
+    pub blocks: BlockNames,
+}
+
+/// A unit was erased.
+#[derive(Clone, Copy, Debug, PartialEq, Eq)]
+pub struct Erased {
+    pub unit: u32,
+}
+
+/// An erase failed; the unit is out of use until the next opening.
+#[derive(Clone, Copy, Debug, PartialEq, Eq)]
+pub struct Retired {
+    pub unit: u32,
+}
+
+/// A fetch of relocation failed; the unit is out of use until the next opening.
+#[derive(Clone, Copy, Debug, PartialEq, Eq)]
+pub struct Aside {
+    pub unit: u32,
+}
+
+/// A program failed; the handle has no unit in this group.
+#[derive(Clone, Copy, Debug, PartialEq, Eq)]
+pub struct Shut {
+    pub rg: u16,
+    pub ruh: u8,
+}
+
+/// Relocation found no free unit in this group.
+#[derive(Clone, Copy, Debug, PartialEq, Eq)]
+pub struct Worn {
+    pub rg: u16,
+}
+
 /// One entry of the history of a drive. Its position is its number in the history, from 1 on.
 #[derive(Clone, Debug, Drop, PartialEq, Eq)]
 pub enum Entry {
-    /// A command was completed. `moment` counts the flash calls that had begun.
-    Host {
-        queue: u8,
-        number: u16,
-        command: Command,
-        reply: Reply,
-        moment: u64,
-    },
-    /// A write was accepted for a reclaim group and a handle. The entry's position is the ticket of the write.
-    Started {
-        queue: u8,
-        number: u16,
-        command: Command,
-        rg: u16,
-        ruh: u8,
-        pid_valid: bool,
-    },
-    /// Block `index` of the write with this ticket was programmed.
-    Placed {
-        ticket: u64,
-        index: u32,
-        unit: u32,
-        page: u32,
-    },
-    /// Relocation copied a page.
-    Copied {
-        from: Spot,
-        to: Spot,
-    },
-    /// The blocks that a pass of relocation copied now stand at their copies.
-    Moved {
-        rg: u16,
-        blocks: BlockNames,
-    },
-    Erased {
-        unit: u32,
-    },
-    /// An erase failed; the unit is out of use until the next opening.
-    Retired {
-        unit: u32,
-    },
-    /// A fetch of relocation failed; the unit is out of use until the next opening.
-    Aside {
-        unit: u32,
-    },
-    /// A program failed; the handle has no unit in this group.
-    Shut {
-        rg: u16,
-        ruh: u8,
-    },
-    /// Relocation found no free unit in this group.
-    Worn {
-        rg: u16,
-    },
+    Host(Host),
+    Started(Started),
+    Placed(Placed),
+    Copied(Copied),
+    Moved(Moved),
+    Erased(Erased),
+    Retired(Retired),
+    Aside(Aside),
+    Shut(Shut),
+    Worn(Worn),
     /// A drive was opened from an image.
     Reopened,
 }

@@ -109,7 +109,7 @@ impl<T: Drop> From<AllocFailed<T>> for ConfigFault {
 pub enum NoConfig {
     /// There is no such text.
     Absent,
-    /// The text has more than `TEXT_LIMIT` bytes.
+    /// The text has more than `LONGEST_CONFIG` bytes.
     TooLong,
     Faulty(ConfigFault),
 }

@@ -13,4 +13,4 @@ mod room;
 
 pub use fault::{ConfigFault, NoConfig, Word};
 pub use key::{Key, Shape};
-pub use read::{TEXT_LIMIT, read_config};
+pub use read::read_config;

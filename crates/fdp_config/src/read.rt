@@ -24,9 +24,6 @@ use fdp_base::{Classes, DriveConfig};
 use std::alloc::Global;
 use toml::Table;
 
-/// The most bytes that a configuration text may have.
-pub const TEXT_LIMIT: u64 = 65_536;
-
 /// The configuration that a document describes.
 fn read_table(alloc: Global, table: &Table) -> Result<DriveConfig, ConfigFault>
     ensures config { IfOk result (λ c. (c ≡ config_in (table_view table.now)) × (fault_of (table_view table.now) ≡ None)) }

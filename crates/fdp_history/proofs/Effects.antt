@@ -2,7 +2,6 @@
 use Rattle.std.proofs.Common.{◌≡◌, ℕ, ◌+◌, ◌≤◌, Bool, true, false, cond, List, ◌∷◌, length, Option, Some, None, refl, sym, ◌∙◌, ap, subst, arith, ⊎_elim}
 use Rattle.std.specs.Prelude.{◌&&◌, IsTrue, MatchBool, if◌then◌else◌}
 use Rattle.fdp_base.specs.declared.command.Command.{Command}
-use Rattle.fdp_base.specs.declared.command.Command.TheVariants as commands
 use Rattle.fdp_base.specs.declared.config.DriveConfig.{DriveConfig}
 use Rattle.fdp_base.specs.declared.entry.Entry.TheVariants as entries
 use Rattle.fdp_base.specs.declared.entry.Reply.{Reply}
@@ -14,6 +13,7 @@ use Rattle.fdp_base.specs.Numbers.{is_among, with_at}
 use Rattle.fdp_rules.specs.PlainState.{Going, PlainState}
 use Rattle.fdp_rules.specs.Point.{Point}
 use Rattle.fdp_rules.specs.Refusal.{refusal_of}
+use Rattle.fdp_rules.proofs.Effects.{by-effect}
 use Rattle.fdp_rules.specs.Step.{IsEnd, IsGoing, IsHost, IsPlainReply, IsWriteReply, MaySucceed}
 use Rattle.fdp_history.specs.OrderlyState.{IsOrderlyState}
 use Rattle.fdp_history.proofs.Blocks.{without_blocks-orderly, write-orderly}
@@ -57,24 +57,23 @@ module _ (told : Bool) (c : DriveConfig) (p : Point) (queue number : ℕ) (comma
 
 pub effect-orderly : (c : DriveConfig) (p : Point) (queue number : ℕ) (command : Command) → IsValidConfig c → IsApplicable c p queue number command → IsOrderlyState c p.state → IsOrderlyState c (later (effect_of c p.state queue command))
 unfolding effect_of
-effect-orderly c p queue number (commands.Write nsid slba count dtype dspec payload) valid may h =
-    orderly-later c _ (write-orderly c p.state queue may.0 nsid slba count dtype dspec payload valid may.1.going may.1.same_command may.2.there h)
-effect-orderly c p queue number (commands.Read nsid slba count) valid may h = orderly-later c p.state h
-effect-orderly c p queue number (commands.Zero nsid slba count) valid may h = orderly-later c _ (without_blocks-orderly c p.state nsid (is_among slba count) h)
-effect-orderly c p queue number (commands.Dealloc nsid deallocate ranges) valid may h = orderly-later c _ (without_blocks-orderly c p.state nsid (λ lba. deallocate && is_in_ranges ranges lba) h)
-effect-orderly c p queue number (commands.Flush nsid) valid may h = orderly-later c p.state h
-effect-orderly c p queue number (commands.Delete nsid) valid may h = deleted-orderly c p.state nsid h
-effect-orderly c p queue number (commands.Status nsid mo dwords) valid may h = orderly-later c p.state h
-effect-orderly c p queue number (commands.Update nsid mo pids) valid may h =
-    orderly-later c _ (references-changed c p.state _ (updates-orderly c p.state nsid p.state p.state.references pids valid (own-references c p.state h)) h)
-effect-orderly c p queue number (commands.Log lid lsp group offset dwords) valid may h = orderly-later c p.state h
-effect-orderly c p queue number (commands.SetFdp group enable index) valid may h =
-    let accepted = accepted-feature c p group enable index may in
-    configured-orderly c p.state enable index valid accepted.0 accepted.1 h
-effect-orderly c p queue number (commands.GetFdp group) valid may h = orderly-later c p.state h
-effect-orderly c p queue number (commands.SetEvents nsid handle enable types) valid may h = orderly-later c _ (reports-changed c p.state _ h)
-effect-orderly c p queue number (commands.Create size given list) valid may h = created-orderly c p.state size given list valid (accepted-create c p size given list may) h
-effect-orderly c p queue number (commands.Other admin opcode flags feature) valid may h = orderly-later c p.state h
+effect-orderly c p queue number command valid applies h =
+    let P : Command → Type 0 = λ x. IsApplicable c p queue number x → IsOrderlyState c (later (effect_of c p.state queue x)) in
+    by-effect P
+    (record {
+      write = λ w may. orderly-later c _ (write-orderly c p.state queue may.0 w.nsid w.slba w.count w.dtype w.dspec w.payload valid may.1.going may.1.same_command may.2.there h);
+      zero = λ z may. orderly-later c _ (without_blocks-orderly c p.state z.nsid (is_among z.slba z.count) h);
+      dealloc = λ d may. orderly-later c _ (without_blocks-orderly c p.state d.nsid (λ lba. d.deallocate && is_in_ranges d.ranges lba) h);
+      delete = λ d may. deleted-orderly c p.state d.nsid h;
+      update = λ u may. orderly-later c _ (references-changed c p.state _ (updates-orderly c p.state u.nsid p.state p.state.references u.pids valid (own-references c p.state h)) h);
+      set_fdp = λ s may.
+          let accepted = accepted-feature c p s.group s.enable s.index may in
+          configured-orderly c p.state s.enable s.index valid accepted.0 accepted.1 h;
+      set_events = λ s may. orderly-later c _ (reports-changed c p.state _ h);
+      create = λ create may. created-orderly c p.state create.size create.given create.list valid (accepted-create c p create.size create.given create.list may) h;
+      nothing = λ x none may. subst (λ (t : PlainState). IsOrderlyState c (later t)) (sym (none.state c p.state queue)) (orderly-later c p.state h);
+    })
+    command applies
 
 -- ---- what no change of a command touches
 
@@ -86,20 +85,20 @@ pub record KeepsRest (s done : PlainState) : Type 0 where
 
 effect-rest : (c : DriveConfig) (s : PlainState) (queue : ℕ) (command : Command) → KeepsRest s (effect_of c s queue command)
 unfolding effect_of
-effect-rest c s queue (commands.Write nsid slba count dtype dspec payload) = record { position = refl; going = refl; media = refl }
-effect-rest c s queue (commands.Read nsid slba count) = record { position = refl; going = refl; media = refl }
-effect-rest c s queue (commands.Zero nsid slba count) = record { position = refl; going = refl; media = refl }
-effect-rest c s queue (commands.Dealloc nsid deallocate ranges) = record { position = refl; going = refl; media = refl }
-effect-rest c s queue (commands.Flush nsid) = record { position = refl; going = refl; media = refl }
-effect-rest c s queue (commands.Delete nsid) = record { position = refl; going = refl; media = refl }
-effect-rest c s queue (commands.Status nsid mo dwords) = record { position = refl; going = refl; media = refl }
-effect-rest c s queue (commands.Update nsid mo pids) = record { position = refl; going = refl; media = refl }
-effect-rest c s queue (commands.Log lid lsp group offset dwords) = record { position = refl; going = refl; media = refl }
-effect-rest c s queue (commands.SetFdp group enable index) = record { position = refl; going = refl; media = refl }
-effect-rest c s queue (commands.GetFdp group) = record { position = refl; going = refl; media = refl }
-effect-rest c s queue (commands.SetEvents nsid handle enable types) = record { position = refl; going = refl; media = refl }
-effect-rest c s queue (commands.Create size given list) = record { position = refl; going = refl; media = refl }
-effect-rest c s queue (commands.Other admin opcode flags feature) = record { position = refl; going = refl; media = refl }
+effect-rest c s queue command =
+    by-effect (λ (x : Command). KeepsRest s (effect_of c s queue x))
+    (record {
+      write = λ w. record { position = refl; going = refl; media = refl };
+      zero = λ z. record { position = refl; going = refl; media = refl };
+      dealloc = λ d. record { position = refl; going = refl; media = refl };
+      delete = λ d. record { position = refl; going = refl; media = refl };
+      update = λ u. record { position = refl; going = refl; media = refl };
+      set_fdp = λ x. record { position = refl; going = refl; media = refl };
+      set_events = λ x. record { position = refl; going = refl; media = refl };
+      create = λ x. record { position = refl; going = refl; media = refl };
+      nothing = λ x none. subst (KeepsRest s) (sym (none.state c s queue)) (record { position = refl; going = refl; media = refl });
+    })
+    command
 
 -- ---- a completed command
 
@@ -124,7 +123,7 @@ completed-orderly c s done queue moment write failed rest h changed =
     media-changed c _ _ (one-moment s.media moment s.position failed h.media) (going-fewer c first _ fewer at)
 
 -- a command was completed whose change, where it was made, left an orderly state
-pub host-orderly : (c : DriveConfig) (s : PlainState) (queue number : ℕ) (command : Command) (reply : Reply) (moment : ℕ) → (IsTrue reply.applied → IsOrderlyState c (later (effect_of c s queue command))) → IsOrderlyState c s → IsOrderlyState c (after c s (entries.Host queue number command reply moment))
+pub host-orderly : (c : DriveConfig) (s : PlainState) (queue number : ℕ) (command : Command) (reply : Reply) (moment : ℕ) → (IsTrue reply.applied → IsOrderlyState c (later (effect_of c s queue command))) → IsOrderlyState c s → IsOrderlyState c (after c s (entries.Host (record { queue = queue; number = number; command = command; reply = reply; moment = moment })))
 unfolding after changed_by
 host-orderly c s queue number command reply moment made h =
     let P : Bool → Type 0 = λ b. reply.applied ≡ b → KeepsRest s (cond b (effect_of c s queue command) s) × IsOrderlyState c (later (cond b (effect_of c s queue command) s)) in

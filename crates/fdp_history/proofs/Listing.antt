@@ -24,7 +24,9 @@ use Rattle.fdp_rules.specs.Room.{handles_in_force, handles_of, namespace_ids, si
 use Rattle.fdp_rules.specs.Sites.{is_there}
 use Rattle.fdp_rules.specs.Step.{Follows, IsOnTarget, goes_to}
 use Rattle.fdp_rules.specs.Target.{Target, default_target, group_of_pid, handle_of_pid, named_by, target_of}
-use Rattle.fdp_rules.proofs.LastWrites.{keeps_data}
+use Rattle.fdp_base.proofs.Entries.{by-host}
+use Rattle.fdp_rules.proofs.Effects.{by-effect}
+use Rattle.fdp_rules.proofs.LastWrites.{keeps_data, not-completed}
 use Rattle.fdp_history.specs.Listed.{IsListed}
 use Rattle.fdp_history.specs.OrderlyState.{IsOrderlyState}
 use Rattle.fdp_history.proofs.Checks.{IsAcceptedCreate, accepted-create, accepted-feature}
@@ -96,7 +98,7 @@ has-handle c s nsid birth h there =
     elim (s.namespaces nsid) as P [ None ↦ λ _ no. absurd cc | Some n ↦ λ e _. (h.namespaces nsid n e).number.0 ] refl there
 
 -- a write that may succeed goes to a handle of its namespace's list
-write-listed : (c : DriveConfig) (s : PlainState) (g : Going) (nsid slba count dtype dspec : ℕ) (payload : Payload) → IsOrderlyState c s → g.command ≡ commands.Write nsid slba count dtype dspec payload → IsTrue (is_there s g) → IsOnTarget c s g → Contains (handles_of s nsid) g.ruh
+write-listed : (c : DriveConfig) (s : PlainState) (g : Going) (nsid slba count dtype dspec : ℕ) (payload : Payload) → IsOrderlyState c s → g.command ≡ commands.Write (record { nsid = nsid; slba = slba; count = count; dtype = dtype; dspec = dspec; payload = payload }) → IsTrue (is_there s g) → IsOnTarget c s g → Contains (handles_of s nsid) g.ruh
 write-listed c s g nsid slba count dtype dspec payload h command there target =
     let place : Target = target_of c s g.roomiest nsid (directed_by dtype dspec) in
     let goes : Some place ≡ Some (record { rg = g.rg; ruh = g.ruh; valid = g.pid_valid }) = subst (λ (x : Command). option_map (goes_to c s g.roomiest) (write_of x) ≡ Some (record { rg = g.rg; ruh = g.ruh; valid = g.pid_valid })) command target in
@@ -163,22 +165,21 @@ unspaced-listed c s t orderly none namespaces blocks =
 
 effect-listed : (c : DriveConfig) (p : Point) (queue number : ℕ) (command : Command) → IsApplicable c p queue number command → IsOrderlyState c p.state → IsListed c p.state → IsListed c (effect_of c p.state queue command)
 unfolding effect_of
-effect-listed c p queue number (commands.Write nsid slba count dtype dspec payload) may orderly h =
-    written-listed c p.state queue may.0 nsid slba count payload may.1.going (write-listed c p.state may.0 nsid slba count dtype dspec payload orderly may.1.same_command may.2.there may.2.target) h
-effect-listed c p queue number (commands.Read nsid slba count) may orderly h = h
-effect-listed c p queue number (commands.Zero nsid slba count) may orderly h = fewer-blocks c p.state nsid (is_among slba count) h
-effect-listed c p queue number (commands.Dealloc nsid deallocate ranges) may orderly h = fewer-blocks c p.state nsid (λ lba. deallocate && is_in_ranges ranges lba) h
-effect-listed c p queue number (commands.Flush nsid) may orderly h = h
-effect-listed c p queue number (commands.Delete nsid) may orderly h = deleted-listed c p.state nsid h
-effect-listed c p queue number (commands.Status nsid mo dwords) may orderly h = h
-effect-listed c p queue number (commands.Update nsid mo pids) may orderly h = listed-as c p.state _ refl refl refl h
-effect-listed c p queue number (commands.Log lid lsp group offset dwords) may orderly h = h
-effect-listed c p queue number (commands.SetFdp group enable index) may orderly h =
-    unspaced-listed c p.state _ orderly (none-there c p.state orderly (accepted-feature c p group enable index may).1) refl refl
-effect-listed c p queue number (commands.GetFdp group) may orderly h = h
-effect-listed c p queue number (commands.SetEvents nsid handle enable types) may orderly h = listed-as c p.state _ refl refl refl h
-effect-listed c p queue number (commands.Create size given list) may orderly h = created-listed c p.state size given list (accepted-create c p size given list may) orderly h
-effect-listed c p queue number (commands.Other admin opcode flags feature) may orderly h = h
+effect-listed c p queue number command applies orderly h =
+    let P : Command → Type 0 = λ x. IsApplicable c p queue number x → IsListed c (effect_of c p.state queue x) in
+    by-effect P
+    (record {
+      write = λ w may. written-listed c p.state queue may.0 w.nsid w.slba w.count w.payload may.1.going (write-listed c p.state may.0 w.nsid w.slba w.count w.dtype w.dspec w.payload orderly may.1.same_command may.2.there may.2.target) h;
+      zero = λ z may. fewer-blocks c p.state z.nsid (is_among z.slba z.count) h;
+      dealloc = λ d may. fewer-blocks c p.state d.nsid (λ lba. d.deallocate && is_in_ranges d.ranges lba) h;
+      delete = λ d may. deleted-listed c p.state d.nsid h;
+      update = λ u may. listed-as c p.state _ refl refl refl h;
+      set_fdp = λ s may. unspaced-listed c p.state _ orderly (none-there c p.state orderly (accepted-feature c p s.group s.enable s.index may).1) refl refl;
+      set_events = λ s may. listed-as c p.state _ refl refl refl h;
+      create = λ create may. created-listed c p.state create.size create.given create.list (accepted-create c p create.size create.given create.list may) orderly h;
+      nothing = λ x none may. subst (IsListed c) (sym (none.state c p.state queue)) h;
+    })
+    command applies
 
 -- an entry that changes no data
 unmade-listed : (c : DriveConfig) (s : PlainState) (e : Entry) → IsFalse (is_applied e) → IsListed c s → IsListed c (after c s e)
@@ -187,28 +188,23 @@ unmade-listed c s e unmade h =
     let handles : handles_in_force c (after c s e) ≡ handles_in_force c s = ap (λ (b : Bool). handle_count c b (after c s e).index) kept.enabled ∙ ap (handle_count c s.enabled) kept.index in
     listed-as c s (after c s e) kept.namespaces kept.blocks handles h
 
-host-listed : (told : Bool) (c : DriveConfig) (p : Point) (queue number : ℕ) (command : Command) (reply : Reply) (moment : ℕ) → Follows told c p (entries.Host queue number command reply moment) → IsOrderlyState c p.state → IsListed c p.state → (b : Bool) → reply.applied ≡ b → IsListed c (after c p.state (entries.Host queue number command reply moment))
+host-listed : (told : Bool) (c : DriveConfig) (p : Point) (queue number : ℕ) (command : Command) (reply : Reply) (moment : ℕ) → Follows told c p (entries.Host (record { queue = queue; number = number; command = command; reply = reply; moment = moment })) → IsOrderlyState c p.state → IsListed c p.state → (b : Bool) → reply.applied ≡ b → IsListed c (after c p.state (entries.Host (record { queue = queue; number = number; command = command; reply = reply; moment = moment })))
 unfolding Follows after changed_by
 host-listed told c p queue number command reply moment step orderly h true made =
     let done : PlainState = if reply.applied then effect_of c p.state queue command else p.state in
     let is : done ≡ effect_of c p.state queue command = rw made refl in
     let changed : IsListed c done = subst (IsListed c) (sym is) (effect-listed c p queue number command (applicable told c p queue number command reply moment made step) orderly h) in
     listed-as c done _ refl refl refl changed
-host-listed told c p queue number command reply moment step orderly h false unmade = unmade-listed c p.state (entries.Host queue number command reply moment) unmade h
+host-listed told c p queue number command reply moment step orderly h false unmade = unmade-listed c p.state (entries.Host (record { queue = queue; number = number; command = command; reply = reply; moment = moment })) unmade h
 
 -- an entry that may follow
 pub listed-next : (told : Bool) (c : DriveConfig) (p : Point) (e : Entry) → IsOrderlyState c p.state → IsListed c p.state → Follows told c p e → IsListed c (after c p.state e)
-listed-next told c p (entries.Host queue number command reply moment) orderly h step = host-listed told c p queue number command reply moment step orderly h reply.applied refl
-listed-next told c p (entries.Started queue number command rg ruh pid_valid) orderly h step = unmade-listed c p.state _ refl h
-listed-next told c p (entries.Placed ticket index unit page) orderly h step = unmade-listed c p.state _ refl h
-listed-next told c p (entries.Copied old new) orderly h step = unmade-listed c p.state _ refl h
-listed-next told c p (entries.Moved rg blocks) orderly h step = unmade-listed c p.state _ refl h
-listed-next told c p (entries.Erased unit) orderly h step = unmade-listed c p.state _ refl h
-listed-next told c p (entries.Retired unit) orderly h step = unmade-listed c p.state _ refl h
-listed-next told c p (entries.Aside unit) orderly h step = unmade-listed c p.state _ refl h
-listed-next told c p (entries.Shut rg ruh) orderly h step = unmade-listed c p.state _ refl h
-listed-next told c p (entries.Worn rg) orderly h step = unmade-listed c p.state _ refl h
-listed-next told c p entries.Reopened orderly h step = unmade-listed c p.state _ refl h
+listed-next told c p e orderly h step =
+    let P : Entry → Type 0 = λ x. Follows told c p x → IsListed c (after c p.state x) in
+    by-host P
+    (λ host next. host-listed told c p host.queue host.number host.command host.reply host.moment next orderly h host.reply.applied refl)
+    (λ x none next. unmade-listed c p.state x (not-completed x none) h)
+    e step
 
 -- ---- the drive as its configuration makes it
 

@@ -11,11 +11,11 @@ use Rattle.fdp_rules.specs.Effect.{with_reference}
 use Rattle.fdp_rules.specs.PlainState.{Going, PlainState, Reference}
 use Rattle.fdp_rules.specs.Point.{Point}
 use Rattle.fdp_rules.specs.Step.{IsNextPage, IsPlaced, IsUnreferenced}
-use Rattle.fdp_rules.specs.Totals.{blocks_written}
 use Rattle.fdp_history.specs.OrderlyState.{IsOrderlyGoing, IsOrderlyState}
 use Rattle.fdp_history.proofs.Parts.{going-changed, later, orderly-later}
 use Rattle.fdp_history.proofs.References.{AreOrderlyReferences, one_less-orderly, one_less-unit, own-references, references-changed, with_reference-orderly}
 use Rattle.fdp_history.proofs.Tables.{find-some, find-within}
+use Rattle.fdp_base.specs.CommandKinds.{blocks_written}
 
 -- a queue that holds a ticket has a write with it
 pub holder : (s : PlainState) (ticket queue : ℕ) → holds_ticket s ticket queue ≡ true → (g : Going) × (s.going queue ≡ Some g) × (g.ticket ≡ ticket)
@@ -112,7 +112,7 @@ placed-references c p ticket index unit page valid placed h =
     (own-references c (later s) now) in
     subst (λ (o : Option Going). AreOrderlyReferences c (later s) (placed_references c s.references unit o)) (sym is) good
 
-pub placed-orderly : (c : DriveConfig) (p : Point) (ticket index unit page : ℕ) → IsValidConfig c → IsPlaced c p ticket index unit page → IsOrderlyState c p.state → IsOrderlyState c (after c p.state (entries.Placed ticket index unit page))
+pub placed-orderly : (c : DriveConfig) (p : Point) (ticket index unit page : ℕ) → IsValidConfig c → IsPlaced c p ticket index unit page → IsOrderlyState c p.state → IsOrderlyState c (after c p.state (entries.Placed (record { ticket = ticket; index = index; unit = unit; page = page })))
 unfolding after changed_by
 placed-orderly c p ticket index unit page valid placed h =
     let first = references-changed c (later p.state) _ (placed-references c p ticket index unit page valid placed h) (orderly-later c p.state h) in

@@ -38,17 +38,17 @@ reopened-orderly c s valid h =
 
 pub state-next : (told : Bool) (c : DriveConfig) (p : Point) (e : Entry) → IsValidConfig c → Follows told c p e → IsOrderlyState c p.state → IsOrderlyState c (after c p.state e)
 unfolding Follows after changed_by
-state-next told c p (entries.Host queue number command reply moment) valid step h =
-    host-orderly c p.state queue number command reply moment (λ applied. effect-orderly c p queue number command valid (applicable told c p queue number command reply moment applied step) h) h
-state-next told c p (entries.Started queue number command rg ruh pid_valid) valid step h = started-orderly c p queue number command rg ruh pid_valid valid step h
-state-next told c p (entries.Placed ticket index unit page) valid step h = placed-orderly c p ticket index unit page valid step h
-state-next told c p (entries.Copied old new) valid step h = orderly-later c p.state h
-state-next told c p (entries.Moved rg blocks) valid step h = orderly-later c p.state h
-state-next told c p (entries.Erased unit) valid step h = worn-changed c (later p.state) _ (orderly-later c p.state h)
-state-next told c p (entries.Retired unit) valid step h = lost-orderly c p.state unit step.unreferenced h
-state-next told c p (entries.Aside unit) valid step h = lost-orderly c p.state unit step.unreferenced h
-state-next told c p (entries.Shut rg ruh) valid step h =
+state-next told c p (entries.Host host) valid step h =
+    host-orderly c p.state host.queue host.number host.command host.reply host.moment (λ applied. effect-orderly c p host.queue host.number host.command valid (applicable told c p host.queue host.number host.command host.reply host.moment applied step) h) h
+state-next told c p (entries.Started s) valid step h = started-orderly c p s.queue s.number s.command s.rg s.ruh s.pid_valid valid step h
+state-next told c p (entries.Placed placed) valid step h = placed-orderly c p placed.ticket placed.index placed.unit placed.page valid step h
+state-next told c p (entries.Copied copied) valid step h = orderly-later c p.state h
+state-next told c p (entries.Moved m) valid step h = orderly-later c p.state h
+state-next told c p (entries.Erased e) valid step h = worn-changed c (later p.state) _ (orderly-later c p.state h)
+state-next told c p (entries.Retired r) valid step h = lost-orderly c p.state r.unit step.unreferenced h
+state-next told c p (entries.Aside a) valid step h = lost-orderly c p.state a.unit step.unreferenced h
+state-next told c p (entries.Shut s) valid step h =
     let now = orderly-later c p.state h in
-    references-changed c (later p.state) _ (shut-orderly c (later p.state) p.state.references rg ruh valid (own-references c (later p.state) now)) now
-state-next told c p (entries.Worn rg) valid step h = worn-changed c (later p.state) _ (orderly-later c p.state h)
+    references-changed c (later p.state) _ (shut-orderly c (later p.state) p.state.references s.rg s.ruh valid (own-references c (later p.state) now)) now
+state-next told c p (entries.Worn w) valid step h = worn-changed c (later p.state) _ (orderly-later c p.state h)
 state-next told c p entries.Reopened valid step h = reopened-orderly c p.state valid h

@@ -94,33 +94,33 @@ placed-sites c p ticket index unit page placed state h t i spot e =
 
 pub trail-next : (told : Bool) (c : DriveConfig) (p : Point) (e : Entry) → Follows told c p e → IsOrderlyState c p.state → IsOrderlyTrail c p.state.position p.trail → IsOrderlyTrail c (p.state.position + 1) (traced_by c p.trail e)
 unfolding Follows traced_by
-trail-next told c p (entries.Host queue number command reply moment) step state h = record { sites = λ t i spot e. site-later c p.state.position t i spot (h.sites t i spot e); copies = h.copies }
-trail-next told c p (entries.Started queue number command rg ruh pid_valid) step state h = record { sites = λ t i spot e. site-later c p.state.position t i spot (h.sites t i spot e); copies = h.copies }
-trail-next told c p (entries.Placed ticket index unit page) step state h = record {
-  sites = λ t i spot e. site-later c p.state.position t i spot (placed-sites c p ticket index unit page step state h t i spot e);
+trail-next told c p (entries.Host host) step state h = record { sites = λ t i spot e. site-later c p.state.position t i spot (h.sites t i spot e); copies = h.copies }
+trail-next told c p (entries.Started s) step state h = record { sites = λ t i spot e. site-later c p.state.position t i spot (h.sites t i spot e); copies = h.copies }
+trail-next told c p (entries.Placed placed) step state h = record {
+  sites = λ t i spot e. site-later c p.state.position t i spot (placed-sites c p placed.ticket placed.index placed.unit placed.page step state h t i spot e);
   copies = h.copies;
 }
-trail-next told c p (entries.Copied old new) step state h = record {
+trail-next told c p (entries.Copied copied) step state h = record {
   sites = λ t i spot e. site-later c p.state.position t i spot (h.sites t i spot e);
-  copies = copies-at c p.trail.copies _ _ (All-push (IsOrderlyCopy c _) _ (record { from = old; to = new }) (h.copies _) (record { from = step.from; to = step.to; from_group = refl; to_group = sym step.group })) h.copies;
+  copies = copies-at c p.trail.copies _ _ (All-push (IsOrderlyCopy c _) _ (record { from = copied.from; to = copied.to }) (h.copies _) (record { from = step.from; to = step.to; from_group = refl; to_group = sym step.group })) h.copies;
 }
-trail-next told c p (entries.Moved rg blocks) step state h = record {
+trail-next told c p (entries.Moved m) step state h = record {
   sites = λ t i spot e.
-      let was = was-before (moved_by (pass_in p.trail rg)) (p.trail.site (written t i)) spot e in
+      let was = was-before (moved_by (pass_in p.trail m.rg)) (p.trail.site (written t i)) spot e in
       let before = h.sites t i was.0 was.1 in
       record {
         ticket_is = (before.ticket_is.0, omega (arith, before.ticket_is.1));
         index_is = before.index_is;
-        page = subst (IsPage c) was.2 (moved-page c rg (pass_in p.trail rg) was.0 (all-last_run (IsOrderlyCopy c rg) (p.trail.copies rg) (h.copies rg)) before.page);
+        page = subst (IsPage c) was.2 (moved-page c m.rg (pass_in p.trail m.rg) was.0 (all-last_run (IsOrderlyCopy c m.rg) (p.trail.copies m.rg) (h.copies m.rg)) before.page);
       };
-  copies = none-copied c p.trail.copies rg h.copies;
+  copies = none-copied c p.trail.copies m.rg h.copies;
 }
-trail-next told c p (entries.Erased unit) step state h = record {
-  sites = λ t i spot e. site-later c p.state.position t i spot (h.sites t i spot (stood-before unit (p.trail.site (written t i)) spot e));
+trail-next told c p (entries.Erased erased) step state h = record {
+  sites = λ t i spot e. site-later c p.state.position t i spot (h.sites t i spot (stood-before erased.unit (p.trail.site (written t i)) spot e));
   copies = none-copied c p.trail.copies _ h.copies;
 }
-trail-next told c p (entries.Retired unit) step state h = record { sites = λ t i spot e. site-later c p.state.position t i spot (h.sites t i spot e); copies = none-copied c p.trail.copies _ h.copies }
-trail-next told c p (entries.Aside unit) step state h = record { sites = λ t i spot e. site-later c p.state.position t i spot (h.sites t i spot e); copies = none-copied c p.trail.copies _ h.copies }
-trail-next told c p (entries.Shut rg ruh) step state h = record { sites = λ t i spot e. site-later c p.state.position t i spot (h.sites t i spot e); copies = h.copies }
-trail-next told c p (entries.Worn rg) step state h = record { sites = λ t i spot e. site-later c p.state.position t i spot (h.sites t i spot e); copies = none-copied c p.trail.copies rg h.copies }
+trail-next told c p (entries.Retired r) step state h = record { sites = λ t i spot e. site-later c p.state.position t i spot (h.sites t i spot e); copies = none-copied c p.trail.copies _ h.copies }
+trail-next told c p (entries.Aside a) step state h = record { sites = λ t i spot e. site-later c p.state.position t i spot (h.sites t i spot e); copies = none-copied c p.trail.copies _ h.copies }
+trail-next told c p (entries.Shut s) step state h = record { sites = λ t i spot e. site-later c p.state.position t i spot (h.sites t i spot e); copies = h.copies }
+trail-next told c p (entries.Worn w) step state h = record { sites = λ t i spot e. site-later c p.state.position t i spot (h.sites t i spot e); copies = none-copied c p.trail.copies w.rg h.copies }
 trail-next told c p entries.Reopened step state h = record { sites = λ t i spot e. site-later c p.state.position t i spot (h.sites t i spot e); copies = h.copies }

@@ -1,13 +1,13 @@
 -- What is true of the plain state after every legal history of a drive.
 use Rattle.std.specs.Prelude.{◌≡◌, ℕ, ◌+◌, ◌<◌, ◌≤◌, IsTrue, IsFalse, Some, None, All, IfSome, length}
 use Rattle.fdp_base.specs.declared.config.DriveConfig.{DriveConfig}
-use Rattle.fdp_base.specs.CommandKinds.{IsWellFormed, Write, is_write, write_of}
+use Rattle.fdp_base.specs.CommandKinds.{IsWellFormed, blocks_written, is_write, write_of}
 use Rattle.fdp_base.specs.Geometry.{IsWithin}
 use Rattle.fdp_rules.specs.PlainState.{Block, Going, Namespace, PlainState, Reference}
 use Rattle.fdp_rules.specs.Room.{handles_in_force, size_of}
 use Rattle.fdp_rules.specs.Sites.{group_of, is_there}
 use Rattle.fdp_rules.specs.Step.{IsDataUnit, IsQueue}
-use Rattle.fdp_rules.specs.Totals.{blocks_written}
+use Rattle.fdp_base.specs.declared.command.Write.{Write}
 
 -- a namespace: one of sixteen identifiers; at least one block; a handle or up to sixteen, all of the configuration in force;
 -- not younger than the history

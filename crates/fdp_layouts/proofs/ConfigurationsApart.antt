@@ -7,7 +7,8 @@ use Rattle.fdp_layouts.specs.declared.configurations.ConfigHead.{ConfigHead}
 use Rattle.fdp_layouts.specs.declared.configurations.ConfigDesc.{ConfigDesc}
 use Rattle.fdp_layouts.specs.declared.configurations.Attributes.{Attributes}
 use Rattle.fdp_layouts.specs.declared.configurations.RuhClass.{RuhClass}
-use Rattle.fdp_layouts.specs.Configurations.{config_head_numbers, attributes_numbers, config_desc_numbers, class_code, class_numbers, ruh_class_numbers}
+use Rattle.fdp_base.specs.Codes.{class_code}
+use Rattle.fdp_layouts.specs.Configurations.{config_head_numbers, attributes_numbers, config_desc_numbers, class_numbers, ruh_class_numbers}
 use Rattle.fdp_layouts.proofs.Bits.{bit_apart}
 
 pub config_head_by_numbers : (v w : ConfigHead) → config_head_numbers v ≡ config_head_numbers w → v ≡ w

@@ -1,7 +1,7 @@
 -- The layouts of the FDP Configurations log page.
 use Rattle.std.specs.Prelude.{ℕ, ◌||◌, List, [], ◌∷◌, ◌==◌}
 use Rattle.fdp_base.specs.declared.config.Class.{Class}
-use Rattle.fdp_base.specs.declared.config.Class.TheVariants as classes
+use Rattle.fdp_base.specs.Codes.{class_code}
 use Rattle.fdp_base.specs.EventCodes.{bit}
 use Rattle.fdp_layouts.specs.Frame.{Part, Field, any, zeros, code, number}
 use Rattle.fdp_layouts.specs.declared.configurations.ConfigHead.{ConfigHead}
@@ -38,10 +38,6 @@ config_desc_numbers c =
     (c.size ∷ []) ∷ attributes_numbers c.attributes ∷ (0 ∷ []) ∷ (c.nrg ∷ []) ∷ (c.nruh ∷ []) ∷ (c.max_pids ∷ []) ∷ (c.nnss ∷ []) ∷ (c.runs ∷ []) ∷ (c.erutl ∷ []) ∷ []
 
 -- ---- a handle
-
-abbrev pub class_code : Class → ℕ
-class_code classes.Initial = 1
-class_code classes.Persistent = 2
 
 abbrev pub class_parts : List Part
 class_parts = code (λ n. (n == 1) || (n == 2)) ∷ []

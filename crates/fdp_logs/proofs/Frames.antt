@@ -15,7 +15,8 @@ use Rattle.fdp_layouts.specs.declared.usage.Usage.{Usage}
 use Rattle.fdp_layouts.specs.declared.usage.Usage.TheVariants as usages
 use Rattle.fdp_layouts.proofs.Bytes.{IsBytes, bytes_of_parts}
 use Rattle.fdp_layouts.specs.Configurations.{attributes_parts, config_head, config_desc, ruh_class, class_numbers}
-use Rattle.fdp_rules.specs.LogPages.{class_code, event_bytes, specific_bytes, zeros}
+use Rattle.fdp_base.specs.Codes.{class_code}
+use Rattle.fdp_rules.specs.LogPages.{event_bytes, specific_bytes, zeros}
 
 -- the lowest byte of a byte
 pub byte_of_byte : (n : ℕ) → n < 256 → byte_at 0 n ≡ n

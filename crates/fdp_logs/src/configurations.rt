@@ -1,10 +1,11 @@
 ghost use Rattle.std.specs.Prelude.{◌≡◌, ◌+◌, ◌*◌, ◌-◌, ◌≤◌, ◌++◌, ◌∷◌, [], length, flat_map, OnOk};
 ghost use Rattle.std.specs.Int.{to_le_bytes, w16, w32, w64};
+ghost use Rattle.fdp_base.specs.Codes.{class_code};
 ghost use Rattle.fdp_base.specs.Config.{IsInRange};
 ghost use Rattle.fdp_base.specs.Placement.{group_bits};
-ghost use Rattle.fdp_rules.specs.LogPages.{class_code, descriptor, descriptor_size, zeros};
+ghost use Rattle.fdp_rules.specs.LogPages.{descriptor, descriptor_size, zeros};
 
-use fdp_base::{Class, DriveConfig};
+use fdp_base::{Class, DriveConfig, MOST_NAMESPACES, MOST_PIDS};
 use fdp_layouts::{Attributes, ConfigDesc, ConfigHead, Frame, GroupBits, RuhClass};
 use std::alloc::AllocError;
 
@@ -27,7 +28,7 @@ pub fn descriptor_head(config: &DriveConfig, handles: u16) -> [u8; 64]
     requires few { handles ≤ 16 }
     ensures { result ≡
         to_le_bytes w16 (descriptor_size handles) ++ (128 + group_bits config.now.groups) ∷ 0 ∷ []
-        ++ to_le_bytes w32 config.now.groups ++ to_le_bytes w16 handles ++ to_le_bytes w16 63 ++ to_le_bytes w32 16
+        ++ to_le_bytes w32 config.now.groups ++ to_le_bytes w16 handles ++ to_le_bytes w16 (MOST_PIDS - 1) ++ to_le_bytes w32 MOST_NAMESPACES
         ++ to_le_bytes w64 (config.now.unit_pages * config.now.block) ++ to_le_bytes w32 0 ++ zeros 36 }
 {
     ConfigDesc {
@@ -39,8 +40,8 @@ pub fn descriptor_head(config: &DriveConfig, handles: u16) -> [u8; 64]
         },
         nrg: u32::from(config.groups),
         nruh: handles,
-        max_pids: 63,
-        nnss: 16,
+        max_pids: MOST_PIDS as u16 - 1,
+        nnss: MOST_NAMESPACES,
         runs: u64::from(config.unit_pages) * u64::from(config.block),
         erutl: 0,
     }

@@ -5,10 +5,12 @@ use Rattle.fdp_base.specs.declared.command.Command.{Command}
 use Rattle.fdp_base.specs.declared.command.Command.TheVariants as commands
 use Rattle.fdp_base.specs.declared.entry.Reply.{Reply}
 use Rattle.fdp_base.specs.declared.entry.Entry.{Entry}
-use Rattle.fdp_base.specs.declared.entry.Entry.TheVariants as entries
 use Rattle.fdp_base.specs.CommandKinds.{word_of}
 use Rattle.fdp_base.specs.Text.{hex, hex_bytes, line, status_text}
 use Rattle.fdp_base.specs.Pattern.{repeated}
+use Rattle.fdp_base.specs.declared.entry.Host.{Host}
+use Rattle.fdp_base.specs.EntryKinds.{host_of}
+use Rattle.std.specs.Option.{option_map_or}
 
 -- bytes cut into pieces of a size, at most so many pieces, the last maybe shorter
 unfoldable pub pieces_of : ℕ → ℕ → List ℕ → List (List ℕ)
@@ -38,20 +40,20 @@ data_lines bytes = flat_map data_line (pieces_of (length bytes) 32 bytes)
 
 -- the lines of the data that a command answers; only a read, a log and a status answer any
 abbrev pub data_text : Command → List ℕ → List ℕ
-data_text (commands.Read nsid slba count) bytes = block_lines count bytes
-data_text (commands.Status nsid mo dwords) bytes = data_lines bytes
-data_text (commands.Log lid lsp group offset dwords) bytes = data_lines bytes
-data_text (commands.Write nsid slba count dtype dspec payload) bytes = []
-data_text (commands.Zero nsid slba count) bytes = []
-data_text (commands.Dealloc nsid deallocate ranges) bytes = []
-data_text (commands.Flush nsid) bytes = []
-data_text (commands.Delete nsid) bytes = []
-data_text (commands.Update nsid mo pids) bytes = []
-data_text (commands.SetFdp group enable index) bytes = []
-data_text (commands.GetFdp group) bytes = []
-data_text (commands.SetEvents nsid handle enable types) bytes = []
-data_text (commands.Create size given list) bytes = []
-data_text (commands.Other admin opcode flags feature) bytes = []
+data_text (commands.Read r) bytes = block_lines r.count bytes
+data_text (commands.Status s) bytes = data_lines bytes
+data_text (commands.Log l) bytes = data_lines bytes
+data_text (commands.Write w) bytes = []
+data_text (commands.Zero z) bytes = []
+data_text (commands.Dealloc d) bytes = []
+data_text (commands.Flush f) bytes = []
+data_text (commands.Delete d) bytes = []
+data_text (commands.Update u) bytes = []
+data_text (commands.SetFdp s) bytes = []
+data_text (commands.GetFdp g) bytes = []
+data_text (commands.SetEvents s) bytes = []
+data_text (commands.Create c) bytes = []
+data_text (commands.Other o) bytes = []
 
 -- the lines of a completion: number, word, status, dword 0, and the data of a success
 abbrev pub completion : ℕ → Command → Reply → List ℕ
@@ -61,17 +63,7 @@ completion number command reply =
 
 -- the lines of an entry in the output of a queue
 abbrev pub completion_of : ℕ → Entry → List ℕ
-completion_of queue (entries.Host q number command reply moment) = if nat_eq q queue then completion number command reply else []
-completion_of queue (entries.Started q number command rg ruh pid_valid) = []
-completion_of queue (entries.Placed ticket index unit page) = []
-completion_of queue (entries.Copied old new) = []
-completion_of queue (entries.Moved rg blocks) = []
-completion_of queue (entries.Erased unit) = []
-completion_of queue (entries.Retired unit) = []
-completion_of queue (entries.Aside unit) = []
-completion_of queue (entries.Shut rg ruh) = []
-completion_of queue (entries.Worn rg) = []
-completion_of queue entries.Reopened = []
+completion_of queue e = option_map_or (λ (h : Host). if nat_eq h.queue queue then completion h.number h.command h.reply else []) (host_of e) []
 
 -- the output of a queue: its number, and its completions in order
 abbrev pub queue_text : List Entry → ℕ → List ℕ

@@ -3,6 +3,12 @@ use Rattle.std.specs.Prelude.{ℕ, ◌+◌, ◌-◌, ◌*◌, ◌/◌, ◌%◌, 
 use Rattle.fdp_base.specs.declared.command.Command.{Command}
 use Rattle.fdp_base.specs.declared.command.Command.TheVariants as commands
 use Rattle.fdp_base.specs.EventCodes.{bit}
+use Rattle.fdp_base.specs.declared.codes.AdminOpcode.{AdminOpcode}
+use Rattle.fdp_base.specs.declared.codes.AdminOpcode.TheVariants as admins
+use Rattle.fdp_base.specs.declared.codes.Feature.TheVariants as features
+use Rattle.fdp_base.specs.declared.codes.IoOpcode.{IoOpcode}
+use Rattle.fdp_base.specs.declared.codes.IoOpcode.TheVariants as ios
+use Rattle.fdp_base.specs.Codes.{admin_code, feature_code, io_code}
 use Rattle.fdp_layouts.specs.declared.submission.Sqe.{Sqe}
 use Rattle.fdp_layouts.specs.declared.submission.EntryFlags.{EntryFlags}
 use Rattle.fdp_layouts.specs.declared.submission.Fuse.{Fuse}
@@ -22,11 +28,11 @@ psdt_of n = if n == 0 then psdts.Prp else (if n == 1 then psdts.SglMetadataBuffe
 abbrev pub flags_of : ℕ → EntryFlags
 flags_of byte = record { fuse = fuse_of (byte % 4); psdt = psdt_of (byte / 64) }
 
-abbrev pub io : ℕ → ℕ → ℕ → ℕ → ℕ → ℕ → Words
-io opcode nsid cdw10 cdw11 cdw12 cdw13 = record { admin = false; opcode = opcode; flags = 0; nsid = nsid; cdw10 = cdw10; cdw11 = cdw11; cdw12 = cdw12; cdw13 = cdw13 }
+abbrev pub io : IoOpcode → ℕ → ℕ → ℕ → ℕ → ℕ → Words
+io opcode nsid cdw10 cdw11 cdw12 cdw13 = record { admin = false; opcode = io_code opcode; flags = 0; nsid = nsid; cdw10 = cdw10; cdw11 = cdw11; cdw12 = cdw12; cdw13 = cdw13 }
 
-abbrev pub admin : ℕ → ℕ → ℕ → ℕ → ℕ → ℕ → Words
-admin opcode nsid cdw10 cdw11 cdw12 cdw13 = record { admin = true; opcode = opcode; flags = 0; nsid = nsid; cdw10 = cdw10; cdw11 = cdw11; cdw12 = cdw12; cdw13 = cdw13 }
+abbrev pub admin : AdminOpcode → ℕ → ℕ → ℕ → ℕ → ℕ → Words
+admin opcode nsid cdw10 cdw11 cdw12 cdw13 = record { admin = true; opcode = admin_code opcode; flags = 0; nsid = nsid; cdw10 = cdw10; cdw11 = cdw11; cdw12 = cdw12; cdw13 = cdw13 }
 
 -- a count in a field of so many values, zero-based
 abbrev pub zero_based : ℕ → ℕ → ℕ
@@ -93,7 +99,7 @@ parameter_field lsp = 2 ^ 8 * (lsp % 128)
 abbrev pub log_group_field : ℕ → ℕ
 log_group_field group = 2 ^ 16 * group
 
--- FID, CDW10 bits 7:0: the feature; 1Dh is Flexible Data Placement, 1Eh its events
+-- FID, CDW10 bits 7:0: the feature
 abbrev pub feature_field : ℕ → ℕ
 feature_field feature = feature
 
@@ -120,21 +126,21 @@ types_field count = 2 ^ 16 * (count % 256)
 -- ---- the words of each command: opcode, NSID, CDW10 to CDW13; a create carries its values beside its entry
 
 abbrev pub words_of : Command → Words
-words_of (commands.Flush nsid) = io 0x00 nsid 0 0 0 0
-words_of (commands.Write nsid slba count dtype dspec payload) = io 0x01 nsid (low slba) (high slba) (nlb count + dtype_field dtype) (dspec_field dspec)
-words_of (commands.Read nsid slba count) = io 0x02 nsid (low slba) (high slba) (nlb count) 0
-words_of (commands.Zero nsid slba count) = io 0x08 nsid (low slba) (high slba) (nlb count) 0
-words_of (commands.Dealloc nsid deallocate ranges) = io 0x09 nsid (ranges_field (length ranges)) (deallocate_field deallocate) 0 0
-words_of (commands.Status nsid mo dwords) = io 0x12 nsid (operation_field mo) (numd dwords) 0 0
-words_of (commands.Update nsid mo pids) = io 0x1d nsid (operation_field mo + identifiers_field (length pids)) 0 0 0
-words_of (commands.Log lid lsp group offset dwords) =
-    admin 0x02 0 (page_field lid + parameter_field lsp + numd_low dwords) (numd_high dwords + log_group_field group) (low offset) (high offset)
-words_of (commands.SetFdp group enable index) = admin 0x09 0 (feature_field 0x1d) (group_field group) (enable_field enable + index_field index) 0
-words_of (commands.GetFdp group) = admin 0x0a 0 (feature_field 0x1d) (group_field group) 0 0
-words_of (commands.SetEvents nsid handle enable types) = admin 0x09 nsid (feature_field 0x1e) (handle_field handle + types_field (length types)) (enable_field enable) 0
-words_of (commands.Create size given list) = admin 0x0d 0 0 0 0 0
-words_of (commands.Delete nsid) = admin 0x0d nsid 1 0 0 0
-words_of (commands.Other is_admin opcode flags feature) = record { admin = is_admin; opcode = opcode; flags = flags; nsid = 0; cdw10 = feature_field feature; cdw11 = 0; cdw12 = 0; cdw13 = 0 }
+words_of (commands.Flush f) = io ios.Flush f.nsid 0 0 0 0
+words_of (commands.Write w) = io ios.Write w.nsid (low w.slba) (high w.slba) (nlb w.count + dtype_field w.dtype) (dspec_field w.dspec)
+words_of (commands.Read r) = io ios.Read r.nsid (low r.slba) (high r.slba) (nlb r.count) 0
+words_of (commands.Zero z) = io ios.WriteZeroes z.nsid (low z.slba) (high z.slba) (nlb z.count) 0
+words_of (commands.Dealloc d) = io ios.DatasetManagement d.nsid (ranges_field (length d.ranges)) (deallocate_field d.deallocate) 0 0
+words_of (commands.Status s) = io ios.IoManagementReceive s.nsid (operation_field s.mo) (numd s.dwords) 0 0
+words_of (commands.Update u) = io ios.IoManagementSend u.nsid (operation_field u.mo + identifiers_field (length u.pids)) 0 0 0
+words_of (commands.Log l) =
+    admin admins.GetLogPage 0 (page_field l.lid + parameter_field l.lsp + numd_low l.dwords) (numd_high l.dwords + log_group_field l.group) (low l.offset) (high l.offset)
+words_of (commands.SetFdp s) = admin admins.SetFeatures 0 (feature_field (feature_code features.DataPlacement)) (group_field s.group) (enable_field s.enable + index_field s.index) 0
+words_of (commands.GetFdp g) = admin admins.GetFeatures 0 (feature_field (feature_code features.DataPlacement)) (group_field g.group) 0 0
+words_of (commands.SetEvents s) = admin admins.SetFeatures s.nsid (feature_field (feature_code features.PlacementEvents)) (handle_field s.handle + types_field (length s.types)) (enable_field s.enable) 0
+words_of (commands.Create c) = admin admins.NamespaceManagement 0 0 0 0 0
+words_of (commands.Delete d) = admin admins.NamespaceManagement d.nsid 1 0 0 0
+words_of (commands.Other o) = record { admin = o.admin; opcode = o.opcode; flags = o.flags; nsid = 0; cdw10 = feature_field o.feature; cdw11 = 0; cdw12 = 0; cdw13 = 0 }
 
 -- the entry with these words, of a command with this identifier
 abbrev pub entry_of : Words → ℕ → Sqe

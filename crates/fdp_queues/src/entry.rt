@@ -16,10 +16,14 @@
 //! | create, delete | admin 0Dh | 0, 1 | | | |
 
 ghost use Rattle.std.specs.Prelude.{◌≡◌, ℕ, ◌+◌, ◌*◌, ◌%◌, ◌/◌, ◌^◌, ◌<◌};
+ghost use Rattle.fdp_base.specs.Codes.{feature_code};
 ghost use Rattle.fdp_queues.specs.Entry.{words_of, entry_of, work_of, flags_of, io, admin, zero_based, low, high};
 
 use crate::work::Work;
-use fdp_base::Command;
+use fdp_base::{
+    AdminOpcode, Command, Dealloc, Feature, GetLog, HandleUpdate, IoOpcode, SetEvents, SetFdp,
+    Write,
+};
 use fdp_layouts::{EntryFlags, Fuse, Psdt, Sqe};
 
 /// What a command puts into its entry.
@@ -89,112 +93,49 @@ fn words_of(command: &Command) -> Words
     ensures { result ≡ words_of command.now }
 {
     match command {
-        Command::Flush { nsid } => io(0x00, *nsid, 0, 0, 0, 0),
-        Command::Write {
-            nsid,
-            slba,
-            count,
-            dtype,
-            dspec,
-            ..
-        } => {
-            let cdw12 = blocks(*count) + (u32::from(*dtype % 16) << 20);
-            io(
-                0x01,
-                *nsid,
-                low(*slba),
-                high(*slba),
-                cdw12,
-                u32::from(*dspec) << 16,
-            )
-        }
-        Command::Read { nsid, slba, count } => io(
-            0x02,
-            *nsid,
-            low(*slba),
-            high(*slba),
-            blocks(*count),
+        Command::Flush(flush) => io(IoOpcode::Flush, flush.nsid, 0, 0, 0, 0),
+        Command::Write(write) => words_of_write(write),
+        Command::Read(read) => io(
+            IoOpcode::Read,
+            read.nsid,
+            low(read.slba),
+            high(read.slba),
+            blocks(read.count),
             0,
         ),
-        Command::Zero { nsid, slba, count } => io(
-            0x08,
-            *nsid,
-            low(*slba),
-            high(*slba),
-            blocks(*count),
+        Command::Zero(zero) => io(
+            IoOpcode::WriteZeroes,
+            zero.nsid,
+            low(zero.slba),
+            high(zero.slba),
+            blocks(zero.count),
             0,
         ),
-        Command::Dealloc {
-            nsid,
-            deallocate,
-            ranges,
-        } => {
-            let count = (ranges.as_slice().len() % 256 + 255) % 256;
-            io(0x09, *nsid, count as u32, 4 * u32::from(*deallocate), 0, 0)
-        }
-        Command::Status { nsid, mo, dwords } => io(
-            0x12,
-            *nsid,
-            u32::from(*mo),
-            last(*dwords),
+        Command::Dealloc(dealloc) => words_of_dealloc(dealloc),
+        Command::Status(status) => io(
+            IoOpcode::IoManagementReceive,
+            status.nsid,
+            u32::from(status.mo),
+            last(status.dwords),
             0,
             0,
         ),
-        Command::Update { nsid, mo, pids } => {
-            let count = (pids.as_slice().len() % 0x1_0000 + 0xffff) % 0x1_0000;
-            io(
-                0x1d,
-                *nsid,
-                u32::from(*mo) + ((count as u32) << 16),
-                0,
-                0,
-                0,
-            )
+        Command::Update(update) => words_of_update(update),
+        Command::Log(log) => words_of_log(log),
+        Command::SetFdp(set) => words_of_set_fdp(set),
+        Command::GetFdp(get) => {
+            let fid = feature(Feature::DataPlacement);
+            admin(AdminOpcode::GetFeatures, 0, fid, u32::from(get.group), 0, 0)
         }
-        Command::Log {
-            lid,
-            lsp,
-            group,
-            offset,
-            dwords,
-        } => {
-            let count = last(*dwords);
-            let cdw10 = u32::from(*lid) + (u32::from(*lsp % 128) << 8) + ((count % 0x1_0000) << 16);
-            let cdw11 = (count >> 16) + (u32::from(*group) << 16);
-            admin(0x02, 0, cdw10, cdw11, low(*offset), high(*offset))
-        }
-        Command::SetFdp {
-            group,
-            enable,
-            index,
-        } => {
-            let cdw12 = u32::from(*enable) + (u32::from(*index) << 8);
-            admin(0x09, 0, 0x1d, u32::from(*group), cdw12, 0)
-        }
-        Command::GetFdp { group } => admin(0x0a, 0, 0x1d, u32::from(*group), 0, 0),
-        Command::SetEvents {
-            nsid,
-            handle,
-            enable,
-            types,
-        } => {
-            let count = types.as_slice().len() % 256;
-            let cdw11 = u32::from(*handle) + ((count as u32) << 16);
-            admin(0x09, *nsid, 0x1e, cdw11, u32::from(*enable), 0)
-        }
-        Command::Create { .. } => admin(0x0d, 0, 0, 0, 0, 0),
-        Command::Delete { nsid } => admin(0x0d, *nsid, 1, 0, 0, 0),
-        Command::Other {
-            admin: is_admin,
-            opcode,
-            flags,
-            feature,
-        } => Words {
-            admin: *is_admin,
-            opcode: *opcode,
-            flags: *flags,
+        Command::SetEvents(set) => words_of_set_events(set),
+        Command::Create(_) => admin(AdminOpcode::NamespaceManagement, 0, 0, 0, 0, 0),
+        Command::Delete(delete) => admin(AdminOpcode::NamespaceManagement, delete.nsid, 1, 0, 0, 0),
+        Command::Other(other) => Words {
+            admin: other.admin,
+            opcode: other.opcode,
+            flags: other.flags,
             nsid: 0,
-            cdw10: u32::from(*feature),
+            cdw10: u32::from(other.feature),
             cdw11: 0,
             cdw12: 0,
             cdw13: 0,
@@ -202,13 +143,98 @@ fn words_of(command: &Command) -> Words
     }
 }
 
+fn words_of_write(write: &Write) -> Words
+    ensures { result ≡ words_of (Command.Write write.now) }
+{
+    let cdw12 = blocks(write.count) + (u32::from(write.dtype % 16) << 20);
+    let cdw13 = halves(0, write.dspec);
+    io(
+        IoOpcode::Write,
+        write.nsid,
+        low(write.slba),
+        high(write.slba),
+        cdw12,
+        cdw13,
+    )
+}
+
+fn words_of_dealloc(dealloc: &Dealloc) -> Words
+    ensures { result ≡ words_of (Command.Dealloc dealloc.now) }
+{
+    let count = (dealloc.ranges.as_slice().len() % 256 + 255) % 256;
+    let cdw11 = 4 * u32::from(dealloc.deallocate);
+    io(
+        IoOpcode::DatasetManagement,
+        dealloc.nsid,
+        count as u32,
+        cdw11,
+        0,
+        0,
+    )
+}
+
+fn words_of_update(update: &HandleUpdate) -> Words
+    ensures { result ≡ words_of (Command.Update update.now) }
+{
+    let count = (update.pids.as_slice().len() % 0x1_0000 + 0xffff) % 0x1_0000;
+    let cdw10 = halves(u16::from(update.mo), count as u16);
+    io(IoOpcode::IoManagementSend, update.nsid, cdw10, 0, 0, 0)
+}
+
+fn words_of_log(log: &GetLog) -> Words
+    ensures { result ≡ words_of (Command.Log log.now) }
+{
+    let count = last(log.dwords);
+    let cdw10 = u32::from(log.lid) + (u32::from(log.lsp % 128) << 8) + ((count % 0x1_0000) << 16);
+    let cdw11 = (count >> 16) + (u32::from(log.group) << 16);
+    admin(
+        AdminOpcode::GetLogPage,
+        0,
+        cdw10,
+        cdw11,
+        low(log.offset),
+        high(log.offset),
+    )
+}
+
+fn words_of_set_fdp(set: &SetFdp) -> Words
+    ensures { result ≡ words_of (Command.SetFdp set.now) }
+{
+    let fid = feature(Feature::DataPlacement);
+    let cdw12 = u32::from(set.enable) + (u32::from(set.index) << 8);
+    admin(
+        AdminOpcode::SetFeatures,
+        0,
+        fid,
+        u32::from(set.group),
+        cdw12,
+        0,
+    )
+}
+
+fn words_of_set_events(set: &SetEvents) -> Words
+    ensures { result ≡ words_of (Command.SetEvents set.now) }
+{
+    let fid = feature(Feature::PlacementEvents);
+    let count = set.types.as_slice().len() % 256;
+    let cdw11 = halves(set.handle, count as u16);
+    admin(
+        AdminOpcode::SetFeatures,
+        set.nsid,
+        fid,
+        cdw11,
+        u32::from(set.enable),
+        0,
+    )
+}
+
 /// An entry of an I/O queue, with CDW10 to CDW13.
-fn io(opcode: u8, nsid: u32, cdw10: u32, cdw11: u32, cdw12: u32, cdw13: u32) -> Words
+fn io(opcode: IoOpcode, nsid: u32, cdw10: u32, cdw11: u32, cdw12: u32, cdw13: u32) -> Words
     ensures { result ≡ io opcode nsid cdw10 cdw11 cdw12 cdw13 }
 {
     Words {
         admin: false,
-        opcode,
+        opcode: opcode.code(),
         flags: 0,
         nsid,
         cdw10,
@@ -219,12 +245,12 @@ fn io(opcode: u8, nsid: u32, cdw10: u32, cdw11: u32, cdw12: u32, cdw13: u32) -> 
 }
 
 /// An entry of the admin queue, with CDW10 to CDW13.
-fn admin(opcode: u8, nsid: u32, cdw10: u32, cdw11: u32, cdw12: u32, cdw13: u32) -> Words
+fn admin(opcode: AdminOpcode, nsid: u32, cdw10: u32, cdw11: u32, cdw12: u32, cdw13: u32) -> Words
     ensures { result ≡ admin opcode nsid cdw10 cdw11 cdw12 cdw13 }
 {
     Words {
         admin: true,
-        opcode,
+        opcode: opcode.code(),
         flags: 0,
         nsid,
         cdw10,
@@ -232,6 +258,20 @@ fn admin(opcode: u8, nsid: u32, cdw10: u32, cdw11: u32, cdw12: u32, cdw13: u32) 
         cdw12,
         cdw13,
     }
+}
+
+/// FID, the feature.
+fn feature(feature: Feature) -> u32
+    ensures { result ≡ feature_code feature }
+{
+    u32::from(feature.code())
+}
+
+/// The two halves of a word.
+fn halves(low: u16, high: u16) -> u32
+    ensures { result ≡ low + 2 ^ 16 * high }
+{
+    u32::from(low) + (u32::from(high) << 16)
 }
 
 /// A number of blocks, zero-based in 16 bits.

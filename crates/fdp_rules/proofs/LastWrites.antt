@@ -1,6 +1,6 @@
 -- What changes a block, and what a read of it gives.
 use Rattle.std.proofs.Common.{◌≡◌, ℕ, Bool, true, false, ◌&&◌, cond, List, [], ◌∷◌, ◌++◌, refl, sym, ◌∙◌, ap, subst, ⊎_elim}
-use Rattle.std.specs.Prelude.{MatchBool, Option, Some, None, IsTrue, IsFalse, unwrap_or, ◌==◌, if◌then◌else◌, option_map}
+use Rattle.std.specs.Prelude.{MatchBool, Option, Some, None, IsTrue, IsFalse, unwrap_or, ◌==◌, if◌then◌else◌, option_and_then, option_map}
 use Rattle.std.specs.Option.{option_map_or}
 use mathlib.Core.List.{append-nil}
 use mathlib.Core.Bool.{true≢false}
@@ -10,11 +10,14 @@ use Rattle.fdp_base.specs.declared.command.Command.TheVariants as commands
 use Rattle.fdp_base.specs.declared.config.DriveConfig.{DriveConfig}
 use Rattle.fdp_base.specs.declared.entry.Entry.{Entry}
 use Rattle.fdp_base.specs.declared.entry.Entry.TheVariants as entries
+use Rattle.fdp_base.specs.declared.entry.Host.{Host}
 use Rattle.fdp_base.specs.declared.entry.Reply.{Reply}
+use Rattle.fdp_base.proofs.Entries.{by-host}
 use Rattle.fdp_rules.specs.Answer.{read_block}
 use Rattle.fdp_rules.specs.Applied.{KeepsData, is_applied}
 use Rattle.fdp_rules.specs.Change.{after, changed_by}
 use Rattle.fdp_base.specs.CommandKinds.{is_write}
+use Rattle.fdp_base.specs.EntryKinds.{host_of}
 use Rattle.fdp_rules.specs.Effect.{block_of_write, effect_of, is_in_ranges}
 use Rattle.fdp_rules.specs.History.{Found, point_of, state_of}
 use Rattle.fdp_rules.specs.LastWrite.{last_left, last_written, left_by, left_by_entry}
@@ -23,6 +26,7 @@ use Rattle.fdp_rules.specs.LogPages.{zeros}
 use Rattle.fdp_base.specs.Numbers.{is_among}
 use Rattle.fdp_rules.specs.PlainState.{Block, Going, PlainState}
 use Rattle.fdp_rules.specs.Step.{Follows, IsPlainReply, IsStep, IsWriteReply}
+use Rattle.fdp_rules.proofs.Effects.{by-effect}
 use Rattle.fdp_rules.proofs.Pushes.{state_of-push}
 
 -- ---- only a command whose change is made changes data
@@ -32,32 +36,32 @@ not-applied c s done b P none p = subst (λ (a : Bool). P (cond a done s)) (sym 
 
 pub keeps_data : (c : DriveConfig) (s : PlainState) (e : Entry) → IsFalse (is_applied e) → KeepsData s (after c s e)
 unfolding after changed_by
-keeps_data c s (entries.Host queue number command reply moment) none =
-    let done : PlainState = effect_of c s queue command in
+keeps_data c s (entries.Host h) none =
+    let done : PlainState = effect_of c s h.queue h.command in
     record {
-      blocks = not-applied c s done reply.applied (λ (x : PlainState). x.blocks ≡ s.blocks) none refl;
-      namespaces = not-applied c s done reply.applied (λ (x : PlainState). x.namespaces ≡ s.namespaces) none refl;
-      reports = not-applied c s done reply.applied (λ (x : PlainState). x.reports ≡ s.reports) none refl;
-      enabled = not-applied c s done reply.applied (λ (x : PlainState). x.enabled ≡ s.enabled) none refl;
-      index = not-applied c s done reply.applied (λ (x : PlainState). x.index ≡ s.index) none refl;
-      generation = not-applied c s done reply.applied (λ (x : PlainState). x.generation ≡ s.generation) none refl;
+      blocks = not-applied c s done h.reply.applied (λ (x : PlainState). x.blocks ≡ s.blocks) none refl;
+      namespaces = not-applied c s done h.reply.applied (λ (x : PlainState). x.namespaces ≡ s.namespaces) none refl;
+      reports = not-applied c s done h.reply.applied (λ (x : PlainState). x.reports ≡ s.reports) none refl;
+      enabled = not-applied c s done h.reply.applied (λ (x : PlainState). x.enabled ≡ s.enabled) none refl;
+      index = not-applied c s done h.reply.applied (λ (x : PlainState). x.index ≡ s.index) none refl;
+      generation = not-applied c s done h.reply.applied (λ (x : PlainState). x.generation ≡ s.generation) none refl;
     }
-keeps_data c s (entries.Started queue number command rg ruh pid_valid) none = record { blocks = refl; namespaces = refl; reports = refl; enabled = refl; index = refl; generation = refl }
-keeps_data c s (entries.Placed ticket index unit page) none = record { blocks = refl; namespaces = refl; reports = refl; enabled = refl; index = refl; generation = refl }
-keeps_data c s (entries.Copied old new) none = record { blocks = refl; namespaces = refl; reports = refl; enabled = refl; index = refl; generation = refl }
-keeps_data c s (entries.Moved rg blocks) none = record { blocks = refl; namespaces = refl; reports = refl; enabled = refl; index = refl; generation = refl }
-keeps_data c s (entries.Erased unit) none = record { blocks = refl; namespaces = refl; reports = refl; enabled = refl; index = refl; generation = refl }
-keeps_data c s (entries.Retired unit) none = record { blocks = refl; namespaces = refl; reports = refl; enabled = refl; index = refl; generation = refl }
-keeps_data c s (entries.Aside unit) none = record { blocks = refl; namespaces = refl; reports = refl; enabled = refl; index = refl; generation = refl }
-keeps_data c s (entries.Shut rg ruh) none = record { blocks = refl; namespaces = refl; reports = refl; enabled = refl; index = refl; generation = refl }
-keeps_data c s (entries.Worn rg) none = record { blocks = refl; namespaces = refl; reports = refl; enabled = refl; index = refl; generation = refl }
+keeps_data c s (entries.Started started) none = record { blocks = refl; namespaces = refl; reports = refl; enabled = refl; index = refl; generation = refl }
+keeps_data c s (entries.Placed p) none = record { blocks = refl; namespaces = refl; reports = refl; enabled = refl; index = refl; generation = refl }
+keeps_data c s (entries.Copied copied) none = record { blocks = refl; namespaces = refl; reports = refl; enabled = refl; index = refl; generation = refl }
+keeps_data c s (entries.Moved m) none = record { blocks = refl; namespaces = refl; reports = refl; enabled = refl; index = refl; generation = refl }
+keeps_data c s (entries.Erased e) none = record { blocks = refl; namespaces = refl; reports = refl; enabled = refl; index = refl; generation = refl }
+keeps_data c s (entries.Retired r) none = record { blocks = refl; namespaces = refl; reports = refl; enabled = refl; index = refl; generation = refl }
+keeps_data c s (entries.Aside a) none = record { blocks = refl; namespaces = refl; reports = refl; enabled = refl; index = refl; generation = refl }
+keeps_data c s (entries.Shut shut) none = record { blocks = refl; namespaces = refl; reports = refl; enabled = refl; index = refl; generation = refl }
+keeps_data c s (entries.Worn w) none = record { blocks = refl; namespaces = refl; reports = refl; enabled = refl; index = refl; generation = refl }
 keeps_data c s entries.Reopened none = record { blocks = refl; namespaces = refl; reports = refl; enabled = refl; index = refl; generation = refl }
 
--- ---- what a command leaves in a block
+-- an entry that is no completion makes no change of a command
+pub not-completed : (e : Entry) → host_of e ≡ None → IsFalse (is_applied e)
+not-completed e none = ap (λ (o : Option Host). option_map_or (λ (h : Host). h.reply.applied) o false) none
 
--- what a block reads as, that may be there
-shown : DriveConfig → Option Block → List ℕ
-shown c b = option_map_or (λ (x : Block). x.bytes) b (zeros c.block)
+-- ---- what a command leaves in a block
 
 -- a test decides what is shown, and what was left
 put : (c : DriveConfig) (b : Bool) (new : Block) (old : Option Block) → option_map_or (λ (x : Block). x.bytes) (cond b (Some new) old) (zeros c.block) ≡ unwrap_or (cond b (Some new.bytes) None) (option_map_or (λ (x : Block). x.bytes) old (zeros c.block))
@@ -78,31 +82,33 @@ HasWrite s queue command = IsTrue (is_write command) → (g : Going) × (s.going
 
 left-by : (c : DriveConfig) (s : PlainState) (queue : ℕ) (command : Command) (n lba : ℕ) → HasWrite s queue command → read_block c (effect_of c s queue command) n lba ≡ unwrap_or (left_by c n lba command) (read_block c s n lba)
 unfolding effect_of HasWrite
-left-by c s queue (commands.Write nsid slba count dtype dspec payload) n lba going =
-    let g = going refl in
-    let P : Option Going → Type 0 = λ o. option_map_or (λ (x : Block). x.bytes) (if n == nsid && is_among slba count lba then option_map (block_of_write c slba payload lba) o else s.blocks n lba) (zeros c.block)
-    ≡ unwrap_or (left_by c n lba (commands.Write nsid slba count dtype dspec payload)) (read_block c s n lba) in
-    subst P (sym g.1) (put c (n == nsid && is_among slba count lba) (block_of_write c slba payload lba g.0) (s.blocks n lba))
-left-by c s queue (commands.Read nsid slba count) n lba going = refl
-left-by c s queue (commands.Zero nsid slba count) n lba going = taken c (n == nsid && is_among slba count lba) (s.blocks n lba)
-left-by c s queue (commands.Dealloc nsid deallocate ranges) n lba going = taken c (n == nsid && (deallocate && is_in_ranges ranges lba)) (s.blocks n lba)
-left-by c s queue (commands.Flush nsid) n lba going = refl
-left-by c s queue (commands.Delete nsid) n lba going =
-    taken c (n == nsid && true) (s.blocks n lba) ∙ ap (λ (b : Bool). unwrap_or (cond b (Some (zeros c.block)) None) (read_block c s n lba)) (and-true (n == nsid))
-left-by c s queue (commands.Status nsid mo dwords) n lba going = refl
-left-by c s queue (commands.Update nsid mo pids) n lba going = refl
-left-by c s queue (commands.Log lid lsp group offset dwords) n lba going = refl
-left-by c s queue (commands.SetFdp group enable index) n lba going = refl
-left-by c s queue (commands.GetFdp group) n lba going = refl
-left-by c s queue (commands.SetEvents nsid handle enable types) n lba going = refl
-left-by c s queue (commands.Create size given list) n lba going = refl
-left-by c s queue (commands.Other admin opcode flags feature) n lba going = refl
+left-by c s queue command n lba going =
+    let P : Command → Type 0 = λ x. HasWrite s queue x → read_block c (effect_of c s queue x) n lba ≡ unwrap_or (left_by c n lba x) (read_block c s n lba) in
+    by-effect P
+    (record {
+      write = λ w has.
+          let g = has refl in
+          let Q : Option Going → Type 0 = λ o. option_map_or (λ (x : Block). x.bytes) (if n == w.nsid && is_among w.slba w.count lba then option_map (block_of_write c w.slba w.payload lba) o else s.blocks n lba) (zeros c.block)
+          ≡ unwrap_or (left_by c n lba (commands.Write w)) (read_block c s n lba) in
+          subst Q (sym g.1) (put c (n == w.nsid && is_among w.slba w.count lba) (block_of_write c w.slba w.payload lba g.0) (s.blocks n lba));
+      zero = λ z has. taken c (n == z.nsid && is_among z.slba z.count lba) (s.blocks n lba);
+      dealloc = λ d has. taken c (n == d.nsid && (d.deallocate && is_in_ranges d.ranges lba)) (s.blocks n lba);
+      delete = λ d has.
+          taken c (n == d.nsid && true) (s.blocks n lba) ∙ ap (λ (b : Bool). unwrap_or (cond b (Some (zeros c.block)) None) (read_block c s n lba)) (and-true (n == d.nsid));
+      update = λ u has. refl;
+      set_fdp = λ x has. refl;
+      set_events = λ x has. refl;
+      create = λ x has. refl;
+      nothing = λ x none has.
+          ap (λ (t : PlainState). read_block c t n lba) (none.state c s queue) ∙ sym (ap (λ (o : Option (List ℕ)). unwrap_or o (read_block c s n lba)) (none.blocks c n lba));
+    })
+    command going
 
 -- ---- what an entry leaves in a block
 
 -- a write whose change is made was going
 going-write : (told : Bool) (c : DriveConfig) (f : Found) (before : List Entry) (queue number : ℕ) (command : Command) (reply : Reply) (moment : ℕ)
-    → IsStep told c f before (entries.Host queue number command reply moment) → IsTrue reply.applied → HasWrite (state_of c f before) queue command
+    → IsStep told c f before (entries.Host (record { queue = queue; number = number; command = command; reply = reply; moment = moment })) → IsTrue reply.applied → HasWrite (state_of c f before) queue command
 unfolding Follows point_of HasWrite
 going-write told c f before queue number command reply moment step applied write =
     let replied = subst (λ (b : Bool). MatchBool b (IsWriteReply told c (point_of c f before) queue number command reply moment) (IsPlainReply told c (point_of c f before) command reply moment)) write step.replied in
@@ -119,18 +125,15 @@ host-left c s queue command false n lba going = refl
 entry-left : (told : Bool) (c : DriveConfig) (f : Found) (before : List Entry) (e : Entry) (n lba : ℕ) → IsStep told c f before e
     → read_block c (after c (state_of c f before) e) n lba ≡ unwrap_or (left_by_entry c n lba e) (read_block c (state_of c f before) n lba)
 unfolding after changed_by
-entry-left told c f before (entries.Host queue number command reply moment) n lba step =
-    host-left c (state_of c f before) queue command reply.applied n lba (λ applied. going-write told c f before queue number command reply moment step applied)
-entry-left told c f before (entries.Started queue number command rg ruh pid_valid) n lba step = refl
-entry-left told c f before (entries.Placed ticket index unit page) n lba step = refl
-entry-left told c f before (entries.Copied old new) n lba step = refl
-entry-left told c f before (entries.Moved rg blocks) n lba step = refl
-entry-left told c f before (entries.Erased unit) n lba step = refl
-entry-left told c f before (entries.Retired unit) n lba step = refl
-entry-left told c f before (entries.Aside unit) n lba step = refl
-entry-left told c f before (entries.Shut rg ruh) n lba step = refl
-entry-left told c f before (entries.Worn rg) n lba step = refl
-entry-left told c f before entries.Reopened n lba step = refl
+entry-left told c f before e n lba step =
+    let s : PlainState = state_of c f before in
+    let P : Entry → Type 0 = λ x. IsStep told c f before x → read_block c (after c s x) n lba ≡ unwrap_or (left_by_entry c n lba x) (read_block c s n lba) in
+    by-host P
+    (λ h next. host-left c s h.queue h.command h.reply.applied n lba (λ applied. going-write told c f before h.queue h.number h.command h.reply h.moment next applied))
+    (λ x none next.
+    ap (λ (blocks : ℕ → ℕ → Option Block). option_map_or (λ (b : Block). b.bytes) (blocks n lba) (zeros c.block)) (keeps_data c s x (not-completed x none)).blocks
+    ∙ sym (ap (λ (o : Option Host). unwrap_or (option_and_then (λ (h : Host). if h.reply.applied then left_by c n lba h.command else None) o) (read_block c s n lba)) none))
+    e step
 
 read-after : (told : Bool) (c : DriveConfig) (f : Found) (before es : List Entry) (n lba : ℕ) → IsLegalAfter told c f before es
     → read_block c (state_of c f (before ++ es)) n lba ≡ last_left c n lba (read_block c (state_of c f before) n lba) es

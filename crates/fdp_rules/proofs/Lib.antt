@@ -1,2 +1,4 @@
-pub mod Pushes
+pub mod Counting
+pub mod Effects
 pub mod LastWrites
+pub mod Pushes

@@ -20,37 +20,37 @@ read_block c s nsid lba = option_map_or (λ (b : Block). b.bytes) (s.blocks nsid
 
 -- the data of a success: of a read the blocks; of a status or a log so much of it as was asked for
 abbrev pub data_of : DriveConfig → Point → Command → List ℕ
-data_of c p (commands.Write nsid slba count dtype dspec payload) = []
-data_of c p (commands.Read nsid slba count) = flat_map (read_block c p.state nsid) (numbers_from slba count)
-data_of c p (commands.Zero nsid slba count) = []
-data_of c p (commands.Dealloc nsid deallocate ranges) = []
-data_of c p (commands.Flush nsid) = []
-data_of c p (commands.Delete nsid) = []
-data_of c p (commands.Status nsid mo dwords) = transfer_of 0 dwords (handle_status c p.state nsid)
-data_of c p (commands.Update nsid mo pids) = []
-data_of c p (commands.Log lid lsp group offset dwords) = transfer_of offset dwords (log_page c p lid lsp)
-data_of c p (commands.SetFdp group enable index) = []
-data_of c p (commands.GetFdp group) = []
-data_of c p (commands.SetEvents nsid handle enable types) = []
-data_of c p (commands.Create size given list) = []
-data_of c p (commands.Other admin opcode flags feature) = []
+data_of c p (commands.Write w) = []
+data_of c p (commands.Read r) = flat_map (read_block c p.state r.nsid) (numbers_from r.slba r.count)
+data_of c p (commands.Zero z) = []
+data_of c p (commands.Dealloc d) = []
+data_of c p (commands.Flush f) = []
+data_of c p (commands.Delete d) = []
+data_of c p (commands.Status s) = transfer_of 0 s.dwords (handle_status c p.state s.nsid)
+data_of c p (commands.Update u) = []
+data_of c p (commands.Log l) = transfer_of l.offset l.dwords (log_page c p l.lid l.lsp)
+data_of c p (commands.SetFdp s) = []
+data_of c p (commands.GetFdp g) = []
+data_of c p (commands.SetEvents s) = []
+data_of c p (commands.Create create) = []
+data_of c p (commands.Other o) = []
 
 -- dword 0 of a success: of a create the identifier; of Get Features whether placement is enabled, and its index
 abbrev pub dword0_of : PlainState → Command → ℕ
-dword0_of s (commands.Write nsid slba count dtype dspec payload) = 0
-dword0_of s (commands.Read nsid slba count) = 0
-dword0_of s (commands.Zero nsid slba count) = 0
-dword0_of s (commands.Dealloc nsid deallocate ranges) = 0
-dword0_of s (commands.Flush nsid) = 0
-dword0_of s (commands.Delete nsid) = 0
-dword0_of s (commands.Status nsid mo dwords) = 0
-dword0_of s (commands.Update nsid mo pids) = 0
-dword0_of s (commands.Log lid lsp group offset dwords) = 0
-dword0_of s (commands.SetFdp group enable index) = 0
-dword0_of s (commands.GetFdp group) = (if s.enabled then 1 else 0) + 256 * s.index
-dword0_of s (commands.SetEvents nsid handle enable types) = 0
-dword0_of s (commands.Create size given list) = unwrap_or (lowest_free s) 0
-dword0_of s (commands.Other admin opcode flags feature) = 0
+dword0_of s (commands.Write w) = 0
+dword0_of s (commands.Read r) = 0
+dword0_of s (commands.Zero z) = 0
+dword0_of s (commands.Dealloc d) = 0
+dword0_of s (commands.Flush f) = 0
+dword0_of s (commands.Delete d) = 0
+dword0_of s (commands.Status status) = 0
+dword0_of s (commands.Update u) = 0
+dword0_of s (commands.Log l) = 0
+dword0_of s (commands.SetFdp set) = 0
+dword0_of s (commands.GetFdp g) = (if s.enabled then 1 else 0) + 256 * s.index
+dword0_of s (commands.SetEvents set) = 0
+dword0_of s (commands.Create c) = unwrap_or (lowest_free s) 0
+dword0_of s (commands.Other o) = 0
 
 -- a success; the bytes of a read are told only over a flash that tells what it holds
 pub record IsSuccess (told : Bool) (c : DriveConfig) (p : Point) (command : Command) (reply : Reply) : Type 0 where

@@ -73,19 +73,19 @@ completed_in c s queue command reply moment =
 
 -- what an entry changes but for the position
 unfoldable pub changed_by : DriveConfig → PlainState → Entry → PlainState
-changed_by c s (entries.Host queue number command reply moment) = completed_in c s queue command reply moment
-changed_by c s (entries.Started queue number command rg ruh pid_valid) = record s { going = with_at s.going queue (Some (started c s number command rg ruh pid_valid)) }
-changed_by c s (entries.Placed ticket index unit page) = record s {
-  references = placed_references c s.references unit (going_with c s ticket);
-  going = placed_going s ticket;
+changed_by c s (entries.Host h) = completed_in c s h.queue h.command h.reply h.moment
+changed_by c s (entries.Started e) = record s { going = with_at s.going e.queue (Some (started c s e.number e.command e.rg e.ruh e.pid_valid)) }
+changed_by c s (entries.Placed p) = record s {
+  references = placed_references c s.references p.unit (going_with c s p.ticket);
+  going = placed_going s p.ticket;
 }
-changed_by c s (entries.Copied old new) = s
-changed_by c s (entries.Moved rg blocks) = s
-changed_by c s (entries.Erased unit) = record s { is_worn = with_at s.is_worn (unit / c.units) false }
-changed_by c s (entries.Retired unit) = record s { is_lost = with_at s.is_lost unit true }
-changed_by c s (entries.Aside unit) = record s { is_lost = with_at s.is_lost unit true }
-changed_by c s (entries.Shut rg ruh) = record s { references = with_reference s.references rg ruh (no_reference c) }
-changed_by c s (entries.Worn rg) = record s { is_worn = with_at s.is_worn rg true }
+changed_by c s (entries.Copied copied) = s
+changed_by c s (entries.Moved m) = s
+changed_by c s (entries.Erased e) = record s { is_worn = with_at s.is_worn (e.unit / c.units) false }
+changed_by c s (entries.Retired r) = record s { is_lost = with_at s.is_lost r.unit true }
+changed_by c s (entries.Aside a) = record s { is_lost = with_at s.is_lost a.unit true }
+changed_by c s (entries.Shut shut) = record s { references = with_reference s.references shut.rg shut.ruh (no_reference c) }
+changed_by c s (entries.Worn w) = record s { is_worn = with_at s.is_worn w.rg true }
 changed_by c s entries.Reopened = record (without_references c s) {
   going = λ queue. None;
   is_lost = λ unit. false;

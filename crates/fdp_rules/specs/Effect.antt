@@ -93,24 +93,24 @@ reporting s handle enable types = record s {
 
 -- the change of a command of a queue
 unfoldable pub effect_of : DriveConfig → PlainState → ℕ → Command → PlainState
-effect_of c s queue (commands.Write nsid slba count dtype dspec payload) = with_blocks c s (s.going queue) nsid slba count payload
-effect_of c s queue (commands.Read nsid slba count) = s
-effect_of c s queue (commands.Zero nsid slba count) = without_blocks s nsid (is_among slba count)
-effect_of c s queue (commands.Dealloc nsid deallocate ranges) = without_blocks s nsid (λ lba. deallocate && is_in_ranges ranges lba)
-effect_of c s queue (commands.Flush nsid) = s
-effect_of c s queue (commands.Delete nsid) = without_blocks (record s { namespaces = with_at s.namespaces nsid None }) nsid (λ lba. true)
-effect_of c s queue (commands.Status nsid mo dwords) = s
-effect_of c s queue (commands.Update nsid mo pids) = record s { references = fold (updated_by c s nsid) s.references pids }
-effect_of c s queue (commands.Log lid lsp group offset dwords) = s
-effect_of c s queue (commands.SetFdp group enable index) = without_references c (record s {
-  enabled = enable;
-  index = index;
+effect_of c s queue (commands.Write w) = with_blocks c s (s.going queue) w.nsid w.slba w.count w.payload
+effect_of c s queue (commands.Read r) = s
+effect_of c s queue (commands.Zero z) = without_blocks s z.nsid (is_among z.slba z.count)
+effect_of c s queue (commands.Dealloc d) = without_blocks s d.nsid (λ lba. d.deallocate && is_in_ranges d.ranges lba)
+effect_of c s queue (commands.Flush f) = s
+effect_of c s queue (commands.Delete d) = without_blocks (record s { namespaces = with_at s.namespaces d.nsid None }) d.nsid (λ lba. true)
+effect_of c s queue (commands.Status status) = s
+effect_of c s queue (commands.Update u) = record s { references = fold (updated_by c s u.nsid) s.references u.pids }
+effect_of c s queue (commands.Log l) = s
+effect_of c s queue (commands.SetFdp set) = without_references c (record s {
+  enabled = set.enable;
+  index = set.index;
   generation = s.generation + 1;
   reports = λ ruh kind. false;
 })
-effect_of c s queue (commands.GetFdp group) = s
-effect_of c s queue (commands.SetEvents nsid handle enable types) = reporting s (slice_index (handles_of s nsid) handle) enable types
-effect_of c s queue (commands.Create size given list) = record s {
-  namespaces = with_at s.namespaces (unwrap_or (lowest_free s) 0) (Some (created s size given list));
+effect_of c s queue (commands.GetFdp g) = s
+effect_of c s queue (commands.SetEvents set) = reporting s (slice_index (handles_of s set.nsid) set.handle) set.enable set.types
+effect_of c s queue (commands.Create create) = record s {
+  namespaces = with_at s.namespaces (unwrap_or (lowest_free s) 0) (Some (created s create.size create.given create.list));
 }
-effect_of c s queue (commands.Other admin opcode flags feature) = s
+effect_of c s queue (commands.Other o) = s

@@ -76,20 +76,20 @@ write_events s nsid pid (Some g) = if g.pid_valid then [] else invalid_identifie
 
 -- the events of a command of a queue whose change is made
 abbrev pub command_events : DriveConfig → PlainState → ℕ → Command → List Event
-command_events c s queue (commands.Write nsid slba count dtype dspec payload) = write_events s nsid dspec (s.going queue)
-command_events c s queue (commands.Read nsid slba count) = []
-command_events c s queue (commands.Zero nsid slba count) = []
-command_events c s queue (commands.Dealloc nsid deallocate ranges) = []
-command_events c s queue (commands.Flush nsid) = []
-command_events c s queue (commands.Delete nsid) = []
-command_events c s queue (commands.Status nsid mo dwords) = []
-command_events c s queue (commands.Update nsid mo pids) = update_events c s nsid s.references pids
-command_events c s queue (commands.Log lid lsp group offset dwords) = []
-command_events c s queue (commands.SetFdp group enable index) = []
-command_events c s queue (commands.GetFdp group) = []
-command_events c s queue (commands.SetEvents nsid handle enable types) = []
-command_events c s queue (commands.Create size given list) = []
-command_events c s queue (commands.Other admin opcode flags feature) = []
+command_events c s queue (commands.Write w) = write_events s w.nsid w.dspec (s.going queue)
+command_events c s queue (commands.Read r) = []
+command_events c s queue (commands.Zero z) = []
+command_events c s queue (commands.Dealloc d) = []
+command_events c s queue (commands.Flush f) = []
+command_events c s queue (commands.Delete d) = []
+command_events c s queue (commands.Status status) = []
+command_events c s queue (commands.Update u) = update_events c s u.nsid s.references u.pids
+command_events c s queue (commands.Log l) = []
+command_events c s queue (commands.SetFdp set) = []
+command_events c s queue (commands.GetFdp g) = []
+command_events c s queue (commands.SetEvents set) = []
+command_events c s queue (commands.Create create) = []
+command_events c s queue (commands.Other o) = []
 
 -- how many blocks were moved, as an event tells it: its field has 16 bits, and stands still at their last value
 abbrev pub told_moved : ℕ → ℕ
@@ -130,16 +130,16 @@ handle_event s kind rg ruh = record {
 -- the events of an entry: those of a command whose change is made; for each handle the blocks that a move moved of it; the
 -- handle that a failed program left without a unit; each handle of each group at an opening
 unfoldable pub events_of_entry : DriveConfig → PlainState → Entry → List Event
-events_of_entry c s (entries.Host queue number command reply moment) = if reply.applied then command_events c s queue command else []
-events_of_entry c s (entries.Started queue number command rg ruh pid_valid) = []
-events_of_entry c s (entries.Placed ticket index unit page) = []
-events_of_entry c s (entries.Copied old new) = []
-events_of_entry c s (entries.Moved rg blocks) = flat_map (λ ruh. reallocated s rg ruh (filter (is_of_handle s ruh) blocks)) (numbers_below (handles_in_force c s))
-events_of_entry c s (entries.Erased unit) = []
-events_of_entry c s (entries.Retired unit) = []
-events_of_entry c s (entries.Aside unit) = []
-events_of_entry c s (entries.Shut rg ruh) = handle_event s kinds.ImplicitlyModified rg ruh ∷ []
-events_of_entry c s (entries.Worn rg) = []
+events_of_entry c s (entries.Host h) = if h.reply.applied then command_events c s h.queue h.command else []
+events_of_entry c s (entries.Started started) = []
+events_of_entry c s (entries.Placed p) = []
+events_of_entry c s (entries.Copied copied) = []
+events_of_entry c s (entries.Moved m) = flat_map (λ ruh. reallocated s m.rg ruh (filter (is_of_handle s ruh) m.blocks)) (numbers_below (handles_in_force c s))
+events_of_entry c s (entries.Erased e) = []
+events_of_entry c s (entries.Retired r) = []
+events_of_entry c s (entries.Aside a) = []
+events_of_entry c s (entries.Shut shut) = handle_event s kinds.ImplicitlyModified shut.rg shut.ruh ∷ []
+events_of_entry c s (entries.Worn w) = []
 events_of_entry c s entries.Reopened = flat_map (λ rg. map (handle_event s kinds.HandlesModified rg) (numbers_below (handles_in_force c s))) (numbers_below c.groups)
 
 -- the events of an entry whose kind is kept for their handle when it is made

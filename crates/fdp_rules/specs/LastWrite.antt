@@ -1,50 +1,41 @@
 -- What a block holds by the last change of it alone.
-use Rattle.std.specs.Prelude.{ℕ, ◌-◌, ◌&&◌, List, ◌==◌, Option, Some, None, if◌then◌else◌, fold, unwrap_or}
+use Rattle.std.specs.Prelude.{ℕ, ◌-◌, ◌&&◌, List, ◌==◌, Option, Some, None, if◌then◌else◌, fold, unwrap_or, option_and_then}
 use Rattle.fdp_base.specs.declared.command.Command.{Command}
 use Rattle.fdp_base.specs.declared.command.Command.TheVariants as commands
 use Rattle.fdp_base.specs.declared.config.DriveConfig.{DriveConfig}
 use Rattle.fdp_base.specs.declared.entry.Entry.{Entry}
-use Rattle.fdp_base.specs.declared.entry.Entry.TheVariants as entries
 use Rattle.fdp_rules.specs.Answer.{read_block}
 use Rattle.fdp_rules.specs.Effect.{is_in_ranges}
 use Rattle.fdp_rules.specs.History.{Found, first_state}
 use Rattle.fdp_rules.specs.LogPages.{zeros}
 use Rattle.fdp_base.specs.Numbers.{is_among}
 use Rattle.fdp_base.specs.Pattern.{payload_block}
+use Rattle.fdp_base.specs.declared.entry.Host.{Host}
+use Rattle.fdp_base.specs.EntryKinds.{host_of}
 
 -- what a command leaves in a block where its change is made: of a write its bytes, of a zeroing, a deallocation or the end of
 -- the namespace zeros; none where it leaves the block alone
 abbrev pub left_by : DriveConfig → ℕ → ℕ → Command → Option (List ℕ)
-left_by c n lba (commands.Write nsid slba count dtype dspec payload) =
-    if n == nsid && is_among slba count lba then Some (payload_block c.block payload (lba - slba)) else None
-left_by c n lba (commands.Read nsid slba count) = None
-left_by c n lba (commands.Zero nsid slba count) = if n == nsid && is_among slba count lba then Some (zeros c.block) else None
-left_by c n lba (commands.Dealloc nsid deallocate ranges) =
-    if n == nsid && (deallocate && is_in_ranges ranges lba) then Some (zeros c.block) else None
-left_by c n lba (commands.Flush nsid) = None
-left_by c n lba (commands.Delete nsid) = if n == nsid then Some (zeros c.block) else None
-left_by c n lba (commands.Status nsid mo dwords) = None
-left_by c n lba (commands.Update nsid mo pids) = None
-left_by c n lba (commands.Log lid lsp group offset dwords) = None
-left_by c n lba (commands.SetFdp group enable index) = None
-left_by c n lba (commands.GetFdp group) = None
-left_by c n lba (commands.SetEvents nsid handle enable types) = None
-left_by c n lba (commands.Create size given list) = None
-left_by c n lba (commands.Other admin opcode flags feature) = None
+left_by c n lba (commands.Write w) =
+    if n == w.nsid && is_among w.slba w.count lba then Some (payload_block c.block w.payload (lba - w.slba)) else None
+left_by c n lba (commands.Read r) = None
+left_by c n lba (commands.Zero z) = if n == z.nsid && is_among z.slba z.count lba then Some (zeros c.block) else None
+left_by c n lba (commands.Dealloc d) =
+    if n == d.nsid && (d.deallocate && is_in_ranges d.ranges lba) then Some (zeros c.block) else None
+left_by c n lba (commands.Flush f) = None
+left_by c n lba (commands.Delete d) = if n == d.nsid then Some (zeros c.block) else None
+left_by c n lba (commands.Status s) = None
+left_by c n lba (commands.Update u) = None
+left_by c n lba (commands.Log l) = None
+left_by c n lba (commands.SetFdp s) = None
+left_by c n lba (commands.GetFdp g) = None
+left_by c n lba (commands.SetEvents s) = None
+left_by c n lba (commands.Create create) = None
+left_by c n lba (commands.Other o) = None
 
 -- what an entry leaves in a block: only a command whose change is made leaves anything
 abbrev pub left_by_entry : DriveConfig → ℕ → ℕ → Entry → Option (List ℕ)
-left_by_entry c n lba (entries.Host queue number command reply moment) = if reply.applied then left_by c n lba command else None
-left_by_entry c n lba (entries.Started queue number command rg ruh pid_valid) = None
-left_by_entry c n lba (entries.Placed ticket index unit page) = None
-left_by_entry c n lba (entries.Copied old new) = None
-left_by_entry c n lba (entries.Moved rg blocks) = None
-left_by_entry c n lba (entries.Erased unit) = None
-left_by_entry c n lba (entries.Retired unit) = None
-left_by_entry c n lba (entries.Aside unit) = None
-left_by_entry c n lba (entries.Shut rg ruh) = None
-left_by_entry c n lba (entries.Worn rg) = None
-left_by_entry c n lba entries.Reopened = None
+left_by_entry c n lba e = option_and_then (λ (h : Host). if h.reply.applied then left_by c n lba h.command else None) (host_of e)
 
 -- what the last entry left in a block that left anything there, or else the bytes that were there before
 abbrev pub last_left : DriveConfig → ℕ → ℕ → List ℕ → List Entry → List ℕ

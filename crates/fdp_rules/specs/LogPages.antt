@@ -4,13 +4,16 @@ use Rattle.std.specs.Int.{to_le_bytes, w16, w32, w64, w128}
 use Rattle.std.specs.List.{list_any, enumerate_from}
 use Rattle.std.specs.Option.{option_map_or}
 use Rattle.fdp_base.specs.declared.config.Class.{Class}
-use Rattle.fdp_base.specs.declared.config.Class.TheVariants as classes
 use Rattle.fdp_base.specs.declared.config.DriveConfig.{DriveConfig}
 use Rattle.fdp_base.specs.declared.entry.Totals.{Totals}
 use Rattle.fdp_base.specs.declared.event.Event.{Event}
 use Rattle.fdp_base.specs.EventCodes.{flags_code, kind_code}
 use Rattle.fdp_base.specs.Numbers.{numbers_below}
 use Rattle.fdp_base.specs.Placement.{group_bits}
+use Rattle.fdp_base.specs.Codes.{class_code, log_code}
+use Rattle.fdp_base.specs.declared.codes.LogPage.TheVariants as logs
+use Rattle.fdp_base.specs.declared.event.EventKind.TheVariants as kinds
+use Rattle.fdp_base.specs.declared.limits.TheConstants.{MOST_NAMESPACES, MOST_PIDS}
 use Rattle.fdp_rules.specs.PlainState.{PlainState}
 use Rattle.fdp_rules.specs.Point.{Point}
 use Rattle.fdp_rules.specs.Room.{namespace_ids, handles_of, handles_in_force}
@@ -18,10 +21,6 @@ use Rattle.fdp_rules.specs.Target.{pid_of}
 
 abbrev pub zeros : ℕ → List ℕ
 zeros count = replicate count 0
-
-abbrev pub class_code : Class → ℕ
-class_code classes.Initial = 1
-class_code classes.Persistent = 2
 
 -- the size of a configuration descriptor: 64 bytes and 4 for each handle, rounded up to a multiple of 8
 abbrev pub descriptor_size : ℕ → ℕ
@@ -32,7 +31,7 @@ descriptor_size handles = (64 + 4 * handles + 7) / 8 * 8
 abbrev pub descriptor : DriveConfig → List Class → List ℕ
 descriptor c handles =
     to_le_bytes w16 (descriptor_size (length handles)) ++ (128 + group_bits c.groups) ∷ 0 ∷ []
-    ++ to_le_bytes w32 c.groups ++ to_le_bytes w16 (length handles) ++ to_le_bytes w16 63 ++ to_le_bytes w32 16
+    ++ to_le_bytes w32 c.groups ++ to_le_bytes w16 (length handles) ++ to_le_bytes w16 (MOST_PIDS - 1) ++ to_le_bytes w32 MOST_NAMESPACES
     ++ to_le_bytes w64 (c.unit_pages * c.block) ++ to_le_bytes w32 0 ++ zeros 36
     ++ flat_map (λ class. class_code class ∷ zeros 3) handles
     ++ zeros (descriptor_size (length handles) - (64 + 4 * length handles))
@@ -73,7 +72,7 @@ statistics_log c t =
 -- the bytes of an event's own: of reallocated media that its address is valid, how many blocks, and the address
 abbrev pub specific_bytes : Event → List ℕ
 specific_bytes e =
-    if kind_code e.kind == 0x80
+    if kind_code e.kind == kind_code kinds.MediaReallocated
     then 1 ∷ 0 ∷ to_le_bytes w16 e.moved ++ to_le_bytes w64 e.lba ++ zeros 4
     else zeros 16
 
@@ -90,9 +89,9 @@ events_log es = to_le_bytes w32 (length es) ++ zeros 60 ++ flat_map event_bytes 
 -- the log page of an identifier; bit 0 of the log specific parameter asks for the events of hosts
 abbrev pub log_page : DriveConfig → Point → ℕ → ℕ → List ℕ
 log_page c p lid lsp =
-    if lid == 0x20 then configurations_log c
-    else if lid == 0x21 then usage_log c p.state
-    else if lid == 0x22 then statistics_log c p.totals
+    if lid == log_code logs.Configurations then configurations_log c
+    else if lid == log_code logs.HandleUsage then usage_log c p.state
+    else if lid == log_code logs.Statistics then statistics_log c p.totals
     else events_log (if lsp % 2 == 1 then p.host_events else p.controller_events)
 
 -- a placement handle in a group: its identifier; its reclaim unit handle; no time; how many blocks may still be written

@@ -7,12 +7,11 @@ use Rattle.fdp_base.specs.declared.entry.BlockName.{BlockName}
 use Rattle.fdp_base.specs.declared.entry.Entry.{Entry}
 use Rattle.fdp_base.specs.declared.entry.Entry.TheVariants as entries
 use Rattle.fdp_base.specs.declared.entry.Spot.{Spot}
-use Rattle.fdp_base.specs.CommandKinds.{nsid_of}
+use Rattle.fdp_base.specs.CommandKinds.{blocks_written, nsid_of}
 use Rattle.fdp_base.specs.Numbers.{numbers_below, numbers_from, with_at}
 use Rattle.fdp_rules.specs.PlainState.{Going, PageName, PageName.found, PageName.written, PlainState}
 use Rattle.fdp_rules.specs.Point.{Copy, Point, Trail}
 use Rattle.fdp_rules.specs.Room.{namespace_ids, size_of}
-use Rattle.fdp_rules.specs.Totals.{blocks_written}
 
 -- the group in which a data unit lies
 abbrev pub group_of : DriveConfig → ℕ → ℕ
@@ -59,26 +58,26 @@ outside unit spot = if spot.unit == unit then None else Some spot
 
 -- what an entry leaves of sites and copies
 unfoldable pub traced_by : DriveConfig → Trail → Entry → Trail
-traced_by c t (entries.Host queue number command reply moment) = t
-traced_by c t (entries.Started queue number command rg ruh pid_valid) = t
-traced_by c t (entries.Placed ticket index unit page) = record t {
-  site = λ name. if is_page_of ticket index name then Some (record { unit = unit; page = page }) else t.site name;
+traced_by c t (entries.Host h) = t
+traced_by c t (entries.Started s) = t
+traced_by c t (entries.Placed p) = record t {
+  site = λ name. if is_page_of p.ticket p.index name then Some (record { unit = p.unit; page = p.page }) else t.site name;
 }
-traced_by c t (entries.Copied old new) = record t {
-  copies = with_at t.copies (group_of c old.unit) (t.copies (group_of c old.unit) ++ record { from = old; to = new } ∷ []);
+traced_by c t (entries.Copied copied) = record t {
+  copies = with_at t.copies (group_of c copied.from.unit) (t.copies (group_of c copied.from.unit) ++ record { from = copied.from; to = copied.to } ∷ []);
 }
-traced_by c t (entries.Moved rg blocks) = record {
-  site = λ name. option_map (moved_by (pass_in t rg)) (t.site name);
-  copies = with_at t.copies rg [];
+traced_by c t (entries.Moved m) = record {
+  site = λ name. option_map (moved_by (pass_in t m.rg)) (t.site name);
+  copies = with_at t.copies m.rg [];
 }
-traced_by c t (entries.Erased unit) = record {
-  site = λ name. option_and_then (outside unit) (t.site name);
-  copies = with_at t.copies (group_of c unit) [];
+traced_by c t (entries.Erased e) = record {
+  site = λ name. option_and_then (outside e.unit) (t.site name);
+  copies = with_at t.copies (group_of c e.unit) [];
 }
-traced_by c t (entries.Retired unit) = record t { copies = with_at t.copies (group_of c unit) [] }
-traced_by c t (entries.Aside unit) = record t { copies = with_at t.copies (group_of c unit) [] }
-traced_by c t (entries.Shut rg ruh) = t
-traced_by c t (entries.Worn rg) = record t { copies = with_at t.copies rg [] }
+traced_by c t (entries.Retired r) = record t { copies = with_at t.copies (group_of c r.unit) [] }
+traced_by c t (entries.Aside a) = record t { copies = with_at t.copies (group_of c a.unit) [] }
+traced_by c t (entries.Shut s) = t
+traced_by c t (entries.Worn w) = record t { copies = with_at t.copies w.rg [] }
 traced_by c t entries.Reopened = t
 
 -- the sites and copies after the entries of a run

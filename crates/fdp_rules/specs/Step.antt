@@ -11,7 +11,7 @@ use Rattle.fdp_base.specs.declared.entry.Spot.{Spot}
 use Rattle.fdp_base.specs.declared.status.Status.{Status}
 use Rattle.fdp_base.specs.declared.status.TheConstants.Status as statuses
 use Rattle.fdp_rules.specs.Answer.{IsSuccess, bare}
-use Rattle.fdp_base.specs.CommandKinds.{IsWellFormed, Write, is_read, is_saved, is_write, nsid_of, write_of}
+use Rattle.fdp_base.specs.CommandKinds.{IsWellFormed, blocks_written, is_read, is_saved, is_write, nsid_of, pid_of, write_of}
 use Rattle.fdp_base.specs.Geometry.{IsWithin}
 use Rattle.fdp_rules.specs.History.{Found, point_of}
 use Rattle.fdp_rules.specs.PlainState.{Going, PageName.written, PlainState, Reference}
@@ -20,7 +20,7 @@ use Rattle.fdp_rules.specs.Refusal.{refusal_of}
 use Rattle.fdp_rules.specs.Room.{handles_in_force, handles_of, is_over_budget, roomiest}
 use Rattle.fdp_rules.specs.Sites.{group_of, is_there, moved_blocks, site_of}
 use Rattle.fdp_rules.specs.Target.{Target, target_of}
-use Rattle.fdp_rules.specs.Totals.{blocks_written}
+use Rattle.fdp_base.specs.declared.command.Write.{Write}
 
 abbrev pub IsQueue : DriveConfig → ℕ → Type 0
 IsQueue c queue = IsWithin 1 c.queues queue
@@ -41,7 +41,7 @@ IsNewMoment s moment = Contains s.media moment → ⊥
 
 -- where a write goes, with this group as the one that has most room
 abbrev pub goes_to : DriveConfig → PlainState → ℕ → Write → Target
-goes_to c s rg w = target_of c s rg w.nsid w.pid
+goes_to c s rg w = target_of c s rg w.nsid (pid_of w)
 
 -- a going write goes where it was started for, with the group that had most room then
 abbrev pub IsOnTarget : DriveConfig → PlainState → Going → Type 0
@@ -177,16 +177,16 @@ pub record IsHandle (c : DriveConfig) (p : Point) (rg ruh : ℕ) : Type 0 where
 
 -- an entry may follow what stands; `told` says whether the flash tells what it holds
 unfoldable pub Follows : Bool → DriveConfig → Point → Entry → Type 0
-Follows told c p (entries.Host queue number command reply moment) = IsHost told c p queue number command reply moment
-Follows told c p (entries.Started queue number command rg ruh pid_valid) = IsStarted c p queue command rg ruh pid_valid
-Follows told c p (entries.Placed ticket index unit page) = IsPlaced c p ticket index unit page
-Follows told c p (entries.Copied old new) = IsCopied c p old new
-Follows told c p (entries.Moved rg blocks) = IsMoved c p rg blocks
-Follows told c p (entries.Erased unit) = IsErasable c p unit
-Follows told c p (entries.Retired unit) = IsErasable c p unit
-Follows told c p (entries.Aside unit) = IsAside c p unit
-Follows told c p (entries.Shut rg ruh) = IsHandle c p rg ruh
-Follows told c p (entries.Worn rg) = rg < c.groups
+Follows told c p (entries.Host h) = IsHost told c p h.queue h.number h.command h.reply h.moment
+Follows told c p (entries.Started s) = IsStarted c p s.queue s.command s.rg s.ruh s.pid_valid
+Follows told c p (entries.Placed placed) = IsPlaced c p placed.ticket placed.index placed.unit placed.page
+Follows told c p (entries.Copied copied) = IsCopied c p copied.from copied.to
+Follows told c p (entries.Moved m) = IsMoved c p m.rg m.blocks
+Follows told c p (entries.Erased e) = IsErasable c p e.unit
+Follows told c p (entries.Retired r) = IsErasable c p r.unit
+Follows told c p (entries.Aside a) = IsAside c p a.unit
+Follows told c p (entries.Shut s) = IsHandle c p s.rg s.ruh
+Follows told c p (entries.Worn w) = w.rg < c.groups
 Follows told c p entries.Reopened = IsTrue p.is_opening
 
 -- an entry may follow the entries before it, in a run that began with what was found

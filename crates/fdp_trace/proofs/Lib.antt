@@ -3,6 +3,7 @@ pub mod Fronts
 pub mod ReadText
 pub mod Steps
 pub mod Printed
+pub mod Repeats
 pub mod Spelling
 pub mod ReadBack
 pub mod Numerals

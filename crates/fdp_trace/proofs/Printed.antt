@@ -2,13 +2,12 @@
 use Rattle.std.proofs.Common.{◌≡◌, ℕ, zero, suc, ◌+◌, ◌-◌, ◌*◌, ◌/◌, ◌%◌, ◌<◌, ◌≤◌, Bool, true, false, List, [], ◌∷◌, ◌++◌, length, take, drop, refl, sym, ap, ◌∙◌, append_assoc, arith, ◌==◌, Result, Ok, Err, inl, inr, min}
 use Rattle.std.specs.List.{flat_map}
 use Rattle.std.specs.Prelude.{bytes_eq, OnOk}
-use Rattle.std.proofs.lemmas.List.{take_all, nil_from_length, append-nil, length-append, length-take, length-drop, take-append-drop}
-use Rattle.std.proofs.Math.Seq.{take-length, take-append_seam, drop-append_seam}
+use Rattle.std.proofs.lemmas.List.{take_all, nil_from_length, append-nil, length-drop}
+use Rattle.std.proofs.Math.Seq.{take-length}
 use Rattle.std.proofs.lemmas.Bool.{cases_Bool, cases_lt, eqb-true}
 use Rattle.std.proofs.lemmas.Bool.Decides.{nat_tests}
 use Rattle.std.proofs.lemmas.Slice.Eq.{bytes_eq-Decides}
 use Rattle.fdp_base.specs.Text.{digit, hex, line}
-use Rattle.fdp_base.specs.Pattern.{repeated}
 use Rattle.fdp_output.specs.Output.{pieces_of}
 use Rattle.fdp_trace.specs.Printer.{Extends}
 
@@ -97,62 +96,22 @@ no_pieces show (suc n) size bytes text none = absurd (omega arith)
 no_both : (b : Bool) → b ≡ true → b ≡ false → ⊥
 no_both b yes' no' = cc
 
-bytes_differ : (a b : List ℕ) → (a ≡ b → ⊥) → bytes_eq a b ≡ false
+pub bytes_differ : (a b : List ℕ) → (a ≡ b → ⊥) → bytes_eq a b ≡ false
 bytes_differ a b not = elim (cases_Bool (bytes_eq a b)) [
   | inl here ↦ absurd (not ((bytes_eq-Decides a b).0 here))
   | inr there ↦ there
 ]
 
-empty_eq : (xs : List ℕ) → (length xs == 0) ≡ bytes_eq xs []
+pub empty_eq : (xs : List ℕ) → (length xs == 0) ≡ bytes_eq xs []
 empty_eq [] = refl
 empty_eq (x ∷ xs) = let e : (suc (length xs) == 0) ≡ false = grind (arith, nat_tests) in e
 
-bytes_same : (a b c d : List ℕ) → (a ≡ b → c ≡ d) → (c ≡ d → a ≡ b) → bytes_eq a b ≡ bytes_eq c d
+pub bytes_same : (a b c d : List ℕ) → (a ≡ b → c ≡ d) → (c ≡ d → a ≡ b) → bytes_eq a b ≡ bytes_eq c d
 bytes_same a b c d there back =
     elim (cases_Bool (bytes_eq a b)) [
       | inl here ↦ here ∙ sym ((bytes_eq-Decides c d).1 (there ((bytes_eq-Decides a b).0 here)))
       | inr not ↦ not ∙ sym (bytes_differ c d (λ e. no_both (bytes_eq a b) ((bytes_eq-Decides a b).1 (back e)) not))
     ]
-
-same_append : (a b c d : List ℕ) → length b ≡ length d → a ++ b ≡ c ++ d → (a ≡ c) × (b ≡ d)
-same_append a b c d len e =
-    let whole = ap length e in
-    let front : length a ≡ length c = omega (arith, whole, length-append a b, length-append c d) in
-    let firsts : take (length a) (a ++ b) ≡ take (length c) (c ++ d) = rw (e, front) refl in
-    let lasts : drop (length a) (a ++ b) ≡ drop (length c) (c ++ d) = rw (e, front) refl in
-    (sym (take-append_seam a b) ∙ firsts ∙ take-append_seam c d, sym (drop-append_seam a b) ∙ lasts ∙ drop-append_seam c d)
-
-cut_word : (rest w front last : List ℕ) → 4 ≤ length rest → front ≡ take (length rest - 4) rest → last ≡ drop (length rest - 4) rest
-    → (rest ≡ front ++ last) × (length front ≡ length rest - 4) × (length last ≡ 4) × (repeated (length rest / 4) w ≡ repeated (length front / 4) w ++ w)
-unfolding repeated
-cut_word rest w front last long is-front is-last =
-    let len : length front ≡ length rest - 4 = ap length is-front ∙ omega (arith, length-take (length rest - 4) rest) in
-    let four : length last ≡ 4 = ap length is-last ∙ omega (arith, length-drop (length rest - 4) rest) in
-    let count : length rest / 4 ≡ suc (length front / 4) = omega arith in
-    (rw (is-front, is-last) (sym (take-append-drop (length rest - 4) rest)), len, four, ap (λ (n : ℕ). repeated n w) count)
-
-pub word_more : (rest w front last : List ℕ) → 4 ≤ length rest → front ≡ take (length rest - 4) rest → last ≡ drop (length rest - 4) rest → bytes_eq last w ≡ true
-    → bytes_eq front (repeated (length front / 4) w) ≡ bytes_eq rest (repeated (length rest / 4) w)
-word_more rest w front last long is-front is-last same =
-    let is : last ≡ w = (bytes_eq-Decides last w).0 same in
-    let c = cut_word rest w front last long is-front is-last in
-    bytes_same front (repeated (length front / 4) w) rest (repeated (length rest / 4) w)
-    (λ e. c.0 ∙ ap (λ (x : List ℕ). x ++ last) e ∙ ap (λ (x : List ℕ). repeated (length front / 4) w ++ x) is ∙ sym c.3)
-    (λ e. (same_append front last (repeated (length front / 4) w) w (ap length is) (sym c.0 ∙ e ∙ c.3)).0)
-
-pub word_differs : (rest w front last : List ℕ) (r : Bool) → length w ≡ 4 → 4 ≤ length rest → front ≡ take (length rest - 4) rest → last ≡ drop (length rest - 4) rest → bytes_eq last w ≡ false
-    → bytes_eq rest (repeated (length rest / 4) w) ≡ r → false ≡ r
-word_differs rest w front last r four long is-front is-last other so_far =
-    let differs : last ≡ w → ⊥ = λ e. no_both (bytes_eq last w) ((bytes_eq-Decides last w).1 e) other in
-    let c = cut_word rest w front last long is-front is-last in
-    let not : rest ≡ repeated (length rest / 4) w → ⊥ = λ e. differs (same_append front last (repeated (length front / 4) w) w (c.2 ∙ sym four) (sym c.0 ∙ e ∙ c.3)).1 in
-    sym (bytes_differ rest (repeated (length rest / 4) w) not) ∙ so_far
-
-pub word_ends : (rest w : List ℕ) (empty r : Bool) → length rest < 4 → empty ≡ (length rest == 0) → bytes_eq rest (repeated (length rest / 4) w) ≡ r → empty ≡ r
-unfolding repeated
-word_ends rest w empty r short is so_far =
-    let none : length rest / 4 ≡ 0 = omega arith in
-    is ∙ empty_eq rest ∙ sym (ap (λ (n : ℕ). bytes_eq rest (repeated n w)) none) ∙ so_far
 
 -- ---- a line of four words
 

@@ -196,20 +196,20 @@ printed line c (create blocks handles few) within = record {
 printed line c (delete nsid) within = record { line = _; row = delete nsid; within = within; plain = (letters (codes "delete") (omega arith) refl refl, (omega arith, tt)); words = refl }
 
 is_shown : (c : Command) (rest : List ℕ) → is_skipped (word_of c ++ rest) ≡ false
-is_shown (commands.Write nsid slba count dtype dspec payload) rest = refl
-is_shown (commands.Read nsid slba count) rest = refl
-is_shown (commands.Zero nsid slba count) rest = refl
-is_shown (commands.Dealloc nsid deallocate ranges) rest = refl
-is_shown (commands.Flush nsid) rest = refl
-is_shown (commands.Delete nsid) rest = refl
-is_shown (commands.Status nsid mo dwords) rest = refl
-is_shown (commands.Update nsid mo pids) rest = refl
-is_shown (commands.Log lid lsp group offset dwords) rest = refl
-is_shown (commands.SetFdp group enable index) rest = refl
-is_shown (commands.GetFdp group) rest = refl
-is_shown (commands.SetEvents nsid handle enable types) rest = refl
-is_shown (commands.Create size given list) rest = refl
-is_shown (commands.Other admin opcode flags feature) rest = refl
+is_shown (commands.Write w) rest = refl
+is_shown (commands.Read r) rest = refl
+is_shown (commands.Zero z) rest = refl
+is_shown (commands.Dealloc d) rest = refl
+is_shown (commands.Flush f) rest = refl
+is_shown (commands.Delete d) rest = refl
+is_shown (commands.Status s) rest = refl
+is_shown (commands.Update u) rest = refl
+is_shown (commands.Log l) rest = refl
+is_shown (commands.SetFdp s) rest = refl
+is_shown (commands.GetFdp g) rest = refl
+is_shown (commands.SetEvents s) rest = refl
+is_shown (commands.Create c) rest = refl
+is_shown (commands.Other o) rest = refl
 
 -- ---- the text
 

@@ -7,8 +7,8 @@ use Rattle.fdp_trace.specs.declared.fault.FaultKind.{FaultKind}
 use Rattle.fdp_trace.specs.declared.fault.FaultKind.TheVariants as kinds
 use Rattle.fdp_trace.specs.declared.fault.TraceFault.{TraceFault}
 use Rattle.fdp_trace.specs.declared.fault.TraceFault.TheVariants as faults
-use Rattle.fdp_trace.specs.Grammar.{blocks_read}
 use Rattle.fdp_trace.specs.Reader.Line.{line_of}
+use Rattle.fdp_base.specs.CommandKinds.{blocks_read}
 
 -- what a trace says so far: its lines, its commands and the blocks that they read
 pub record Tally : Type 0 where

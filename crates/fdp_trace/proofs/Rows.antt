@@ -20,20 +20,20 @@ use Rattle.fdp_trace.proofs.Parts.{Follows, in_range, ranged, field_then, end_th
 
 -- the first word of a command
 abbrev pub kind_of : Command → CommandWord
-kind_of (commands.Write nsid slba count dtype dspec payload) = words.Write
-kind_of (commands.Read nsid slba count) = words.Read
-kind_of (commands.Zero nsid slba count) = words.Zero
-kind_of (commands.Dealloc nsid deallocate ranges) = words.Dealloc
-kind_of (commands.Flush nsid) = words.Flush
-kind_of (commands.Delete nsid) = words.Delete
-kind_of (commands.Status nsid mo dwords) = words.Status
-kind_of (commands.Update nsid mo pids) = words.Update
-kind_of (commands.Log lid lsp group offset dwords) = words.Log
-kind_of (commands.SetFdp group enable index) = words.SetFdp
-kind_of (commands.GetFdp group) = words.GetFdp
-kind_of (commands.SetEvents nsid handle enable types) = words.SetEvents
-kind_of (commands.Create size given list) = words.Create
-kind_of (commands.Other admin opcode flags feature) = words.GetFdp
+kind_of (commands.Write w) = words.Write
+kind_of (commands.Read r) = words.Read
+kind_of (commands.Zero z) = words.Zero
+kind_of (commands.Dealloc d) = words.Dealloc
+kind_of (commands.Flush f) = words.Flush
+kind_of (commands.Delete d) = words.Delete
+kind_of (commands.Status s) = words.Status
+kind_of (commands.Update u) = words.Update
+kind_of (commands.Log l) = words.Log
+kind_of (commands.SetFdp s) = words.SetFdp
+kind_of (commands.GetFdp g) = words.GetFdp
+kind_of (commands.SetEvents s) = words.SetEvents
+kind_of (commands.Create c) = words.Create
+kind_of (commands.Other o) = words.GetFdp
 
 abbrev pub text_of : CommandWord → List ℕ
 text_of words.Write = codes "write"
@@ -173,38 +173,38 @@ in_word false rest = refl
 pub value_is : (line : List Part) (c : Command) → IsLine line c → (texts : List (List ℕ)) → AllZip IsNumberFor (drop 1 line) texts → spelled (kind_of c) texts ≡ ranged (list_all in_range (drop 1 line)) c
 unfolding write_of directive read_of zero_of dealloc_of flush_of delete_of status_of update_of class_of log_of set_fdp_of set_events_of create_of
 value_is line c (write nsid slba count seed) texts h =
-    field_then 0 4294967295 nsid (bits 64 slba ∷ amount count ∷ bits 32 seed ∷ []) texts _ (commands.Write nsid slba count 0 0 (Pattern seed)) h (λ t1 h1. field_then 0 18446744073709551615 slba (amount count ∷ bits 32 seed ∷ []) t1 _ (commands.Write nsid slba count 0 0 (Pattern seed)) h1 (λ t2 h2. field_then 1 65536 count (bits 32 seed ∷ []) t2 _ (commands.Write nsid slba count 0 0 (Pattern seed)) h2 (λ t3 h3. field_then 0 4294967295 seed ([]) t3 _ (commands.Write nsid slba count 0 0 (Pattern seed)) h3 (λ t4 h4. end_then t4 (λ t. directive t >>= λ place. Ok (commands.Write nsid slba count place.0 place.1 (Pattern seed))) (Ok (commands.Write nsid slba count 0 0 (Pattern seed))) h4 refl))))
+    field_then 0 4294967295 nsid (bits 64 slba ∷ amount count ∷ bits 32 seed ∷ []) texts _ (commands.Write (record { nsid = nsid; slba = slba; count = count; dtype = 0; dspec = 0; payload = Pattern seed })) h (λ t1 h1. field_then 0 18446744073709551615 slba (amount count ∷ bits 32 seed ∷ []) t1 _ (commands.Write (record { nsid = nsid; slba = slba; count = count; dtype = 0; dspec = 0; payload = Pattern seed })) h1 (λ t2 h2. field_then 1 65536 count (bits 32 seed ∷ []) t2 _ (commands.Write (record { nsid = nsid; slba = slba; count = count; dtype = 0; dspec = 0; payload = Pattern seed })) h2 (λ t3 h3. field_then 0 4294967295 seed ([]) t3 _ (commands.Write (record { nsid = nsid; slba = slba; count = count; dtype = 0; dspec = 0; payload = Pattern seed })) h3 (λ t4 h4. end_then t4 (λ t. directive t >>= λ place. Ok (commands.Write (record { nsid = nsid; slba = slba; count = count; dtype = place.0; dspec = place.1; payload = Pattern seed }))) (Ok (commands.Write (record { nsid = nsid; slba = slba; count = count; dtype = 0; dspec = 0; payload = Pattern seed }))) h4 refl))))
 value_is line c (write_placed nsid slba count seed pid) texts h =
-    field_then 0 4294967295 nsid (bits 64 slba ∷ amount count ∷ bits 32 seed ∷ Fixed (codes "pid") ∷ bits 16 pid ∷ []) texts _ (commands.Write nsid slba count 2 pid (Pattern seed)) h (λ t1 h1. field_then 0 18446744073709551615 slba (amount count ∷ bits 32 seed ∷ Fixed (codes "pid") ∷ bits 16 pid ∷ []) t1 _ (commands.Write nsid slba count 2 pid (Pattern seed)) h1 (λ t2 h2. field_then 1 65536 count (bits 32 seed ∷ Fixed (codes "pid") ∷ bits 16 pid ∷ []) t2 _ (commands.Write nsid slba count 2 pid (Pattern seed)) h2 (λ t3 h3. field_then 0 4294967295 seed (Fixed (codes "pid") ∷ bits 16 pid ∷ []) t3 _ (commands.Write nsid slba count 2 pid (Pattern seed)) h3 (λ t4 h4.
-    word_then (codes "pid") (bits 16 pid ∷ []) t4 (λ t. directive t >>= λ place. Ok (commands.Write nsid slba count place.0 place.1 (Pattern seed))) (ranged (list_all in_range (bits 16 pid ∷ [])) (commands.Write nsid slba count 2 pid (Pattern seed))) h4 (λ t5 h5.
-    ranged_then (λ (place : ℕ × ℕ). commands.Write nsid slba count place.0 place.1 (Pattern seed)) (directive (codes "pid" ∷ t5)) (list_all in_range (bits 16 pid ∷ [])) (2, pid) (field_then 0 65535 pid [] t5 (λ n. Ok (2, n.0)) (2, pid) h5 (λ t6 h6. refl)))))))
+    field_then 0 4294967295 nsid (bits 64 slba ∷ amount count ∷ bits 32 seed ∷ Fixed (codes "pid") ∷ bits 16 pid ∷ []) texts _ (commands.Write (record { nsid = nsid; slba = slba; count = count; dtype = 2; dspec = pid; payload = Pattern seed })) h (λ t1 h1. field_then 0 18446744073709551615 slba (amount count ∷ bits 32 seed ∷ Fixed (codes "pid") ∷ bits 16 pid ∷ []) t1 _ (commands.Write (record { nsid = nsid; slba = slba; count = count; dtype = 2; dspec = pid; payload = Pattern seed })) h1 (λ t2 h2. field_then 1 65536 count (bits 32 seed ∷ Fixed (codes "pid") ∷ bits 16 pid ∷ []) t2 _ (commands.Write (record { nsid = nsid; slba = slba; count = count; dtype = 2; dspec = pid; payload = Pattern seed })) h2 (λ t3 h3. field_then 0 4294967295 seed (Fixed (codes "pid") ∷ bits 16 pid ∷ []) t3 _ (commands.Write (record { nsid = nsid; slba = slba; count = count; dtype = 2; dspec = pid; payload = Pattern seed })) h3 (λ t4 h4.
+    word_then (codes "pid") (bits 16 pid ∷ []) t4 (λ t. directive t >>= λ place. Ok (commands.Write (record { nsid = nsid; slba = slba; count = count; dtype = place.0; dspec = place.1; payload = Pattern seed }))) (ranged (list_all in_range (bits 16 pid ∷ [])) (commands.Write (record { nsid = nsid; slba = slba; count = count; dtype = 2; dspec = pid; payload = Pattern seed }))) h4 (λ t5 h5.
+    ranged_then (λ (place : ℕ × ℕ). commands.Write (record { nsid = nsid; slba = slba; count = count; dtype = place.0; dspec = place.1; payload = Pattern seed })) (directive (codes "pid" ∷ t5)) (list_all in_range (bits 16 pid ∷ [])) (2, pid) (field_then 0 65535 pid [] t5 (λ n. Ok (2, n.0)) (2, pid) h5 (λ t6 h6. refl)))))))
 value_is line c (read nsid slba count) texts h =
-    field_then 0 4294967295 nsid (bits 64 slba ∷ amount count ∷ []) texts _ (commands.Read nsid slba count) h (λ t1 h1. field_then 0 18446744073709551615 slba (amount count ∷ []) t1 _ (commands.Read nsid slba count) h1 (λ t2 h2. field_then 1 65536 count ([]) t2 _ (commands.Read nsid slba count) h2 (λ t3 h3. refl)))
+    field_then 0 4294967295 nsid (bits 64 slba ∷ amount count ∷ []) texts _ (commands.Read (record { nsid = nsid; slba = slba; count = count })) h (λ t1 h1. field_then 0 18446744073709551615 slba (amount count ∷ []) t1 _ (commands.Read (record { nsid = nsid; slba = slba; count = count })) h1 (λ t2 h2. field_then 1 65536 count ([]) t2 _ (commands.Read (record { nsid = nsid; slba = slba; count = count })) h2 (λ t3 h3. refl)))
 value_is line c (zeroes nsid slba count) texts h =
-    field_then 0 4294967295 nsid (bits 64 slba ∷ amount count ∷ []) texts _ (commands.Zero nsid slba count) h (λ t1 h1. field_then 0 18446744073709551615 slba (amount count ∷ []) t1 _ (commands.Zero nsid slba count) h1 (λ t2 h2. field_then 1 65536 count ([]) t2 _ (commands.Zero nsid slba count) h2 (λ t3 h3. refl)))
+    field_then 0 4294967295 nsid (bits 64 slba ∷ amount count ∷ []) texts _ (commands.Zero (record { nsid = nsid; slba = slba; count = count })) h (λ t1 h1. field_then 0 18446744073709551615 slba (amount count ∷ []) t1 _ (commands.Zero (record { nsid = nsid; slba = slba; count = count })) h1 (λ t2 h2. field_then 1 65536 count ([]) t2 _ (commands.Zero (record { nsid = nsid; slba = slba; count = count })) h2 (λ t3 h3. refl)))
 value_is line c (dealloc nsid ranges some few) texts h =
-    field_then 0 4294967295 nsid (flat_map range_parts ranges) texts _ (commands.Dealloc nsid true ranges) h (λ t1 h1. ranged_then (λ rs. commands.Dealloc nsid true rs) (ranges_of t1) (list_all in_range (flat_map range_parts ranges)) ranges (ranges_ranged ranges t1 h1))
+    field_then 0 4294967295 nsid (flat_map range_parts ranges) texts _ (commands.Dealloc (record { nsid = nsid; deallocate = true; ranges = ranges })) h (λ t1 h1. ranged_then (λ rs. commands.Dealloc (record { nsid = nsid; deallocate = true; ranges = rs })) (ranges_of t1) (list_all in_range (flat_map range_parts ranges)) ranges (ranges_ranged ranges t1 h1))
 value_is line c (flush nsid) texts h =
-    field_then 0 4294967295 nsid ([]) texts _ (commands.Flush nsid) h (λ t1 h1. refl)
+    field_then 0 4294967295 nsid ([]) texts _ (commands.Flush (record { nsid = nsid })) h (λ t1 h1. refl)
 value_is line c (status nsid dwords) texts h =
-    field_then 0 4294967295 nsid (amount dwords ∷ []) texts _ (commands.Status nsid 1 dwords) h (λ t1 h1. field_then 1 65536 dwords ([]) t1 _ (commands.Status nsid 1 dwords) h1 (λ t2 h2. refl))
+    field_then 0 4294967295 nsid (amount dwords ∷ []) texts _ (commands.Status (record { nsid = nsid; mo = 1; dwords = dwords })) h (λ t1 h1. field_then 1 65536 dwords ([]) t1 _ (commands.Status (record { nsid = nsid; mo = 1; dwords = dwords })) h1 (λ t2 h2. refl))
 value_is line c (update nsid pids some few) texts h =
-    field_then 0 4294967295 nsid (map (bits 16) pids) texts _ (commands.Update nsid 1 pids) h (λ t1 h1. ranged_then (λ ns. commands.Update nsid 1 ns) (numbers_of 65535 t1) (list_all in_range (map (bits 16) pids)) pids (numbers_ranged 65535 pids t1 h1))
+    field_then 0 4294967295 nsid (map (bits 16) pids) texts _ (commands.Update (record { nsid = nsid; mo = 1; pids = pids })) h (λ t1 h1. ranged_then (λ ns. commands.Update (record { nsid = nsid; mo = 1; pids = ns })) (numbers_of 65535 t1) (list_all in_range (map (bits 16) pids)) pids (numbers_ranged 65535 pids t1 h1))
 value_is line c (log lid offset dwords) texts h =
-    field_then 0 255 lid (bits 64 offset ∷ amount dwords ∷ []) texts _ (commands.Log lid 0 1 offset dwords) h (λ t1 h1. field_then 0 18446744073709551615 offset (amount dwords ∷ []) t1 _ (commands.Log lid 0 1 offset dwords) h1 (λ t2 h2. field_then 1 65536 dwords ([]) t2 _ (commands.Log lid 0 1 offset dwords) h2 (λ t3 h3. end_then t3 (λ t. class_of t >>= λ lsp. Ok (commands.Log lid lsp 1 offset dwords)) (Ok (commands.Log lid 0 1 offset dwords)) h3 refl)))
+    field_then 0 255 lid (bits 64 offset ∷ amount dwords ∷ []) texts _ (commands.Log (record { lid = lid; lsp = 0; group = 1; offset = offset; dwords = dwords })) h (λ t1 h1. field_then 0 18446744073709551615 offset (amount dwords ∷ []) t1 _ (commands.Log (record { lid = lid; lsp = 0; group = 1; offset = offset; dwords = dwords })) h1 (λ t2 h2. field_then 1 65536 dwords ([]) t2 _ (commands.Log (record { lid = lid; lsp = 0; group = 1; offset = offset; dwords = dwords })) h2 (λ t3 h3. end_then t3 (λ t. class_of t >>= λ lsp. Ok (commands.Log (record { lid = lid; lsp = lsp; group = 1; offset = offset; dwords = dwords }))) (Ok (commands.Log (record { lid = lid; lsp = 0; group = 1; offset = offset; dwords = dwords }))) h3 refl)))
 value_is line c (log_ctrl lid offset dwords) texts h =
-    field_then 0 255 lid (bits 64 offset ∷ amount dwords ∷ Fixed (codes "ctrl") ∷ []) texts _ (commands.Log lid 0 1 offset dwords) h (λ t1 h1. field_then 0 18446744073709551615 offset (amount dwords ∷ Fixed (codes "ctrl") ∷ []) t1 _ (commands.Log lid 0 1 offset dwords) h1 (λ t2 h2. field_then 1 65536 dwords (Fixed (codes "ctrl") ∷ []) t2 _ (commands.Log lid 0 1 offset dwords) h2 (λ t3 h3. word_then (codes "ctrl") [] t3 (λ t. class_of t >>= λ lsp. Ok (commands.Log lid lsp 1 offset dwords)) (Ok (commands.Log lid 0 1 offset dwords)) h3 (λ t4 h4. refl))))
+    field_then 0 255 lid (bits 64 offset ∷ amount dwords ∷ Fixed (codes "ctrl") ∷ []) texts _ (commands.Log (record { lid = lid; lsp = 0; group = 1; offset = offset; dwords = dwords })) h (λ t1 h1. field_then 0 18446744073709551615 offset (amount dwords ∷ Fixed (codes "ctrl") ∷ []) t1 _ (commands.Log (record { lid = lid; lsp = 0; group = 1; offset = offset; dwords = dwords })) h1 (λ t2 h2. field_then 1 65536 dwords (Fixed (codes "ctrl") ∷ []) t2 _ (commands.Log (record { lid = lid; lsp = 0; group = 1; offset = offset; dwords = dwords })) h2 (λ t3 h3. word_then (codes "ctrl") [] t3 (λ t. class_of t >>= λ lsp. Ok (commands.Log (record { lid = lid; lsp = lsp; group = 1; offset = offset; dwords = dwords }))) (Ok (commands.Log (record { lid = lid; lsp = 0; group = 1; offset = offset; dwords = dwords }))) h3 (λ t4 h4. refl))))
 value_is line c (log_host lid offset dwords) texts h =
-    field_then 0 255 lid (bits 64 offset ∷ amount dwords ∷ Fixed (codes "host") ∷ []) texts _ (commands.Log lid 1 1 offset dwords) h (λ t1 h1. field_then 0 18446744073709551615 offset (amount dwords ∷ Fixed (codes "host") ∷ []) t1 _ (commands.Log lid 1 1 offset dwords) h1 (λ t2 h2. field_then 1 65536 dwords (Fixed (codes "host") ∷ []) t2 _ (commands.Log lid 1 1 offset dwords) h2 (λ t3 h3. word_then (codes "host") [] t3 (λ t. class_of t >>= λ lsp. Ok (commands.Log lid lsp 1 offset dwords)) (Ok (commands.Log lid 1 1 offset dwords)) h3 (λ t4 h4. refl))))
+    field_then 0 255 lid (bits 64 offset ∷ amount dwords ∷ Fixed (codes "host") ∷ []) texts _ (commands.Log (record { lid = lid; lsp = 1; group = 1; offset = offset; dwords = dwords })) h (λ t1 h1. field_then 0 18446744073709551615 offset (amount dwords ∷ Fixed (codes "host") ∷ []) t1 _ (commands.Log (record { lid = lid; lsp = 1; group = 1; offset = offset; dwords = dwords })) h1 (λ t2 h2. field_then 1 65536 dwords (Fixed (codes "host") ∷ []) t2 _ (commands.Log (record { lid = lid; lsp = 1; group = 1; offset = offset; dwords = dwords })) h2 (λ t3 h3. word_then (codes "host") [] t3 (λ t. class_of t >>= λ lsp. Ok (commands.Log (record { lid = lid; lsp = lsp; group = 1; offset = offset; dwords = dwords }))) (Ok (commands.Log (record { lid = lid; lsp = 1; group = 1; offset = offset; dwords = dwords }))) h3 (λ t4 h4. refl))))
 value_is line c (set_fdp enable index) texts h =
-    word_then (on_word enable) (bits 8 index ∷ []) texts (λ t. choice (codes "on") t >>= λ on. field 0 255 on.1 >>= λ i. Ok (commands.SetFdp 1 on.0 i.0)) (ranged (list_all in_range (bits 8 index ∷ [])) (commands.SetFdp 1 enable index)) h (λ t1 h1.
-    rw (in_word enable t1) (field_then 0 255 index [] t1 (λ i. Ok (commands.SetFdp 1 enable i.0)) (commands.SetFdp 1 enable index) h1 (λ t2 h2. refl)))
+    word_then (on_word enable) (bits 8 index ∷ []) texts (λ t. choice (codes "on") t >>= λ on. field 0 255 on.1 >>= λ i. Ok (commands.SetFdp (record { group = 1; enable = on.0; index = i.0 }))) (ranged (list_all in_range (bits 8 index ∷ [])) (commands.SetFdp (record { group = 1; enable = enable; index = index }))) h (λ t1 h1.
+    rw (in_word enable t1) (field_then 0 255 index [] t1 (λ i. Ok (commands.SetFdp (record { group = 1; enable = enable; index = i.0 }))) (commands.SetFdp (record { group = 1; enable = enable; index = index })) h1 (λ t2 h2. refl)))
 value_is line c get_fdp texts h = refl
 value_is line c (set_events nsid handle enable types some few) texts h =
-    field_then 0 4294967295 nsid (bits 16 handle ∷ Fixed (on_word enable) ∷ map (bits 8) types) texts _ (commands.SetEvents nsid handle enable types) h (λ t1 h1. field_then 0 65535 handle (Fixed (on_word enable) ∷ map (bits 8) types) t1 _ (commands.SetEvents nsid handle enable types) h1 (λ t2 h2.
-    word_then (on_word enable) (map (bits 8) types) t2 (λ t. choice (codes "on") t >>= λ on. numbers_of 255 on.1 >>= λ ns. Ok (commands.SetEvents nsid handle on.0 ns)) (ranged (list_all in_range (map (bits 8) types)) (commands.SetEvents nsid handle enable types)) h2 (λ t3 h3.
-    rw (in_word enable t3) (ranged_then (λ ns. commands.SetEvents nsid handle enable ns) (numbers_of 255 t3) (list_all in_range (map (bits 8) types)) types (numbers_ranged 255 types t3 h3)))))
+    field_then 0 4294967295 nsid (bits 16 handle ∷ Fixed (on_word enable) ∷ map (bits 8) types) texts _ (commands.SetEvents (record { nsid = nsid; handle = handle; enable = enable; types = types })) h (λ t1 h1. field_then 0 65535 handle (Fixed (on_word enable) ∷ map (bits 8) types) t1 _ (commands.SetEvents (record { nsid = nsid; handle = handle; enable = enable; types = types })) h1 (λ t2 h2.
+    word_then (on_word enable) (map (bits 8) types) t2 (λ t. choice (codes "on") t >>= λ on. numbers_of 255 on.1 >>= λ ns. Ok (commands.SetEvents (record { nsid = nsid; handle = handle; enable = on.0; types = ns }))) (ranged (list_all in_range (map (bits 8) types)) (commands.SetEvents (record { nsid = nsid; handle = handle; enable = enable; types = types }))) h2 (λ t3 h3.
+    rw (in_word enable t3) (ranged_then (λ ns. commands.SetEvents (record { nsid = nsid; handle = handle; enable = enable; types = ns })) (numbers_of 255 t3) (list_all in_range (map (bits 8) types)) types (numbers_ranged 255 types t3 h3)))))
 value_is line c (create blocks handles few) texts h =
-    field_then 0 18446744073709551615 blocks (map (bits 16) handles) texts _ (commands.Create blocks (not (length handles == 0)) handles) h (λ t1 h1. ranged_then (λ ns. commands.Create blocks (not (length ns == 0)) ns) (numbers_of 65535 t1) (list_all in_range (map (bits 16) handles)) handles (numbers_ranged 65535 handles t1 h1))
+    field_then 0 18446744073709551615 blocks (map (bits 16) handles) texts _ (commands.Create (record { size = blocks; given = not (length handles == 0); list = handles })) h (λ t1 h1. ranged_then (λ ns. commands.Create (record { size = blocks; given = not (length ns == 0); list = ns })) (numbers_of 65535 t1) (list_all in_range (map (bits 16) handles)) handles (numbers_ranged 65535 handles t1 h1))
 value_is line c (delete nsid) texts h =
-    field_then 0 4294967295 nsid ([]) texts _ (commands.Delete nsid) h (λ t1 h1. refl)
+    field_then 0 4294967295 nsid ([]) texts _ (commands.Delete (record { nsid = nsid })) h (λ t1 h1. refl)

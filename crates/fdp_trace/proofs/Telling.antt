@@ -17,8 +17,9 @@ use Rattle.fdp_trace.specs.Reader.Commands.{command_of}
 use Rattle.fdp_trace.proofs.ReadText.{Tally, line_more, command_more, is_too_much, in_front, after_line, trace_from, trace_of}
 use Rattle.fdp_trace.specs.Reader.Line.{line_of}
 use Rattle.fdp_trace.specs.Demands.{WordsLack}
-use Rattle.fdp_trace.specs.Grammar.{is_skipped, blocks_read, IsReadable, Says, LineLacks, AreFew, IsTraceOf, IsBad, IsFaultOf}
+use Rattle.fdp_trace.specs.Grammar.{is_skipped, IsReadable, Says, LineLacks, AreFew, IsTraceOf, IsBad, IsFaultOf}
 use Rattle.fdp_trace.proofs.Meaning.{ComesTo, comes, spells_is, lacks_is}
+use Rattle.fdp_base.specs.CommandKinds.{blocks_read}
 
 -- ---- a line
 

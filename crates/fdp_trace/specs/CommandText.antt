@@ -3,6 +3,8 @@ use Rattle.std.specs.Prelude.{ℕ, Bool, ◌==◌, if◌then◌else◌, List, []
 use Rattle.fdp_base.specs.declared.command.Command.{Command}
 use Rattle.fdp_base.specs.declared.command.Command.TheVariants as commands
 use Rattle.fdp_base.specs.declared.command.Range.{Range}
+use Rattle.fdp_base.specs.Codes.{directive_code}
+use Rattle.fdp_base.specs.declared.codes.Directive.TheVariants as directives
 use Rattle.fdp_base.specs.declared.payload.Payload.{Payload}
 use Rattle.fdp_base.specs.declared.payload.Payload.TheVariants.{Pattern, Bytes}
 use Rattle.fdp_base.specs.Text.{spaced}
@@ -14,7 +16,7 @@ payload_word (Pattern seed) = decimal seed
 payload_word (Bytes bytes) = codes "bytes"
 
 abbrev pub directive_words : ℕ → ℕ → List (List ℕ)
-directive_words dtype dspec = if dtype == 0 then [] else codes "pid" ∷ decimal dspec ∷ []
+directive_words dtype dspec = if dtype == directive_code directives.Absent then [] else codes "pid" ∷ decimal dspec ∷ []
 
 abbrev pub range_words : Range → List (List ℕ)
 range_words r = decimal r.slba ∷ decimal r.length ∷ []
@@ -28,20 +30,20 @@ class_words lsp = if lsp == 0 then [] else codes "host" ∷ []
 
 -- the words behind the first
 abbrev pub argument_words : Command → List (List ℕ)
-argument_words (commands.Write nsid slba count dtype dspec payload) = decimal nsid ∷ decimal slba ∷ decimal count ∷ payload_word payload ∷ directive_words dtype dspec
-argument_words (commands.Read nsid slba count) = decimal nsid ∷ decimal slba ∷ decimal count ∷ []
-argument_words (commands.Zero nsid slba count) = decimal nsid ∷ decimal slba ∷ decimal count ∷ []
-argument_words (commands.Dealloc nsid deallocate ranges) = decimal nsid ∷ flat_map range_words ranges
-argument_words (commands.Flush nsid) = decimal nsid ∷ []
-argument_words (commands.Delete nsid) = decimal nsid ∷ []
-argument_words (commands.Status nsid mo dwords) = decimal nsid ∷ decimal dwords ∷ []
-argument_words (commands.Update nsid mo pids) = decimal nsid ∷ map decimal pids
-argument_words (commands.Log lid lsp group offset dwords) = decimal lid ∷ decimal offset ∷ decimal dwords ∷ class_words lsp
-argument_words (commands.SetFdp group enable index) = on_word enable ∷ decimal index ∷ []
-argument_words (commands.GetFdp group) = []
-argument_words (commands.SetEvents nsid handle enable types) = decimal nsid ∷ decimal handle ∷ on_word enable ∷ map decimal types
-argument_words (commands.Create size given list) = decimal size ∷ map decimal list
-argument_words (commands.Other admin opcode flags feature) = decimal opcode ∷ decimal flags ∷ decimal feature ∷ []
+argument_words (commands.Write w) = decimal w.nsid ∷ decimal w.slba ∷ decimal w.count ∷ payload_word w.payload ∷ directive_words w.dtype w.dspec
+argument_words (commands.Read r) = decimal r.nsid ∷ decimal r.slba ∷ decimal r.count ∷ []
+argument_words (commands.Zero z) = decimal z.nsid ∷ decimal z.slba ∷ decimal z.count ∷ []
+argument_words (commands.Dealloc d) = decimal d.nsid ∷ flat_map range_words d.ranges
+argument_words (commands.Flush f) = decimal f.nsid ∷ []
+argument_words (commands.Delete d) = decimal d.nsid ∷ []
+argument_words (commands.Status s) = decimal s.nsid ∷ decimal s.dwords ∷ []
+argument_words (commands.Update u) = decimal u.nsid ∷ map decimal u.pids
+argument_words (commands.Log l) = decimal l.lid ∷ decimal l.offset ∷ decimal l.dwords ∷ class_words l.lsp
+argument_words (commands.SetFdp s) = on_word s.enable ∷ decimal s.index ∷ []
+argument_words (commands.GetFdp g) = []
+argument_words (commands.SetEvents s) = decimal s.nsid ∷ decimal s.handle ∷ on_word s.enable ∷ map decimal s.types
+argument_words (commands.Create c) = decimal c.size ∷ map decimal c.list
+argument_words (commands.Other o) = decimal o.opcode ∷ decimal o.flags ∷ decimal o.feature ∷ []
 
 -- the line of a command, without an end
 abbrev pub command_text : Command → List ℕ

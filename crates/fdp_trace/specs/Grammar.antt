@@ -4,7 +4,8 @@ use Rattle.std.specs.List.{AllZip, list_all, sum_by}
 use Rattle.std.specs.Str.{IsUtf8}
 use Rattle.std.specs.Str.Lines.{lines}
 use Rattle.fdp_base.specs.declared.command.Command.{Command}
-use Rattle.fdp_base.specs.declared.command.Command.TheVariants as commands
+use Rattle.fdp_base.specs.declared.limits.TheConstants.{LONGEST_LINE, MOST_TRACE_BLOCKS, MOST_TRACE_COMMANDS}
+use Rattle.fdp_base.specs.CommandKinds.{blocks_read}
 use Rattle.fdp_trace.specs.declared.fault.FaultKind.{FaultKind}
 use Rattle.fdp_trace.specs.declared.fault.FaultKind.TheVariants as kinds
 use Rattle.fdp_trace.specs.Words.{is_blank, words_of}
@@ -14,9 +15,9 @@ use Rattle.fdp_trace.specs.Demands.{Spells, WordsLack}
 abbrev pub is_skipped : List ℕ → Bool
 is_skipped line = (slice_index line 0 == 35) || list_all is_blank line
 
--- a line that is read: at most 4,096 bytes of UTF-8
+-- a line that is read: UTF-8, and not too long
 abbrev pub IsReadable : List ℕ → Type 0
-IsReadable line = (length line ≤ 4096) × IsUtf8 line
+IsReadable line = (length line ≤ LONGEST_LINE) × IsUtf8 line
 
 -- a line says this command
 abbrev pub Says : List ℕ → Command → Type 0
@@ -24,33 +25,16 @@ Says line command = IsReadable line × Spells (words_of line) command
 
 -- the first thing that a line lacks
 abbrev pub LineLacks : List ℕ → FaultKind → Type 0
-LineLacks line kinds.Long = 4096 < length line
-LineLacks line kinds.Utf8 = (length line ≤ 4096) × (IsUtf8 line → ⊥)
+LineLacks line kinds.Long = LONGEST_LINE < length line
+LineLacks line kinds.Utf8 = (length line ≤ LONGEST_LINE) × (IsUtf8 line → ⊥)
 LineLacks line kinds.Word = IsReadable line × WordsLack (words_of line) kinds.Word
 LineLacks line kinds.Count = IsReadable line × WordsLack (words_of line) kinds.Count
 LineLacks line kinds.Number = IsReadable line × WordsLack (words_of line) kinds.Number
 LineLacks line kinds.Range = IsReadable line × WordsLack (words_of line) kinds.Range
 
--- the blocks that a command reads
-abbrev pub blocks_read : Command → ℕ
-blocks_read (commands.Read nsid slba count) = count
-blocks_read (commands.Write nsid slba count dtype dspec payload) = 0
-blocks_read (commands.Zero nsid slba count) = 0
-blocks_read (commands.Dealloc nsid deallocate ranges) = 0
-blocks_read (commands.Flush nsid) = 0
-blocks_read (commands.Delete nsid) = 0
-blocks_read (commands.Status nsid mo dwords) = 0
-blocks_read (commands.Update nsid mo pids) = 0
-blocks_read (commands.Log lid lsp group offset dwords) = 0
-blocks_read (commands.SetFdp group enable index) = 0
-blocks_read (commands.GetFdp group) = 0
-blocks_read (commands.SetEvents nsid handle enable types) = 0
-blocks_read (commands.Create size given list) = 0
-blocks_read (commands.Other admin opcode flags feature) = 0
-
 -- no more commands, and no more blocks over the reads, than a trace may have
 abbrev pub AreFew : List Command → Type 0
-AreFew commands = (length commands ≤ 8192) × (sum_by blocks_read commands ≤ 8192)
+AreFew commands = (length commands ≤ MOST_TRACE_COMMANDS) × (sum_by blocks_read commands ≤ MOST_TRACE_BLOCKS)
 
 -- the lines that are not skipped say the commands, one each
 abbrev pub Say : List (List ℕ) → List Command → Type 0

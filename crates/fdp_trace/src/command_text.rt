@@ -9,7 +9,7 @@ ghost use Rattle.fdp_trace.specs.Grammar.{is_skipped, Says};
 ghost use Rattle.fdp_base.specs.declared.command.Command.{Command};
 
 use crate::decimal::push_decimal;
-use fdp_base::{Command, Payload, Range};
+use fdp_base::{Command, Directive, LONGEST_LINE, Payload, Range};
 use std::alloc::AllocError;
 
 /// Adds a command as the line of a trace that spells it, without the line's end. One that no trace spells, of bytes
@@ -39,75 +39,52 @@ fn push_arguments(text: &mut Vec<u8>, command: &Command) -> Result<(), AllocErro
     ensures err { OnErr result (Extends text.old.items text.new.items) }
 {
     match command {
-        Command::Write {
-            nsid,
-            slba,
-            count,
-            dtype,
-            dspec,
-            payload,
-        } => {
-            push_blocks(text, *nsid, *slba, *count)?;
-            push_payload(text, payload)?;
-            push_directive(text, *dtype, *dspec)
+        Command::Write(write) => {
+            push_blocks(text, write.nsid, write.slba, write.count)?;
+            push_payload(text, &write.payload)?;
+            push_directive(text, write.dtype, write.dspec)
         }
-        Command::Read { nsid, slba, count } => push_blocks(text, *nsid, *slba, *count),
-        Command::Zero { nsid, slba, count } => push_blocks(text, *nsid, *slba, *count),
-        Command::Dealloc { nsid, ranges, .. } => {
-            push_number(text, u64::from(*nsid))?;
-            push_ranges(text, ranges.as_slice())
+        Command::Read(read) => push_blocks(text, read.nsid, read.slba, read.count),
+        Command::Zero(zero) => push_blocks(text, zero.nsid, zero.slba, zero.count),
+        Command::Dealloc(dealloc) => {
+            push_number(text, u64::from(dealloc.nsid))?;
+            push_ranges(text, dealloc.ranges.as_slice())
         }
-        Command::Flush { nsid } => push_number(text, u64::from(*nsid)),
-        Command::Delete { nsid } => push_number(text, u64::from(*nsid)),
-        Command::Status { nsid, dwords, .. } => {
-            push_number(text, u64::from(*nsid))?;
-            push_number(text, u64::from(*dwords))
+        Command::Flush(flush) => push_number(text, u64::from(flush.nsid)),
+        Command::Delete(delete) => push_number(text, u64::from(delete.nsid)),
+        Command::Status(status) => {
+            push_number(text, u64::from(status.nsid))?;
+            push_number(text, u64::from(status.dwords))
         }
-        Command::Update { nsid, pids, .. } => {
-            push_number(text, u64::from(*nsid))?;
-            push_identifiers(text, pids.as_slice())
+        Command::Update(update) => {
+            push_number(text, u64::from(update.nsid))?;
+            push_identifiers(text, update.pids.as_slice())
         }
-        Command::Log {
-            lid,
-            lsp,
-            offset,
-            dwords,
-            ..
-        } => {
-            push_number(text, u64::from(*lid))?;
-            push_number(text, *offset)?;
-            push_number(text, u64::from(*dwords))?;
-            push_class(text, *lsp)
+        Command::Log(log) => {
+            push_number(text, u64::from(log.lid))?;
+            push_number(text, log.offset)?;
+            push_number(text, u64::from(log.dwords))?;
+            push_class(text, log.lsp)
         }
-        Command::SetFdp { enable, index, .. } => {
-            push_on(text, *enable)?;
-            push_number(text, u64::from(*index))
+        Command::SetFdp(set) => {
+            push_on(text, set.enable)?;
+            push_number(text, u64::from(set.index))
         }
-        Command::GetFdp { .. } => Ok(()),
-        Command::SetEvents {
-            nsid,
-            handle,
-            enable,
-            types,
-        } => {
-            push_number(text, u64::from(*nsid))?;
-            push_number(text, u64::from(*handle))?;
-            push_on(text, *enable)?;
-            push_types(text, types.as_slice())
+        Command::GetFdp(_) => Ok(()),
+        Command::SetEvents(set) => {
+            push_number(text, u64::from(set.nsid))?;
+            push_number(text, u64::from(set.handle))?;
+            push_on(text, set.enable)?;
+            push_types(text, set.types.as_slice())
         }
-        Command::Create { size, list, .. } => {
-            push_number(text, *size)?;
-            push_identifiers(text, list.as_slice())
+        Command::Create(create) => {
+            push_number(text, create.size)?;
+            push_identifiers(text, create.list.as_slice())
         }
-        Command::Other {
-            opcode,
-            flags,
-            feature,
-            ..
-        } => {
-            push_number(text, u64::from(*opcode))?;
-            push_number(text, u64::from(*flags))?;
-            push_number(text, u64::from(*feature))
+        Command::Other(other) => {
+            push_number(text, u64::from(other.opcode))?;
+            push_number(text, u64::from(other.flags))?;
+            push_number(text, u64::from(other.feature))
         }
     }
 }
@@ -135,7 +112,7 @@ fn push_directive(text: &mut Vec<u8>, dtype: u8, dspec: u16) -> Result<(), Alloc
     ensures ok { OnOk result (text.new.items ≡ text.old.items ++ spaced_behind (directive_words dtype dspec)) }
     ensures err { OnErr result (Extends text.old.items text.new.items) }
 {
-    if dtype == 0 {
+    if dtype == Directive::Absent.code() {
         return Ok(());
     }
     push_word(text, b"pid")?;
@@ -223,6 +200,6 @@ fn push_word(text: &mut Vec<u8>, word: &[u8]) -> Result<(), AllocError>
 /// The line that is printed of a command says that command, where a line of a trace can spell it and the line is not
 /// too long.
 pub fn printed_is_read()
-    ensures { (words : List (List ℕ)) (command : Command) → Spells words command → length (command_text command) ≤ 4096
+    ensures { (words : List (List ℕ)) (command : Command) → Spells words command → length (command_text command) ≤ LONGEST_LINE
         → (is_skipped (command_text command) ≡ false) × Says (command_text command) command }
 {}

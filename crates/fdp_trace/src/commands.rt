@@ -10,7 +10,10 @@ use crate::fault::{FaultKind, LineError};
 use crate::lists::{event_types, identifiers, ranges};
 use crate::number::within;
 use crate::words::next_word;
-use fdp_base::{Command, Payload};
+use fdp_base::{
+    Command, Create, Dealloc, Delete, Directive, Flush, GetFdp, GetLog, HandleStatus, HandleUpdate,
+    Payload, Read, ReceiveOperation, SendOperation, SetEvents, SetFdp, Write, Zero,
+};
 use std::alloc::Global;
 
 #[tactic(auto, unfolding(crate::specs::Reader::Reading::field))]
@@ -79,9 +82,9 @@ fn directive(line: &[u8]) -> Result<(u8, u16), LineError>
     match next_word(line) {
         Some((_, rest)) => {
             let (pid, _) = field_16(rest)?;
-            Ok((2, pid))
+            Ok((Directive::DataPlacement.code(), pid))
         }
-        None => Ok((0, 0)),
+        None => Ok((Directive::Absent.code(), 0)),
     }
 }
 
@@ -105,14 +108,14 @@ fn write(line: &[u8]) -> Result<Command, LineError>
     let (seed, rest) = field_32(rest)?;
     let (dtype, dspec) = directive(rest)?;
     let payload = Payload::Pattern(seed);
-    Ok(Command::Write {
+    Ok(Command::Write(Write {
         nsid,
         slba,
         count,
         dtype,
         dspec,
         payload,
-    })
+    }))
 }
 
 #[tactic(auto, unfolding(crate::specs::Reader::Commands::read_of))]
@@ -122,7 +125,7 @@ fn read(line: &[u8]) -> Result<Command, LineError>
     let (nsid, rest) = field_32(line)?;
     let (slba, rest) = field_64(rest)?;
     let (count, _) = field_count(rest)?;
-    Ok(Command::Read { nsid, slba, count })
+    Ok(Command::Read(Read { nsid, slba, count }))
 }
 
 #[tactic(auto, unfolding(crate::specs::Reader::Commands::zero_of))]
@@ -132,7 +135,7 @@ fn zero(line: &[u8]) -> Result<Command, LineError>
     let (nsid, rest) = field_32(line)?;
     let (slba, rest) = field_64(rest)?;
     let (count, _) = field_count(rest)?;
-    Ok(Command::Zero { nsid, slba, count })
+    Ok(Command::Zero(Zero { nsid, slba, count }))
 }
 
 #[tactic(auto, unfolding(crate::specs::Reader::Commands::dealloc_of))]
@@ -142,11 +145,11 @@ fn dealloc(alloc: Global, line: &[u8]) -> Result<Command, LineError>
     let (nsid, rest) = field_32(line)?;
     let ranges = ranges(alloc, rest)?;
     let deallocate = true;
-    Ok(Command::Dealloc {
+    Ok(Command::Dealloc(Dealloc {
         nsid,
         deallocate,
         ranges,
-    })
+    }))
 }
 
 #[tactic(auto, unfolding(crate::specs::Reader::Commands::flush_of))]
@@ -154,7 +157,7 @@ fn flush(line: &[u8]) -> Result<Command, LineError>
     ensures { Gives (λ c. c) result (flush_of (words_of line.now)) }
 {
     let (nsid, _) = field_32(line)?;
-    Ok(Command::Flush { nsid })
+    Ok(Command::Flush(Flush { nsid }))
 }
 
 #[tactic(auto, unfolding(crate::specs::Reader::Commands::delete_of))]
@@ -162,7 +165,7 @@ fn delete(line: &[u8]) -> Result<Command, LineError>
     ensures { Gives (λ c. c) result (delete_of (words_of line.now)) }
 {
     let (nsid, _) = field_32(line)?;
-    Ok(Command::Delete { nsid })
+    Ok(Command::Delete(Delete { nsid }))
 }
 
 #[tactic(auto, unfolding(crate::specs::Reader::Commands::status_of))]
@@ -171,11 +174,11 @@ fn status(line: &[u8]) -> Result<Command, LineError>
 {
     let (nsid, rest) = field_32(line)?;
     let (dwords, _) = field_count(rest)?;
-    Ok(Command::Status {
+    Ok(Command::Status(HandleStatus {
         nsid,
-        mo: 1,
+        mo: ReceiveOperation::HandleStatus.code(),
         dwords,
-    })
+    }))
 }
 
 #[tactic(auto, unfolding(crate::specs::Reader::Commands::update_of))]
@@ -184,7 +187,8 @@ fn update(alloc: Global, line: &[u8]) -> Result<Command, LineError>
 {
     let (nsid, rest) = field_32(line)?;
     let pids = identifiers(alloc, rest)?;
-    Ok(Command::Update { nsid, mo: 1, pids })
+    let mo = SendOperation::HandleUpdate.code();
+    Ok(Command::Update(HandleUpdate { nsid, mo, pids }))
 }
 
 #[tactic(auto, unfolding(crate::specs::Reader::Commands::log_of))]
@@ -196,13 +200,13 @@ fn log(line: &[u8]) -> Result<Command, LineError>
     let (dwords, rest) = field_count(rest)?;
     let lsp = class(rest)?;
     let group = 1;
-    Ok(Command::Log {
+    Ok(Command::Log(GetLog {
         lid,
         lsp,
         group,
         offset,
         dwords,
-    })
+    }))
 }
 
 #[tactic(auto, unfolding(crate::specs::Reader::Commands::set_fdp_of))]
@@ -211,11 +215,11 @@ fn set_fdp(line: &[u8]) -> Result<Command, LineError>
 {
     let (enable, rest) = is_on(line)?;
     let (index, _) = field_8(rest)?;
-    Ok(Command::SetFdp {
+    Ok(Command::SetFdp(SetFdp {
         group: 1,
         enable,
         index,
-    })
+    }))
 }
 
 #[tactic(auto, unfolding(crate::specs::Reader::Commands::set_events_of))]
@@ -226,12 +230,12 @@ fn set_events(alloc: Global, line: &[u8]) -> Result<Command, LineError>
     let (handle, rest) = field_16(rest)?;
     let (enable, rest) = is_on(rest)?;
     let types = event_types(alloc, rest)?;
-    Ok(Command::SetEvents {
+    Ok(Command::SetEvents(SetEvents {
         nsid,
         handle,
         enable,
         types,
-    })
+    }))
 }
 
 #[tactic(auto, unfolding(crate::specs::Reader::Commands::create_of))]
@@ -241,7 +245,7 @@ fn create(alloc: Global, line: &[u8]) -> Result<Command, LineError>
     let (size, rest) = field_64(line)?;
     let list = identifiers(alloc, rest)?;
     let given = !list.as_slice().is_empty();
-    Ok(Command::Create { size, given, list })
+    Ok(Command::Create(Create { size, given, list }))
 }
 
 /// The command of a line of this word, with the words behind it.
@@ -258,7 +262,7 @@ pub fn spelled(alloc: Global, word: CommandWord, line: &[u8]) -> Result<Command,
         CommandWord::Update => update(alloc, line),
         CommandWord::Log => log(line),
         CommandWord::SetFdp => set_fdp(line),
-        CommandWord::GetFdp => Ok(Command::GetFdp { group: 1 }),
+        CommandWord::GetFdp => Ok(Command::GetFdp(GetFdp { group: 1 })),
         CommandWord::SetEvents => set_events(alloc, line),
         CommandWord::Create => create(alloc, line),
         CommandWord::Delete => delete(line),

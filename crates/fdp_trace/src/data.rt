@@ -19,19 +19,19 @@ pub fn push_data(text: &mut Vec<u8>, command: &Command, bytes: &[u8]) -> Result<
     ensures err { OnErr result (Extends text.old.items text.new.items) }
 {
     match command {
-        Command::Read { count, .. } => push_blocks(text, *count, bytes),
-        Command::Status { .. } | Command::Log { .. } => push_data_lines(text, bytes),
-        Command::Write { .. }
-        | Command::Zero { .. }
-        | Command::Dealloc { .. }
-        | Command::Flush { .. }
-        | Command::Delete { .. }
-        | Command::Update { .. }
-        | Command::SetFdp { .. }
-        | Command::GetFdp { .. }
-        | Command::SetEvents { .. }
-        | Command::Create { .. }
-        | Command::Other { .. } => Ok(()),
+        Command::Read(read) => push_blocks(text, read.count, bytes),
+        Command::Status(_) | Command::Log(_) => push_data_lines(text, bytes),
+        Command::Write(_)
+        | Command::Zero(_)
+        | Command::Dealloc(_)
+        | Command::Flush(_)
+        | Command::Delete(_)
+        | Command::Update(_)
+        | Command::SetFdp(_)
+        | Command::GetFdp(_)
+        | Command::SetEvents(_)
+        | Command::Create(_)
+        | Command::Other(_) => Ok(()),
     }
 }
 
@@ -117,29 +117,18 @@ fn number(word: &[u8]) -> u32
     }
 }
 
-/// Whether bytes are their first four over and over.
+/// Whether bytes are their first four over and over: they are the same as themselves four bytes on, which is compared many
+/// bytes at a time.
 fn is_repeated(bytes: &[u8]) -> bool
     ensures { result ≡ bytes_eq bytes.now (repeated (length bytes.now / 4) (take 4 bytes.now)) }
 {
     if bytes.len() < 4 {
         return bytes.is_empty();
     }
-    is_made_of(bytes, &bytes[..4])
-}
-
-fn is_made_of(bytes: &[u8], word: &[u8]) -> bool
-    requires { length word.now ≡ 4 }
-    ensures { result ≡ bytes_eq bytes.now (repeated (length bytes.now / 4) word.now) }
-{
-    let mut rest = bytes;
-    while rest.len() >= 4 {
-        let (front, last) = rest.split_at(rest.len() - 4);
-        if !is_same(last, word) {
-            return false;
-        }
-        rest = front;
+    if bytes.len() % 4 != 0 {
+        return false;
     }
-    rest.is_empty()
+    is_same(&bytes[4..], &bytes[..bytes.len() - 4])
 }
 
 fn is_same(left: &[u8], right: &[u8]) -> bool

@@ -11,13 +11,11 @@ ghost use Rattle.fdp_trace.specs.Reader.Line.{line_of};
 use crate::command_word::CommandWord;
 use crate::commands::spelled;
 use crate::fault::{FaultKind, LineError};
-use crate::number::number;
+use crate::number::is_number;
 use crate::words::{count_words, is_blank, next_word};
-use fdp_base::Command;
+use fdp_base::{Command, LONGEST_LINE};
 use std::alloc::Global;
 use std::str;
-
-const LONGEST: usize = 4096;
 
 /// The command of a line, or none where the line is skipped.
 #[tactic(auto, unfolding(crate::specs::Reader::Line::line_of))]
@@ -27,7 +25,7 @@ pub fn read_line(alloc: Global, line: &[u8]) -> Result<Option<Command>, LineErro
     if is_skipped(line) {
         return Ok(None);
     }
-    if line.len() > LONGEST {
+    if line.len() > LONGEST_LINE {
         return Err(LineError::Fault(FaultKind::Long));
     }
     if !is_text(line) {
@@ -110,7 +108,7 @@ fn numbers_fit(word: CommandWord, line: &[u8]) -> bool
     let mut place = 0;
     let mut rest = line;
     while let Some((text, after)) = next_word(rest) {
-        if !word.is_fixed(place) && number(text).is_none() {
+        if !word.is_fixed(place) && !is_number(text) {
             return false;
         }
         place += 1;

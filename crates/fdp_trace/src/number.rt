@@ -1,4 +1,4 @@
-ghost use Rattle.std.specs.Prelude.{◌≡◌, ◌^◌, ◌≤◌, ℕ, min, length, IfOk};
+ghost use Rattle.std.specs.Prelude.{◌≡◌, ◌^◌, ◌≤◌, ℕ, min, length, IfOk, is_some};
 ghost use Rattle.std.specs.List.{list_all};
 ghost use Rattle.std.specs.Option.{option_map};
 ghost use Rattle.std.specs.Char.{digit_value, is_ascii_digit, is_ascii_hexdigit};
@@ -25,9 +25,17 @@ pub fn within(word: &[u8], low: u64, high: u64) -> Result<u64, LineError>
     Ok(number as u64)
 }
 
+/// Whether a word spells a number.
+#[tactic(auto, unfolding(crate::specs::Reader::NumberOf::number_of))]
+pub fn is_number(word: &[u8]) -> bool
+    ensures { result ≡ is_some (number_of word.now) }
+{
+    is_decimal(word) || is_hexadecimal(word)
+}
+
 /// The number that a word spells, or `LIMIT` where it is at least that.
 #[tactic(auto, unfolding(crate::specs::Reader::NumberOf::number_of))]
-pub fn number(word: &[u8]) -> Option<u128>
+fn number(word: &[u8]) -> Option<u128>
     ensures { result ≡ option_map (min (2 ^ 64)) (number_of word.now) }
 {
     if is_decimal(word) {

@@ -1,20 +1,17 @@
 ghost use Rattle.std.specs.Prelude.{◌≡◌, ℕ, ◌<◌, ◌||◌, List, ◌∷◌, nat_lt, length, IfOk, IfErr};
 ghost use Rattle.std.specs.Str.Lines.{lines, strip_carriage_return};
 ghost use Rattle.fdp_trace.specs.Reader.FrontOf.{IsFront, is_line_feed};
-ghost use Rattle.fdp_trace.specs.Grammar.{blocks_read, IsTraceOf, IsFaultOf};
+ghost use Rattle.fdp_trace.specs.Grammar.{IsTraceOf, IsFaultOf};
 ghost use Rattle.fdp_trace.specs.Answer.{IsCause, GivesCommands, GivesFault};
 ghost use Rattle.fdp_trace.specs.Reader.Line.{line_of, ReadsLine};
 ghost use Rattle.fdp_trace.specs.declared.fault.FaultKind.{FaultKind};
 ghost use Rattle.fdp_base.specs.declared.command.Command.{Command};
+ghost use Rattle.fdp_base.specs.CommandKinds.{blocks_read};
 
 use crate::fault::{FaultKind, LineError, TraceFault};
 use crate::line::read_line;
-use fdp_base::Command;
+use fdp_base::{Command, MOST_TRACE_BLOCKS, MOST_TRACE_COMMANDS};
 use std::alloc::Global;
-
-const MOST_COMMANDS: usize = 8192;
-
-const MOST_BLOCKS: u64 = 8192;
 
 /// The commands of a trace, or its first bad line, from 1, with the first thing that the line lacks. It takes time that
 /// grows with the text.
@@ -38,7 +35,7 @@ pub fn read_trace(alloc: Global, text: &[u8]) -> Result<Vec<Command>, TraceFault
         let Some(command) = found else {
             continue;
         };
-        blocks += blocks_read(&command);
+        blocks += u64::from(command.blocks_read());
         if is_too_much(commands.len() + 1, blocks) {
             let kind = FaultKind::Long;
             return Err(TraceFault::Line { line: number, kind });
@@ -59,9 +56,9 @@ fn read_numbered(alloc: Global, line: &[u8], number: usize) -> Result<Option<Com
 }
 
 fn is_too_much(commands: usize, blocks: u64) -> bool
-    ensures { result ≡ (nat_lt 8192 commands || nat_lt 8192 blocks) }
+    ensures { result ≡ (nat_lt MOST_TRACE_COMMANDS commands || nat_lt MOST_TRACE_BLOCKS blocks) }
 {
-    commands > MOST_COMMANDS || blocks > MOST_BLOCKS
+    commands > MOST_TRACE_COMMANDS || blocks > MOST_TRACE_BLOCKS
 }
 
 /// The first line of a text, without its end, and the text behind it.
@@ -99,26 +96,5 @@ fn without_return(line: &[u8]) -> &[u8]
         &line[..len - 1]
     } else {
         line
-    }
-}
-
-fn blocks_read(command: &Command) -> u64
-    ensures { result ≡ blocks_read command.now }
-{
-    match command {
-        Command::Read { count, .. } => u64::from(*count),
-        Command::Write { .. }
-        | Command::Zero { .. }
-        | Command::Dealloc { .. }
-        | Command::Flush { .. }
-        | Command::Delete { .. }
-        | Command::Status { .. }
-        | Command::Update { .. }
-        | Command::Log { .. }
-        | Command::SetFdp { .. }
-        | Command::GetFdp { .. }
-        | Command::SetEvents { .. }
-        | Command::Create { .. }
-        | Command::Other { .. } => 0,
     }
 }

@@ -1,4 +1,4 @@
-use fdp_base::{Bytes, Command, Reply, Sequence, Status};
+use fdp_base::{Bytes, Command, Flush, GetLog, Other, Read, Reply, Sequence, Status};
 use fdp_trace::{print_command, print_completion, printed_is_read};
 use std::alloc::{AllocError, Global};
 
@@ -16,18 +16,18 @@ pub fn completions(alloc: Global) -> Result<Vec<u8>, AllocError> {
 
 fn print_refused(alloc: Global, text: &mut Vec<u8>) -> Result<(), AllocError> {
     let refused = reply(Sequence::new(alloc), Status::LBA_OUT_OF_RANGE, 0);
-    print_completion(12, &Command::Flush { nsid: 1 }, &refused, text)
+    print_completion(12, &Command::Flush(Flush { nsid: 1 }), &refused, text)
 }
 
 /// Two blocks of eight bytes: one word over and over, and two words.
 fn print_read(alloc: Global, text: &mut Vec<u8>) -> Result<(), AllocError> {
     let blocks = [7u8, 0, 0, 0, 7, 0, 0, 0, 0xde, 0xad, 0xbe, 0xef, 0, 1, 2, 3].to_vec(alloc)?;
     let read = reply(Sequence::from_vec(blocks), Status::SUCCESS, 0xab);
-    let command = Command::Read {
+    let command = Command::Read(Read {
         nsid: 1,
         slba: 0,
         count: 2,
-    };
+    });
     print_completion(0, &command, &read, text)
 }
 
@@ -37,23 +37,23 @@ fn print_log(alloc: Global, text: &mut Vec<u8>) -> Result<(), AllocError> {
         Status::SUCCESS,
         0,
     );
-    let command = Command::Log {
+    let command = Command::Log(GetLog {
         lid: 32,
         lsp: 0,
         group: 1,
         offset: 0,
         dwords: 8,
-    };
+    });
     print_completion(65535, &command, &log, text)
 }
 
 fn print_other(text: &mut Vec<u8>) -> Result<(), AllocError> {
-    let command = Command::Other {
+    let command = Command::Other(Other {
         admin: true,
         opcode: 2,
         flags: 0,
         feature: 29,
-    };
+    });
     print_command(&command, text)?;
     text.push(b'\n')?;
     Ok(())

@@ -27,7 +27,7 @@ abbrev before : ℕ → List Entry
 before n = take n entries_over_image
 
 abbrev read : ℕ → Entry
-read number = told number (commands.Read 1 0 1) (pattern_block 512 100 0)
+read number = told number (commands.Read (record { nsid = 1; slba = 0; count = 1 })) (pattern_block 512 100 0)
 
 abbrev write : Entry
 write = done 1 (write_to 1 1 1 7)
@@ -47,7 +47,7 @@ read-found = record {
   replied = inr (inl (refl, record { status = refl; dword0 = refl; size = refl; bytes_are = λ _. refl; applied = refl }));
 }
 
-started : IsStep true drive_t image (before 2) (entries.Started 1 1 (write_to 1 1 1 7) 0 0 true)
+started : IsStep true drive_t image (before 2) (entries.Started (record { queue = 1; number = 1; command = write_to 1 1 1 7; rg = 0; ruh = 0; pid_valid = true }))
 unfolding Follows point_of state_of first_state after changed_by effect_of refusal_of checks_of numbers_from namespace_ids
 started = record {
   queue_is = (lit≤ tt, lit≤ tt);
@@ -60,7 +60,7 @@ started = record {
   default = λ no. absurd cc;
 }
 
-placed : IsStep true drive_t image (before 3) (entries.Placed 43 0 0 0)
+placed : IsStep true drive_t image (before 3) (entries.Placed (record { ticket = 43; index = 0; unit = 0; page = 0 }))
 unfolding Follows point_of state_of first_state after changed_by effect_of numbers_from namespace_ids
 placed = record {
   queue = 1;
@@ -104,7 +104,7 @@ only-unit-0 unit other =
     (λ (is : Some 0 ≡ Some unit). let same : 0 ≡ unit = cc in other same)
     (λ rg ruh (none : None ≡ Some unit). absurd cc)
 
-copied : IsStep true drive_t image (before 5) (entries.Copied (spot 3 0) (spot 4 0))
+copied : IsStep true drive_t image (before 5) (entries.Copied (record { from = spot 3 0; to = spot 4 0 }))
 unfolding Follows point_of state_of first_state after changed_by effect_of numbers_from namespace_ids
 copied = record {
   from = (lit< tt, lit< tt);
@@ -115,7 +115,7 @@ copied = record {
   to_unreferenced = only-unit-0 4 (λ same. absurd cc);
 }
 
-moved : IsStep true drive_t image (before 6) (entries.Moved 0 (record { nsid = 1; lba = 0 } ∷ []))
+moved : IsStep true drive_t image (before 6) (entries.Moved (record { rg = 0; blocks = record { nsid = 1; lba = 0 } ∷ [] }))
 unfolding Follows point_of state_of first_state after changed_by effect_of numbers_from namespace_ids trail_of traced_by
 moved = record { group = lit< tt; listed = refl }
 
@@ -147,7 +147,7 @@ nothing-left nsid lba =
           ]
     ] refl
 
-erased : IsStep true drive_t image (before 7) (entries.Erased 3)
+erased : IsStep true drive_t image (before 7) (entries.Erased (record { unit = 3 }))
 unfolding Follows point_of state_of first_state after changed_by effect_of numbers_from namespace_ids trail_of traced_by
 erased = record { data_unit = lit< tt; unreferenced = only-unit-0 3 (λ same. absurd cc); kept = refl; empty = nothing-left }
 

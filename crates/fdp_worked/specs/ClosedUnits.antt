@@ -8,12 +8,12 @@ use Rattle.fdp_worked.specs.Words.{done, lines, told, write}
 
 -- an update of placement identifier 0
 abbrev pub update : Command
-update = commands.Update 1 1 (0 ∷ [])
+update = commands.Update (record { nsid = 1; mo = 1; pids = 0 ∷ [] })
 
 -- four blocks of a write with this ticket are placed from a page on
 abbrev pub four_pages : ℕ → ℕ → ℕ → List Entry
 four_pages ticket unit page =
-    entries.Placed ticket 0 unit page ∷ entries.Placed ticket 1 unit (page + 1) ∷ entries.Placed ticket 2 unit (page + 2) ∷ entries.Placed ticket 3 unit (page + 3) ∷ []
+    entries.Placed (record { ticket = ticket; index = 0; unit = unit; page = page }) ∷ entries.Placed (record { ticket = ticket; index = 1; unit = unit; page = page + 1 }) ∷ entries.Placed (record { ticket = ticket; index = 2; unit = unit; page = page + 2 }) ∷ entries.Placed (record { ticket = ticket; index = 3; unit = unit; page = page + 3 }) ∷ []
 
 -- one descriptor: placement identifier 0, handle 0, and 8 blocks that may still be written
 abbrev pub handle_status_of_one : List ℕ
@@ -23,20 +23,20 @@ handle_status_of_one = replicate 14 0 ++ 1 ∷ 0 ∷ replicate 8 0 ++ 8 ∷ repl
 -- an update that closes nothing
 abbrev pub entries_of_closed_units : List Entry
 entries_of_closed_units =
-    done 0 (commands.SetEvents 1 0 true (0 ∷ []))
+    done 0 (commands.SetEvents (record { nsid = 1; handle = 0; enable = true; types = 0 ∷ [] }))
     ∷ done 1 update
-    ∷ entries.Started 1 2 (write 0 3 0) 0 0 true
-    ∷ entries.Placed 3 0 0 0 ∷ entries.Placed 3 1 0 1 ∷ entries.Placed 3 2 0 2
+    ∷ entries.Started (record { queue = 1; number = 2; command = write 0 3 0; rg = 0; ruh = 0; pid_valid = true })
+    ∷ entries.Placed (record { ticket = 3; index = 0; unit = 0; page = 0 }) ∷ entries.Placed (record { ticket = 3; index = 1; unit = 0; page = 1 }) ∷ entries.Placed (record { ticket = 3; index = 2; unit = 0; page = 2 })
     ∷ done 2 (write 0 3 0)
     ∷ done 3 update
-    ∷ entries.Started 1 4 (write 0 4 0) 0 0 true
+    ∷ entries.Started (record { queue = 1; number = 4; command = write 0 4 0; rg = 0; ruh = 0; pid_valid = true })
     ∷ four_pages 9 1 0
     ++ done 4 (write 0 4 0)
-    ∷ entries.Started 1 5 (write 4 4 0) 0 0 true
+    ∷ entries.Started (record { queue = 1; number = 5; command = write 4 4 0; rg = 0; ruh = 0; pid_valid = true })
     ∷ four_pages 15 1 4
     ++ done 5 (write 4 4 0)
     ∷ done 6 update
-    ∷ told 7 (commands.Status 1 1 12) handle_status_of_one
+    ∷ told 7 (commands.Status (record { nsid = 1; mo = 1; dwords = 12 })) handle_status_of_one
     ∷ []
 
 abbrev pub text_of_closed_units : List ℕ

@@ -37,14 +37,14 @@ image = record {
 abbrev pub entries_over_image : List Entry
 entries_over_image =
     entries.Reopened
-    ∷ told 0 (commands.Read 1 0 1) (pattern_block 512 100 0)
-    ∷ entries.Started 1 1 (write_to 1 1 1 7) 0 0 true
-    ∷ entries.Placed 43 0 0 0
+    ∷ told 0 (commands.Read (record { nsid = 1; slba = 0; count = 1 })) (pattern_block 512 100 0)
+    ∷ entries.Started (record { queue = 1; number = 1; command = write_to 1 1 1 7; rg = 0; ruh = 0; pid_valid = true })
+    ∷ entries.Placed (record { ticket = 43; index = 0; unit = 0; page = 0 })
     ∷ done 1 (write_to 1 1 1 7)
-    ∷ entries.Copied (spot 3 0) (spot 4 0)
-    ∷ entries.Moved 0 (record { nsid = 1; lba = 0 } ∷ [])
-    ∷ entries.Erased 3
-    ∷ told 2 (commands.Read 1 0 1) (pattern_block 512 100 0)
+    ∷ entries.Copied (record { from = spot 3 0; to = spot 4 0 })
+    ∷ entries.Moved (record { rg = 0; blocks = record { nsid = 1; lba = 0 } ∷ [] })
+    ∷ entries.Erased (record { unit = 3 })
+    ∷ told 2 (commands.Read (record { nsid = 1; slba = 0; count = 1 })) (pattern_block 512 100 0)
     ∷ []
 
 abbrev pub text_over_image : List ℕ

@@ -9,9 +9,9 @@ use Rattle.fdp_worked.specs.Words.{done, lines, write_to}
 -- there is none: it goes to handle 2 in group 0
 abbrev pub entries_of_invalid_identifier : List Entry
 entries_of_invalid_identifier =
-    done 0 (commands.SetEvents 1 0 true (3 ∷ []))
-    ∷ entries.Started 1 1 (write_to 0x8002 0 1 1) 0 2 false
-    ∷ entries.Placed 2 0 0 0
+    done 0 (commands.SetEvents (record { nsid = 1; handle = 0; enable = true; types = 3 ∷ [] }))
+    ∷ entries.Started (record { queue = 1; number = 1; command = write_to 0x8002 0 1 1; rg = 0; ruh = 2; pid_valid = false })
+    ∷ entries.Placed (record { ticket = 2; index = 0; unit = 0; page = 0 })
     ∷ done 1 (write_to 0x8002 0 1 1)
     ∷ []
 

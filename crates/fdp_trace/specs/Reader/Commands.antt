@@ -3,6 +3,10 @@ use Rattle.std.specs.Prelude.{ℕ, Bool, true, not, if◌then◌else◌, ◌==�
 use Rattle.fdp_base.specs.declared.command.Command.{Command}
 use Rattle.fdp_base.specs.declared.command.Command.TheVariants as commands
 use Rattle.fdp_base.specs.declared.command.Range.{Range}
+use Rattle.fdp_base.specs.Codes.{directive_code, receive_code, send_code}
+use Rattle.fdp_base.specs.declared.codes.Directive.TheVariants as directives
+use Rattle.fdp_base.specs.declared.codes.ReceiveOperation.TheVariants as receives
+use Rattle.fdp_base.specs.declared.codes.SendOperation.TheVariants as sends
 use Rattle.fdp_base.specs.declared.payload.Payload.TheVariants.{Pattern}
 use Rattle.fdp_trace.specs.declared.fault.FaultKind.{FaultKind}
 use Rattle.fdp_trace.specs.declared.fault.FaultKind.TheVariants as kinds
@@ -34,8 +38,8 @@ choice wanted (text ∷ texts) = Ok (bytes_eq text wanted, texts)
 
 -- the directive of a write: none, or the placement identifier behind its word
 unfoldable pub directive : List (List ℕ) → Result (ℕ × ℕ) FaultKind
-directive [] = Ok (0, 0)
-directive (word ∷ texts) = field_16 texts >>= λ pid. Ok (2, pid.0)
+directive [] = Ok (directive_code directives.Absent, 0)
+directive (word ∷ texts) = field_16 texts >>= λ pid. Ok (directive_code directives.DataPlacement, pid.0)
 
 unfoldable pub write_of : List (List ℕ) → Result Command FaultKind
 write_of texts = do
@@ -44,21 +48,21 @@ write_of texts = do
   count ← field_count slba.1
   seed ← field_32 count.1
   place ← directive seed.1
-  Ok (commands.Write nsid.0 slba.0 count.0 place.0 place.1 (Pattern seed.0))
+  Ok (commands.Write (record { nsid = nsid.0; slba = slba.0; count = count.0; dtype = place.0; dspec = place.1; payload = Pattern seed.0 }))
 
 unfoldable pub read_of : List (List ℕ) → Result Command FaultKind
 read_of texts = do
   nsid ← field_32 texts
   slba ← field_64 nsid.1
   count ← field_count slba.1
-  Ok (commands.Read nsid.0 slba.0 count.0)
+  Ok (commands.Read (record { nsid = nsid.0; slba = slba.0; count = count.0 }))
 
 unfoldable pub zero_of : List (List ℕ) → Result Command FaultKind
 zero_of texts = do
   nsid ← field_32 texts
   slba ← field_64 nsid.1
   count ← field_count slba.1
-  Ok (commands.Zero nsid.0 slba.0 count.0)
+  Ok (commands.Zero (record { nsid = nsid.0; slba = slba.0; count = count.0 }))
 
 unfoldable pub range_of : List ℕ → List ℕ → Result Range FaultKind
 range_of first second = do
@@ -79,23 +83,23 @@ unfoldable pub dealloc_of : List (List ℕ) → Result Command FaultKind
 dealloc_of texts = do
   nsid ← field_32 texts
   ranges ← ranges_of nsid.1
-  Ok (commands.Dealloc nsid.0 true ranges)
+  Ok (commands.Dealloc (record { nsid = nsid.0; deallocate = true; ranges = ranges }))
 
 unfoldable pub flush_of : List (List ℕ) → Result Command FaultKind
 flush_of texts = do
   nsid ← field_32 texts
-  Ok (commands.Flush nsid.0)
+  Ok (commands.Flush (record { nsid = nsid.0 }))
 
 unfoldable pub delete_of : List (List ℕ) → Result Command FaultKind
 delete_of texts = do
   nsid ← field_32 texts
-  Ok (commands.Delete nsid.0)
+  Ok (commands.Delete (record { nsid = nsid.0 }))
 
 unfoldable pub status_of : List (List ℕ) → Result Command FaultKind
 status_of texts = do
   nsid ← field_32 texts
   dwords ← field_count nsid.1
-  Ok (commands.Status nsid.0 1 dwords.0)
+  Ok (commands.Status (record { nsid = nsid.0; mo = receive_code receives.HandleStatus; dwords = dwords.0 }))
 
 -- all words as numbers up to a bound
 unfoldable pub numbers_of : ℕ → List (List ℕ) → Result (List ℕ) FaultKind
@@ -109,7 +113,7 @@ unfoldable pub update_of : List (List ℕ) → Result Command FaultKind
 update_of texts = do
   nsid ← field_32 texts
   pids ← numbers_of 65535 nsid.1
-  Ok (commands.Update nsid.0 1 pids)
+  Ok (commands.Update (record { nsid = nsid.0; mo = send_code sends.HandleUpdate; pids = pids }))
 
 -- host or ctrl; ctrl where no word is left
 unfoldable pub class_of : List (List ℕ) → Result ℕ FaultKind
@@ -122,13 +126,13 @@ log_of texts = do
   offset ← field_64 lid.1
   dwords ← field_count offset.1
   lsp ← class_of dwords.1
-  Ok (commands.Log lid.0 lsp 1 offset.0 dwords.0)
+  Ok (commands.Log (record { lid = lid.0; lsp = lsp; group = 1; offset = offset.0; dwords = dwords.0 }))
 
 unfoldable pub set_fdp_of : List (List ℕ) → Result Command FaultKind
 set_fdp_of texts = do
   enable ← choice (codes "on") texts
   index ← field_8 enable.1
-  Ok (commands.SetFdp 1 enable.0 index.0)
+  Ok (commands.SetFdp (record { group = 1; enable = enable.0; index = index.0 }))
 
 unfoldable pub set_events_of : List (List ℕ) → Result Command FaultKind
 set_events_of texts = do
@@ -136,13 +140,13 @@ set_events_of texts = do
   handle ← field_16 nsid.1
   enable ← choice (codes "on") handle.1
   types ← numbers_of 255 enable.1
-  Ok (commands.SetEvents nsid.0 handle.0 enable.0 types)
+  Ok (commands.SetEvents (record { nsid = nsid.0; handle = handle.0; enable = enable.0; types = types }))
 
 unfoldable pub create_of : List (List ℕ) → Result Command FaultKind
 create_of texts = do
   blocks ← field_64 texts
   handles ← numbers_of 65535 blocks.1
-  Ok (commands.Create blocks.0 (not (length handles == 0)) handles)
+  Ok (commands.Create (record { size = blocks.0; given = not (length handles == 0); list = handles }))
 
 -- the command of a line of this word, with the words behind it
 abbrev pub spelled : CommandWord → List (List ℕ) → Result Command FaultKind
@@ -155,7 +159,7 @@ spelled words.Status texts = status_of texts
 spelled words.Update texts = update_of texts
 spelled words.Log texts = log_of texts
 spelled words.SetFdp texts = set_fdp_of texts
-spelled words.GetFdp texts = Ok (commands.GetFdp 1)
+spelled words.GetFdp texts = Ok (commands.GetFdp (record { group = 1 }))
 spelled words.SetEvents texts = set_events_of texts
 spelled words.Create texts = create_of texts
 spelled words.Delete texts = delete_of texts

@@ -2,6 +2,7 @@
 use Rattle.std.specs.Prelude.{◌≡◌, ℕ, not, if◌then◌else◌, nat_lt, List, length, Option, Some, None, Result, Ok, Err}
 use Rattle.std.specs.Str.{is_utf8}
 use Rattle.fdp_base.specs.declared.command.Command.{Command}
+use Rattle.fdp_base.specs.declared.limits.TheConstants.{LONGEST_LINE}
 use Rattle.fdp_trace.specs.declared.fault.FaultKind.{FaultKind}
 use Rattle.fdp_trace.specs.declared.fault.FaultKind.TheVariants as kinds
 use Rattle.fdp_trace.specs.declared.fault.TraceFault.{TraceFault}
@@ -15,7 +16,7 @@ use Rattle.fdp_trace.specs.Reader.Commands.{command_of}
 unfoldable pub line_of : List ℕ → Result (Option Command) FaultKind
 line_of line =
     if is_skipped line then Ok None
-    else (if nat_lt 4096 (length line) then Err kinds.Long
+    else (if nat_lt LONGEST_LINE (length line) then Err kinds.Long
     else (if not (is_utf8 line) then Err kinds.Utf8
     else (command_of (words_of line) >>= λ command. Ok (Some command))))
 

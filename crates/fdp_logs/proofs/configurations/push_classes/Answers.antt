@@ -1,6 +1,7 @@
 use Rattle.std.proofs.Common.{ℕ, List, ◌∷◌, ◌++◌, ◌∙◌, ap, arith}
 use Rattle.fdp_base.specs.declared.config.Class.{Class}
-use Rattle.fdp_rules.specs.LogPages.{class_code, zeros}
+use Rattle.fdp_base.specs.Codes.{class_code}
+use Rattle.fdp_rules.specs.LogPages.{zeros}
 use Rattle.fdp_logs.proofs.Appending.{appending_over_end, appending_over_next}
 use Rattle.fdp_logs.proofs.configurations.push_classes.Goals as goal
 

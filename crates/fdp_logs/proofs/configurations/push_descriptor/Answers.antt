@@ -3,7 +3,8 @@ use Rattle.std.specs.Prelude.{flat_map}
 use Rattle.std.specs.Int.{to_le_bytes, w16, w32, w64}
 use Rattle.fdp_base.specs.declared.config.Class.{Class}
 use Rattle.fdp_base.specs.Placement.{group_bits}
-use Rattle.fdp_rules.specs.LogPages.{class_code, descriptor_size, zeros}
+use Rattle.fdp_base.specs.Codes.{class_code}
+use Rattle.fdp_rules.specs.LogPages.{descriptor_size, zeros}
 use Rattle.fdp_logs.proofs.Appending.{joined_3}
 use Rattle.fdp_logs.proofs.configurations.push_descriptor.Goals as goal
 
