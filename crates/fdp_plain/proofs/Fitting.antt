@@ -7,14 +7,14 @@ use Rattle.std.proofs.lemmas.Option.{slice_get_within}
 use Rattle.fdp_base.specs.declared.entry.Entry.{Entry}
 use Rattle.fdp_base.specs.declared.entry.Entry.TheVariants as entries
 use Rattle.fdp_rules.specs.Step.{Follows, IsDataUnit}
-use Rattle.fdp_rules.specs.Totals.{blocks_written}
 use Rattle.fdp_tables.specs.declared.state.Kept.{Kept}
-use Rattle.fdp_tables.specs.Counted.{HasCountRoom}
-use Rattle.fdp_tables.specs.Keeping.{HasEvents}
-use Rattle.fdp_tables.specs.Places.{HasCopyRoom, HasGroup, HasGroupOf, HasPage, HasPlaces}
+use Rattle.fdp_plain_effects.specs.Counted.{HasCountRoom}
+use Rattle.fdp_plain_answers.specs.Keeping.{HasEvents}
+use Rattle.fdp_plain_effects.specs.Places.{HasCopyRoom, HasGroup, HasGroupOf, HasPage, HasPlaces}
 use Rattle.fdp_tables.specs.Sound.{IsSound}
 use Rattle.fdp_tables.specs.State.{point_kept}
 use Rattle.fdp_plain.specs.Reserved.{HasCopyGroup, HasCopySpare}
+use Rattle.fdp_base.specs.CommandKinds.{blocks_written}
 
 -- the tables k with what a change left in a
 abbrev pub with_change : Kept → Kept → Kept
@@ -44,33 +44,26 @@ group_there k h unit below =
     }
 
 -- a run that began fresh has no opening
-pub events_there : (k : Kept) (e : Entry) → Follows true k.config (point_kept k) e → HasEvents e
+unopened : (k : Kept) → Follows true k.config (point_kept k) entries.Reopened → ⊥
 unfolding Follows
-events_there k (entries.Host queue number command reply moment) f = tt
-events_there k (entries.Started queue number command rg ruh pid_valid) f = tt
-events_there k (entries.Placed ticket index unit page) f = tt
-events_there k (entries.Copied old new) f = tt
-events_there k (entries.Moved rg blocks) f = tt
-events_there k (entries.Erased unit) f = tt
-events_there k (entries.Retired unit) f = tt
-events_there k (entries.Aside unit) f = tt
-events_there k (entries.Shut rg ruh) f = tt
-events_there k (entries.Worn rg) f = tt
-events_there k entries.Reopened f = absurd cc
+unopened k f = cc
+
+pub events_there : (k : Kept) (e : Entry) → Follows true k.config (point_kept k) e → HasEvents e
+events_there k e f = λ opened. unopened k (subst (Follows true k.config (point_kept k)) opened f)
 
 -- the group of a page that is copied
 pub copy_group_there : (k : Kept) (e : Entry) → IsSound k → Follows true k.config (point_kept k) e → HasCopyGroup k e
 unfolding Follows
-copy_group_there k (entries.Host queue number command reply moment) h f = tt
-copy_group_there k (entries.Started queue number command rg ruh pid_valid) h f = tt
-copy_group_there k (entries.Placed ticket index unit page) h f = tt
-copy_group_there k (entries.Copied old new) h f = group_there k h old.unit f.from.0
-copy_group_there k (entries.Moved rg blocks) h f = tt
-copy_group_there k (entries.Erased unit) h f = tt
-copy_group_there k (entries.Retired unit) h f = tt
-copy_group_there k (entries.Aside unit) h f = tt
-copy_group_there k (entries.Shut rg ruh) h f = tt
-copy_group_there k (entries.Worn rg) h f = tt
+copy_group_there k (entries.Host host) h f = tt
+copy_group_there k (entries.Started s) h f = tt
+copy_group_there k (entries.Placed p) h f = tt
+copy_group_there k (entries.Copied c) h f = group_there k h c.from.unit f.from.0
+copy_group_there k (entries.Moved m) h f = tt
+copy_group_there k (entries.Erased e) h f = tt
+copy_group_there k (entries.Retired r) h f = tt
+copy_group_there k (entries.Aside a) h f = tt
+copy_group_there k (entries.Shut s) h f = tt
+copy_group_there k (entries.Worn w) h f = tt
 copy_group_there k entries.Reopened h f = tt
 
 -- a page of a row that is there
@@ -86,35 +79,35 @@ row_within {V} P xs i there =
 -- the rows that an entry changes among sites and copies, once there is spare room for a copy
 pub places_there : (k : Kept) (e : Entry) → IsSound k → Follows true k.config (point_kept k) e → HasCopySpare k e → HasPlaces k e
 unfolding Follows
-places_there k (entries.Host queue number command reply moment) h f spare = tt
-places_there k (entries.Started queue number command rg ruh pid_valid) h f spare = tt
-places_there k (entries.Placed ticket index unit page) h f spare =
+places_there k (entries.Host host) h f spare = tt
+places_there k (entries.Started s) h f spare = tt
+places_there k (entries.Placed p) h f spare =
     let pages = subst (λ (t : ℕ). IsSomeAnd (slice_get k.sites.items t) (λ row. length row.items ≡ blocks_written f.going.command)) f.same (h.writes f.queue f.going f.going_is).pages in
     record {
-      ticket_is = row_within _ k.sites.items ticket pages;
-      index_is = page_within _ _ index _ pages f.asked;
+      ticket_is = row_within _ k.sites.items p.ticket pages;
+      index_is = page_within _ _ p.index _ pages f.asked;
     }
-places_there k (entries.Copied old new) h f spare = spare
-places_there k (entries.Moved rg blocks) h f spare = rw h.copies f.group
-places_there k (entries.Erased unit) h f spare = group_there k h unit f.data_unit
-places_there k (entries.Retired unit) h f spare = group_there k h unit f.data_unit
-places_there k (entries.Aside unit) h f spare = group_there k h unit f.data_unit
-places_there k (entries.Shut rg ruh) h f spare = tt
-places_there k (entries.Worn rg) h f spare = rw h.copies f
+places_there k (entries.Copied c) h f spare = spare
+places_there k (entries.Moved m) h f spare = rw h.copies f.group
+places_there k (entries.Erased e) h f spare = group_there k h e.unit f.data_unit
+places_there k (entries.Retired r) h f spare = group_there k h r.unit f.data_unit
+places_there k (entries.Aside a) h f spare = group_there k h a.unit f.data_unit
+places_there k (entries.Shut s) h f spare = tt
+places_there k (entries.Worn w) h f spare = rw h.copies f
 places_there k entries.Reopened h f spare = tt
 
 -- the rows of sites and copies are those of before a change
 pub same_places : (k m : Kept) (e : Entry) → m ≡ with_change k m → HasPlaces k e → HasPlaces m e
-same_places k m (entries.Host queue number command reply moment) rest h = tt
-same_places k m (entries.Started queue number command rg ruh pid_valid) rest h = tt
-same_places k m (entries.Placed ticket index unit page) rest h = subst (λ (x : Kept). HasPage x ticket index) (sym rest) (record { ticket_is = h.ticket_is; index_is = h.index_is })
-same_places k m (entries.Copied old new) rest h = subst (λ (x : Kept). HasCopyRoom x old.unit) (sym rest) (record { group = record { units = h.group.units; group = h.group.group }; room = h.room })
-same_places k m (entries.Moved rg blocks) rest h = subst (λ (x : Kept). HasGroup x rg) (sym rest) h
-same_places k m (entries.Erased unit) rest h = subst (λ (x : Kept). HasGroupOf x unit) (sym rest) (record { units = h.units; group = h.group })
-same_places k m (entries.Retired unit) rest h = subst (λ (x : Kept). HasGroupOf x unit) (sym rest) (record { units = h.units; group = h.group })
-same_places k m (entries.Aside unit) rest h = subst (λ (x : Kept). HasGroupOf x unit) (sym rest) (record { units = h.units; group = h.group })
-same_places k m (entries.Shut rg ruh) rest h = tt
-same_places k m (entries.Worn rg) rest h = subst (λ (x : Kept). HasGroup x rg) (sym rest) h
+same_places k m (entries.Host host) rest h = tt
+same_places k m (entries.Started s) rest h = tt
+same_places k m (entries.Placed p) rest h = subst (λ (x : Kept). HasPage x p.ticket p.index) (sym rest) (record { ticket_is = h.ticket_is; index_is = h.index_is })
+same_places k m (entries.Copied c) rest h = subst (λ (x : Kept). HasCopyRoom x c.from.unit) (sym rest) (record { group = record { units = h.group.units; group = h.group.group }; room = h.room })
+same_places k m (entries.Moved moved) rest h = subst (λ (x : Kept). HasGroup x moved.rg) (sym rest) h
+same_places k m (entries.Erased e) rest h = subst (λ (x : Kept). HasGroupOf x e.unit) (sym rest) (record { units = h.units; group = h.group })
+same_places k m (entries.Retired r) rest h = subst (λ (x : Kept). HasGroupOf x r.unit) (sym rest) (record { units = h.units; group = h.group })
+same_places k m (entries.Aside a) rest h = subst (λ (x : Kept). HasGroupOf x a.unit) (sym rest) (record { units = h.units; group = h.group })
+same_places k m (entries.Shut s) rest h = tt
+same_places k m (entries.Worn w) rest h = subst (λ (x : Kept). HasGroup x w.rg) (sym rest) h
 same_places k m entries.Reopened rest h = tt
 
 -- the sums of a history of fewer than 2 ^ 64 entries have room for an entry more

@@ -12,7 +12,7 @@ use Rattle.fdp_base.specs.declared.entry.Entry.{Entry}
 use Rattle.fdp_base.specs.declared.entry.Entry.TheVariants as entries
 use Rattle.fdp_base.specs.declared.entry.Reply.{Reply}
 use Rattle.fdp_rules.specs.Change.{going_with, holds_ticket, started}
-use Rattle.fdp_base.specs.CommandKinds.{Write, nsid_of, write_of}
+use Rattle.fdp_base.specs.CommandKinds.{nsid_of, write_of}
 use Rattle.fdp_rules.specs.Effect.{created, lowest_free}
 use Rattle.fdp_base.specs.Numbers.{numbers_from}
 use Rattle.fdp_rules.specs.PlainState.{Going, Namespace, PlainState}
@@ -24,16 +24,17 @@ use Rattle.fdp_tables.specs.declared.state.Kept.{Kept}
 use Rattle.fdp_tables.specs.declared.state.KeptBlock.{KeptBlock}
 use Rattle.fdp_tables.specs.declared.state.KeptGoing.{KeptGoing}
 use Rattle.fdp_tables.specs.declared.state.Space.{Space}
-use Rattle.fdp_tables.specs.Going.{IsHandlePlace}
-use Rattle.fdp_tables.specs.Making.{AreBlocksOf, IsCreated, IsSpaceOf}
-use Rattle.fdp_tables.specs.Ready.{HasSpace, IsAsAsked, IsChangeReady, IsHostReady, IsPlaceReady, IsReady}
+use Rattle.fdp_plain_effects.specs.Going.{IsHandlePlace}
+use Rattle.fdp_plain_effects.specs.Making.{AreBlocksOf, IsCreated, IsSpaceOf}
+use Rattle.fdp_plain_effects.specs.Ready.{HasSpace, IsAsAsked, IsChangeReady, IsHostReady, IsPlaceReady, IsReady}
 use Rattle.fdp_tables.specs.Sound.{IsSound}
 use Rattle.fdp_tables.specs.State.{going_of, namespace_of, plain_of, point_kept, row}
-use Rattle.fdp_tables.proofs.Accepted.{none_holds}
+use Rattle.fdp_plain_answers.proofs.Accepted.{none_holds}
 use Rattle.fdp_tables.proofs.Beginning.{few_handles}
 use Rattle.fdp_history.proofs.Effects.{applicable}
 use Rattle.fdp_history.proofs.Tables.{find-absent, find-within}
 use Rattle.fdp_plain.proofs.Fitting.{group_there}
+use Rattle.fdp_base.specs.declared.command.Write.{Write}
 
 -- ---- rows that are there
 
@@ -91,39 +92,39 @@ module _ (k : Kept) (queue number : ℕ) (reply : Reply) (moment : ℕ) (blocks 
   -- the change of a command can be made
   pub effect_ready : (command : Command) → IsHost true k.config (point_kept k) queue number command reply moment → AreBlocksOf k queue command blocks → IsSpaceOf k command space → IsReady k queue command blocks space
   unfolding refusal_of checks_of
-  effect_ready (commands.Write nsid slba count dtype dspec payload) host blocks_made space_made =
-      let may = applicable true k.config (point_kept k) queue number (commands.Write nsid slba count dtype dspec payload) reply moment applied host in
+  effect_ready (commands.Write x) host blocks_made space_made =
+      let may = applicable true k.config (point_kept k) queue number (commands.Write x) reply moment applied host in
       let w = h.writes queue may.0 may.1.going in
       record {
-        there = there_below k may.0 nsid (ap nsid_of may.1.same_command) may.2.there;
+        there = there_below k may.0 x.nsid (ap nsid_of may.1.same_command) may.2.there;
         fits = subst (λ (x : Command). IfSome (write_of x) (λ (w : Write). w.slba + w.count ≤ size_of (plain_of k) w.nsid)) may.1.same_command (w.range may.2.there);
         going = may.0;
         going_is = may.1.going;
         made = blocks_made may.0 may.1.going;
       }
-  effect_ready (commands.Read nsid slba count) host blocks_made space_made = tt
-  effect_ready (commands.Zero nsid slba count) host blocks_made space_made = tt
-  effect_ready (commands.Dealloc nsid deallocate ranges) host blocks_made space_made = tt
-  effect_ready (commands.Flush nsid) host blocks_made space_made = tt
-  effect_ready (commands.Delete nsid) host blocks_made space_made =
-      let may = applicable true k.config (point_kept k) queue number (commands.Delete nsid) reply moment applied host in
-      named_below k nsid (none_holds (checks_of k.config (point_kept k) (commands.Delete nsid)) may).0
-  effect_ready (commands.Status nsid mo dwords) host blocks_made space_made = tt
-  effect_ready (commands.Update nsid mo pids) host blocks_made space_made = tt
-  effect_ready (commands.Log lid lsp group offset dwords) host blocks_made space_made = tt
-  effect_ready (commands.SetFdp group enable index) host blocks_made space_made = omega (arith, h.generation, few)
-  effect_ready (commands.GetFdp group) host blocks_made space_made = tt
-  effect_ready (commands.SetEvents nsid handle enable types) host blocks_made space_made =
-      let may = applicable true k.config (point_kept k) queue number (commands.SetEvents nsid handle enable types) reply moment applied host in
-      let listed = (or_parts _ _ (none_holds (checks_of k.config (point_kept k) (commands.SetEvents nsid handle enable types)) may).1.1.0).0 in
+  effect_ready (commands.Read x) host blocks_made space_made = tt
+  effect_ready (commands.Zero x) host blocks_made space_made = tt
+  effect_ready (commands.Dealloc x) host blocks_made space_made = tt
+  effect_ready (commands.Flush x) host blocks_made space_made = tt
+  effect_ready (commands.Delete x) host blocks_made space_made =
+      let may = applicable true k.config (point_kept k) queue number (commands.Delete x) reply moment applied host in
+      named_below k x.nsid (none_holds (checks_of k.config (point_kept k) (commands.Delete x)) may).0
+  effect_ready (commands.Status x) host blocks_made space_made = tt
+  effect_ready (commands.Update x) host blocks_made space_made = tt
+  effect_ready (commands.Log x) host blocks_made space_made = tt
+  effect_ready (commands.SetFdp x) host blocks_made space_made = omega (arith, h.generation, few)
+  effect_ready (commands.GetFdp x) host blocks_made space_made = tt
+  effect_ready (commands.SetEvents x) host blocks_made space_made =
+      let may = applicable true k.config (point_kept k) queue number (commands.SetEvents x) reply moment applied host in
+      let listed = (or_parts _ _ (none_holds (checks_of k.config (point_kept k) (commands.SetEvents x)) may).1.1.0).0 in
       record {
-        listed = leb-false (length (handles_of (plain_of k) nsid)) handle listed;
-        row = omega (arith, h.known nsid handle, h.reports);
+        listed = leb-false (length (handles_of (plain_of k) x.nsid)) x.handle listed;
+        row = omega (arith, h.known x.nsid x.handle, h.reports);
       }
-  effect_ready (commands.Create size given list) host blocks_made space_made =
-      let may = applicable true k.config (point_kept k) queue number (commands.Create size given list) reply moment applied host in
-      space_ready k size given list space h (none_holds (checks_of k.config (point_kept k) (commands.Create size given list)) may).1.1.0 space_made
-  effect_ready (commands.Other admin opcode flags feature) host blocks_made space_made = tt
+  effect_ready (commands.Create x) host blocks_made space_made =
+      let may = applicable true k.config (point_kept k) queue number (commands.Create x) reply moment applied host in
+      space_ready k x.size x.given x.list space h (none_holds (checks_of k.config (point_kept k) (commands.Create x)) may).1.1.0 space_made
+  effect_ready (commands.Other x) host blocks_made space_made = tt
 
 -- ---- a page that is placed
 
@@ -153,38 +154,38 @@ place_ready k ticket h = record {
 
 -- what is made for an entry: for a command the rows of its change, for a write that is let go that write
 abbrev pub IsMadeFor : Kept → Entry → List (Option KeptBlock) → Option Space → Option KeptGoing → Type 0
-IsMadeFor k (entries.Host queue number command reply moment) blocks space going = IsHostReady k queue command reply blocks space
-IsMadeFor k (entries.Started queue number command rg ruh pid_valid) blocks space going = IsSomeAnd going (λ g. going_of g ≡ started k.config (plain_of k) number command rg ruh pid_valid)
-IsMadeFor k (entries.Placed ticket index unit page) blocks space going = Unit {0}
-IsMadeFor k (entries.Copied old new) blocks space going = Unit {0}
-IsMadeFor k (entries.Moved rg blocks_moved) blocks space going = Unit {0}
-IsMadeFor k (entries.Erased unit) blocks space going = Unit {0}
-IsMadeFor k (entries.Retired unit) blocks space going = Unit {0}
-IsMadeFor k (entries.Aside unit) blocks space going = Unit {0}
-IsMadeFor k (entries.Shut rg ruh) blocks space going = Unit {0}
-IsMadeFor k (entries.Worn rg) blocks space going = Unit {0}
+IsMadeFor k (entries.Host h) blocks space going = IsHostReady k h.queue h.command h.reply blocks space
+IsMadeFor k (entries.Started s) blocks space going = IsSomeAnd going (λ g. going_of g ≡ started k.config (plain_of k) s.number s.command s.rg s.ruh s.pid_valid)
+IsMadeFor k (entries.Placed p) blocks space going = Unit {0}
+IsMadeFor k (entries.Copied c) blocks space going = Unit {0}
+IsMadeFor k (entries.Moved m) blocks space going = Unit {0}
+IsMadeFor k (entries.Erased e) blocks space going = Unit {0}
+IsMadeFor k (entries.Retired r) blocks space going = Unit {0}
+IsMadeFor k (entries.Aside a) blocks space going = Unit {0}
+IsMadeFor k (entries.Shut s) blocks space going = Unit {0}
+IsMadeFor k (entries.Worn w) blocks space going = Unit {0}
 IsMadeFor k entries.Reopened blocks space going = Unit {0}
 
 module _ (k : Kept) (blocks : List (Option KeptBlock)) (space : Option Space) (going : Option KeptGoing) (h : IsSound k) where
   pub change_ready : (e : Entry) → Follows true k.config (point_kept k) e → IsMadeFor k e blocks space going → IsChangeReady k e blocks space going
   unfolding Follows
-  change_ready (entries.Host queue number command reply moment) f made = made
-  change_ready (entries.Started queue number command rg ruh pid_valid) f made = (omega (arith, f.queue_is.1, h.going), made)
-  change_ready (entries.Placed ticket index unit page) f made = place_ready k ticket h
-  change_ready (entries.Copied old new) f made = tt
-  change_ready (entries.Moved rg blocks_moved) f made = tt
-  change_ready (entries.Erased unit) f made =
-      let group = group_there k h unit f.data_unit in
+  change_ready (entries.Host x) f made = made
+  change_ready (entries.Started x) f made = (omega (arith, f.queue_is.1, h.going), made)
+  change_ready (entries.Placed x) f made = place_ready k x.ticket h
+  change_ready (entries.Copied x) f made = tt
+  change_ready (entries.Moved x) f made = tt
+  change_ready (entries.Erased x) f made =
+      let group = group_there k h x.unit f.data_unit in
       (group.units, omega (arith, group.group, h.copies, h.worn))
-  change_ready (entries.Retired unit) f made = rw h.lost f.data_unit
-  change_ready (entries.Aside unit) f made = rw h.lost f.data_unit
-  change_ready (entries.Shut rg ruh) f made =
-      let below : ruh < 16 = omega (arith, f.handle, few_handles k.config h.config k.enabled k.index) in
+  change_ready (entries.Retired x) f made = rw h.lost f.data_unit
+  change_ready (entries.Aside x) f made = rw h.lost f.data_unit
+  change_ready (entries.Shut x) f made =
+      let below : x.ruh < 16 = omega (arith, f.handle, few_handles k.config h.config k.enabled k.index) in
       (below, omega (arith, f.group, below, h.references))
-  change_ready (entries.Worn rg) f made = rw h.worn f
+  change_ready (entries.Worn x) f made = rw h.worn f
   change_ready entries.Reopened f made = absurd cc
 
 -- a command that may be completed
-pub host_of : (k : Kept) (queue number : ℕ) (command : Command) (reply : Reply) (moment : ℕ) → Follows true k.config (point_kept k) (entries.Host queue number command reply moment) → IsHost true k.config (point_kept k) queue number command reply moment
+pub host_of : (k : Kept) (queue number : ℕ) (command : Command) (reply : Reply) (moment : ℕ) → Follows true k.config (point_kept k) (entries.Host (record { queue = queue; number = number; command = command; reply = reply; moment = moment })) → IsHost true k.config (point_kept k) queue number command reply moment
 unfolding Follows
 host_of k queue number command reply moment f = f

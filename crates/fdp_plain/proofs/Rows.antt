@@ -6,13 +6,14 @@ use Rattle.fdp_base.specs.declared.config.DriveConfig.{DriveConfig}
 use Rattle.fdp_base.specs.declared.entry.Entry.{Entry}
 use Rattle.fdp_base.specs.declared.entry.Entry.TheVariants as entries
 use Rattle.fdp_rules.specs.Change.{changed_by, holds_ticket, one_more_placed, started}
-use Rattle.fdp_base.specs.CommandKinds.{is_write}
+use Rattle.fdp_base.specs.CommandKinds.{blocks_written, is_write}
 use Rattle.fdp_base.specs.Numbers.{with_at}
 use Rattle.fdp_rules.specs.PlainState.{Going, PlainState}
-use Rattle.fdp_rules.specs.Totals.{blocks_written}
 use Rattle.fdp_tables.specs.declared.state.Kept.{Kept}
-use Rattle.fdp_tables.specs.Rows.{places_of}
+use Rattle.fdp_plain_effects.specs.Rows.{places_of}
 use Rattle.fdp_tables.specs.State.{plain_of}
+use Rattle.fdp_base.proofs.Entries.{by-entry}
+use Rattle.fdp_history.proofs.Others.{others-before}
 use Rattle.fdp_history.proofs.Tables.{with_at-each}
 use Rattle.fdp_plain.specs.Prepared.{pages_of}
 use Rattle.fdp_plain.specs.Rows.{HasRows}
@@ -44,22 +45,18 @@ placed_from s e ticket queue false g some = kept_going s e queue g some
 -- each write that is going after an entry
 pub going_from : (c : DriveConfig) (s : PlainState) (e : Entry) (i : ℕ) (g : Going) → (changed_by c s e).going i ≡ Some g → ComesFrom s e i g
 unfolding changed_by
-going_from c s (entries.Host queue number command reply moment) i g some = fewer_going s (entries.Host queue number command reply moment) queue (is_write command) i g some
-going_from c s (entries.Started queue number command rg ruh pid_valid) i g some =
-    let new : Going = started c s number command rg ruh pid_valid in
-    let e : Entry = entries.Started queue number command rg ruh pid_valid in
-    with_at-each s.going queue (Some new) (λ k o. o ≡ Some g → ComesFrom s e k g)
-    (λ is. let same : new ≡ g = cc in inr (sym (ap (λ (y : Going). y.ticket) same), sym (ap (λ (y : Going). blocks_written y.command) same)))
-    (λ k ne is. kept_going s e k g is) i some
-going_from c s (entries.Placed ticket index unit page) i g some = placed_from s (entries.Placed ticket index unit page) ticket i (holds_ticket s ticket i) g some
-going_from c s (entries.Copied old new) i g some = kept_going s (entries.Copied old new) i g some
-going_from c s (entries.Moved rg blocks) i g some = kept_going s (entries.Moved rg blocks) i g some
-going_from c s (entries.Erased unit) i g some = kept_going s (entries.Erased unit) i g some
-going_from c s (entries.Retired unit) i g some = kept_going s (entries.Retired unit) i g some
-going_from c s (entries.Aside unit) i g some = kept_going s (entries.Aside unit) i g some
-going_from c s (entries.Shut rg ruh) i g some = kept_going s (entries.Shut rg ruh) i g some
-going_from c s (entries.Worn rg) i g some = kept_going s (entries.Worn rg) i g some
-going_from c s entries.Reopened i g some = absurd cc
+going_from c s e i g some =
+    let P : Entry → Type 0 = λ x. (changed_by c s x).going i ≡ Some g → ComesFrom s x i g in
+    by-entry P
+    (λ h is. fewer_going s (entries.Host h) h.queue (is_write h.command) i g is)
+    (λ x is.
+    let new : Going = started c s x.number x.command x.rg x.ruh x.pid_valid in
+    with_at-each s.going x.queue (Some new) (λ k o. o ≡ Some g → ComesFrom s (entries.Started x) k g)
+    (λ now. let same : new ≡ g = cc in inr (sym (ap (λ (y : Going). y.ticket) same), sym (ap (λ (y : Going). blocks_written y.command) same)))
+    (λ k ne before. kept_going s (entries.Started x) k g before) i is)
+    (λ p is. placed_from s (entries.Placed p) p.ticket i (holds_ticket s p.ticket i) g is)
+    (λ x other is. kept_going s x i g (others-before c s x other i g is))
+    e some
 
 -- ---- their places
 

@@ -15,10 +15,10 @@ use Rattle.fdp_rules.specs.PlainState.{Going, PageName, PageName.found, PageName
 use Rattle.fdp_rules.specs.Point.{Point, Trail}
 use Rattle.fdp_rules.specs.Sites.{traced_by, trail_of}
 use Rattle.fdp_rules.specs.Step.{Follows, IsStep}
-use Rattle.fdp_rules.specs.Totals.{blocks_written, erases_of, host_blocks_of, media_blocks_of}
+use Rattle.fdp_rules.specs.Totals.{erases_of, host_blocks_of, media_blocks_of}
 use Rattle.fdp_rules.proofs.Pushes.{latest-append, legal-push, point_of-push, trail_of-push}
 use Rattle.fdp_tables.specs.declared.state.Kept.{Kept}
-use Rattle.fdp_tables.specs.Rows.{KeepsRows, places_of}
+use Rattle.fdp_plain_effects.specs.Rows.{KeepsRows, places_of}
 use Rattle.fdp_tables.specs.State.{copies_at, plain_of, point_kept, site_at}
 use Rattle.fdp_plain.specs.Longer.{IsLonger, IsTraced}
 use Rattle.fdp_plain.specs.Prepared.{pages_of}
@@ -27,6 +27,7 @@ use Rattle.fdp_plain.specs.Telling.{TellsHistory}
 use Rattle.fdp_plain.proofs.Fitting.{with_change}
 use Rattle.fdp_plain.proofs.Rows.{places_from}
 use Rattle.fdp_plain.proofs.Same.{same_site}
+use Rattle.fdp_base.specs.CommandKinds.{blocks_written}
 
 -- the events of a class, with those of an entry more
 class_of-more : (p : Event → Bool) (old new : List Event) → latest (filter p (old ++ new)) ≡ latest (latest (filter p old) ++ filter p new)

@@ -5,8 +5,8 @@ use Rattle.fdp_base.specs.declared.entry.Entry.{Entry}
 use Rattle.fdp_rules.specs.History.{fresh, state_of}
 use Rattle.fdp_rules.specs.PlainState.{PlainState}
 use Rattle.fdp_rules.specs.Step.{IsStep}
-use Rattle.fdp_tables.specs.declared.rule.Rule.{Rule}
-use Rattle.fdp_tables.specs.Rules.{FallsUnder, number_of}
+use Rattle.fdp_plain_judge.specs.declared.rule.Rule.{Rule}
+use Rattle.fdp_plain_judge.specs.Rules.{FallsUnder, number_of}
 use Rattle.fdp_plain.specs.declared.refused.Refused.{Refused}
 use Rattle.fdp_plain.specs.declared.refused.Refused.TheVariants as refusals
 

@@ -5,20 +5,20 @@ use Rattle.std.specs.Vec.{vec_capacity, vec_items, vec_len}
 use Rattle.fdp_base.specs.declared.entry.Entry.{Entry}
 use Rattle.fdp_base.specs.declared.entry.Entry.TheVariants as entries
 use Rattle.fdp_tables.specs.declared.state.Kept.{Kept}
-use Rattle.fdp_tables.specs.Places.{HasCopyRoom, HasGroupOf}
+use Rattle.fdp_plain_effects.specs.Places.{HasCopyRoom, HasGroupOf}
 
 -- the unit from which an entry copies a page
 abbrev pub copied_unit : Entry → Option ℕ
-copied_unit (entries.Host queue number command reply moment) = None
-copied_unit (entries.Started queue number command rg ruh pid_valid) = None
-copied_unit (entries.Placed ticket index unit page) = None
-copied_unit (entries.Copied old new) = Some old.unit
-copied_unit (entries.Moved rg blocks) = None
-copied_unit (entries.Erased unit) = None
-copied_unit (entries.Retired unit) = None
-copied_unit (entries.Aside unit) = None
-copied_unit (entries.Shut rg ruh) = None
-copied_unit (entries.Worn rg) = None
+copied_unit (entries.Host h) = None
+copied_unit (entries.Started s) = None
+copied_unit (entries.Placed p) = None
+copied_unit (entries.Copied c) = Some c.from.unit
+copied_unit (entries.Moved m) = None
+copied_unit (entries.Erased e) = None
+copied_unit (entries.Retired r) = None
+copied_unit (entries.Aside a) = None
+copied_unit (entries.Shut s) = None
+copied_unit (entries.Worn w) = None
 copied_unit entries.Reopened = None
 
 -- the group in which an entry copies a page is there

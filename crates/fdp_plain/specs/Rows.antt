@@ -1,10 +1,10 @@
 -- Which rows the tables of a plain drive have.
 use Rattle.std.specs.Prelude.{◌≡◌, ℕ, ◌+◌, ◌*◌, Some, length}
 use Rattle.fdp_rules.specs.PlainState.{Going}
-use Rattle.fdp_rules.specs.Totals.{blocks_written}
 use Rattle.fdp_tables.specs.declared.state.Kept.{Kept}
-use Rattle.fdp_tables.specs.Rows.{places_of}
+use Rattle.fdp_plain_effects.specs.Rows.{places_of}
 use Rattle.fdp_tables.specs.State.{plain_of}
+use Rattle.fdp_base.specs.CommandKinds.{blocks_written}
 
 -- each table has its rows, and each page of a going write a place for its site
 pub record HasRows (k : Kept) : Type 0 where

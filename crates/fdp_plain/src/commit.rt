@@ -2,8 +2,8 @@ ghost use Rattle.std.specs.Prelude.{◌≡◌, ◌+◌, ◌<◌, ◌≤◌, ◌�
 ghost use Rattle.std.specs.Vec.{vec_capacity, vec_len};
 ghost use Rattle.fdp_rules.specs.Events.{kept_of_entry};
 ghost use Rattle.fdp_rules.specs.Step.{Follows};
-ghost use Rattle.fdp_tables.specs.Counted.{HasCountRoom};
-ghost use Rattle.fdp_tables.specs.Places.{HasPlaces};
+ghost use Rattle.fdp_plain_effects.specs.Counted.{HasCountRoom};
+ghost use Rattle.fdp_plain_effects.specs.Places.{HasPlaces};
 ghost use Rattle.fdp_tables.specs.State.{plain_of, point_kept};
 ghost use Rattle.fdp_plain.specs.Longer.{IsLonger, IsTraced};
 ghost use Rattle.fdp_plain.specs.Prepared.{IsPrepared};
@@ -12,6 +12,7 @@ ghost use Rattle.fdp_plain.specs.Telling.{TellsHistory};
 
 use crate::prepare::Prepared;
 use fdp_base::{Entry, Event, Spot};
+use fdp_plain_effects::{change, count};
 use fdp_tables::Kept;
 
 /// Takes an entry that may follow, with the events that it makes. All that needs memory was made, so it cannot fail.
@@ -26,7 +27,7 @@ pub(crate) fn commit(kept: &mut Kept, prepared: Prepared, events: &[Event])
     ensures entries { kept.new.entries.items ≡ kept.old.entries.items ++ prepared.entry ∷ [] }
 {
     let Prepared { made, pages, entry } = prepared;
-    kept.change(&entry, made);
+    change(kept, &entry, made);
     trace(kept, pages, &entry);
     lengthen(kept, entry, events);
 }
@@ -39,7 +40,7 @@ fn trace(kept: &mut Kept, pages: Vec<Option<Spot>>, entry: &Entry)
     ensures { IsTraced kept.old kept.new entry.now (length pages.items) }
 {
     kept.sites.push_reserved(pages);
-    kept.trace(entry);
+    fdp_plain_effects::trace(kept, entry);
 }
 
 /// An entry more is counted, its events are kept, and it stands behind the others.
@@ -49,7 +50,7 @@ fn lengthen(kept: &mut Kept, entry: Entry, events: &[Event])
     requires events { vec_len kept.old.events + length events.now ≤ vec_capacity kept.old.events }
     ensures { IsLonger kept.old kept.new entry events.now }
 {
-    kept.count(&entry);
+    count(kept, &entry);
     append(&mut kept.events, events);
     kept.entries.push_reserved(entry);
 }

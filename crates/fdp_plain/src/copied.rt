@@ -1,6 +1,9 @@
 ghost use Rattle.std.specs.Prelude.{◌≡◌, IfOk};
 
-use fdp_base::{BlockNames, Bytes, Entry, Reply};
+use fdp_base::{
+    Aside, BlockNames, Bytes, Copied, Entry, Erased, Host, Moved, Placed, Reply, Retired, Shut,
+    Started, Worn,
+};
 use std::alloc::{AllocError, Global};
 
 /// A second copy of an entry. It fails only for want of memory.
@@ -8,58 +11,43 @@ pub(crate) fn copied(alloc: Global, entry: &Entry) -> Result<Entry, AllocError>
     ensures { IfOk result (λ copy. copy ≡ entry.now) }
 {
     Ok(match entry {
-        Entry::Host {
-            queue,
-            number,
-            command,
-            reply,
-            moment,
-        } => Entry::Host {
-            queue: *queue,
-            number: *number,
-            command: command.copied()?,
-            reply: copied_reply(alloc, reply)?,
-            moment: *moment,
-        },
-        Entry::Started {
-            queue,
-            number,
-            command,
-            rg,
-            ruh,
-            pid_valid,
-        } => Entry::Started {
-            queue: *queue,
-            number: *number,
-            command: command.copied()?,
-            rg: *rg,
-            ruh: *ruh,
-            pid_valid: *pid_valid,
-        },
-        Entry::Placed {
-            ticket,
-            index,
-            unit,
-            page,
-        } => Entry::Placed {
-            ticket: *ticket,
-            index: *index,
-            unit: *unit,
-            page: *page,
-        },
-        Entry::Copied { from, to } => Entry::Copied {
-            from: *from,
-            to: *to,
-        },
-        Entry::Moved { rg, blocks } => Entry::Moved {
-            rg: *rg,
-            blocks: copied_names(alloc, blocks)?,
-        },
-        Entry::Erased { unit } => Entry::Erased { unit: *unit },
-        Entry::Retired { unit } => Entry::Retired { unit: *unit },
-        Entry::Aside { unit } => Entry::Aside { unit: *unit },
-        Entry::Shut { rg, ruh } => Entry::Shut { rg: *rg, ruh: *ruh },
-        Entry::Worn { rg } => Entry::Worn { rg: *rg },
+        Entry::Host(host) => Entry::Host(Host {
+            queue: host.queue,
+            number: host.number,
+            command: host.command.copied()?,
+            reply: copied_reply(alloc, &host.reply)?,
+            moment: host.moment,
+        }),
+        Entry::Started(started) => Entry::Started(Started {
+            queue: started.queue,
+            number: started.number,
+            command: started.command.copied()?,
+            rg: started.rg,
+            ruh: started.ruh,
+            pid_valid: started.pid_valid,
+        }),
+        Entry::Placed(placed) => Entry::Placed(Placed {
+            ticket: placed.ticket,
+            index: placed.index,
+            unit: placed.unit,
+            page: placed.page,
+        }),
+        Entry::Copied(copied) => Entry::Copied(Copied {
+            from: copied.from,
+            to: copied.to,
+        }),
+        Entry::Moved(moved) => Entry::Moved(Moved {
+            rg: moved.rg,
+            blocks: copied_names(alloc, &moved.blocks)?,
+        }),
+        Entry::Erased(erased) => Entry::Erased(Erased { unit: erased.unit }),
+        Entry::Retired(retired) => Entry::Retired(Retired { unit: retired.unit }),
+        Entry::Aside(aside) => Entry::Aside(Aside { unit: aside.unit }),
+        Entry::Shut(shut) => Entry::Shut(Shut {
+            rg: shut.rg,
+            ruh: shut.ruh,
+        }),
+        Entry::Worn(worn) => Entry::Worn(Worn { rg: worn.rg }),
         Entry::Reopened => Entry::Reopened,
     })
 }

@@ -1,12 +1,13 @@
 ghost use Rattle.std.specs.Prelude.{◌≡◌, ℕ, true, None, IfOk};
 ghost use Rattle.fdp_rules.specs.Step.{Follows, IsHost};
-ghost use Rattle.fdp_tables.specs.Ready.{IsChangeReady, IsHostReady};
+ghost use Rattle.fdp_plain_effects.specs.Ready.{IsChangeReady, IsHostReady};
 ghost use Rattle.fdp_tables.specs.Sound.{IsSound};
 ghost use Rattle.fdp_tables.specs.State.{point_kept};
 ghost use Rattle.fdp_plain.specs.Reserved.{HasMomentSpare};
 
 use fdp_base::{Command, Entry, Reply};
-use fdp_tables::{Kept, Made};
+use fdp_plain_effects::{Made, make_blocks_of, make_going, make_space_of};
+use fdp_tables::{Kept, Standing};
 use std::alloc::{AllocError, Global};
 
 /// What the change of an entry needs.
@@ -17,32 +18,31 @@ pub(crate) fn make(kept: &Kept, alloc: Global, entry: &Entry) -> Result<Made, Al
     ensures { IfOk result (λ made. IsChangeReady kept.now entry.now made.blocks.items made.space made.going) }
 {
     match entry {
-        Entry::Host {
-            queue,
-            command,
-            reply,
-            ..
-        } => make_completion(kept, alloc, *queue, command, reply),
-        Entry::Started {
-            number,
-            command,
-            rg,
-            ruh,
-            pid_valid,
-            ..
-        } => Ok(Made {
-            blocks: Vec::new(alloc),
-            space: None,
-            going: Some(kept.make_going(*number, command, *rg, *ruh, *pid_valid)?),
-        }),
-        Entry::Placed { .. } => Ok(nothing(alloc)),
-        Entry::Copied { .. } => Ok(nothing(alloc)),
-        Entry::Moved { .. } => Ok(nothing(alloc)),
-        Entry::Erased { .. } => Ok(nothing(alloc)),
-        Entry::Retired { .. } => Ok(nothing(alloc)),
-        Entry::Aside { .. } => Ok(nothing(alloc)),
-        Entry::Shut { .. } => Ok(nothing(alloc)),
-        Entry::Worn { .. } => Ok(nothing(alloc)),
+        Entry::Host(host) => make_completion(kept, alloc, host.queue, &host.command, &host.reply),
+        Entry::Started(started) => {
+            let standing = Standing::new(kept);
+            let going = make_going(
+                &standing,
+                started.number,
+                &started.command,
+                started.rg,
+                started.ruh,
+                started.pid_valid,
+            )?;
+            Ok(Made {
+                blocks: Vec::new(alloc),
+                space: None,
+                going: Some(going),
+            })
+        }
+        Entry::Placed(_) => Ok(nothing(alloc)),
+        Entry::Copied(_) => Ok(nothing(alloc)),
+        Entry::Moved(_) => Ok(nothing(alloc)),
+        Entry::Erased(_) => Ok(nothing(alloc)),
+        Entry::Retired(_) => Ok(nothing(alloc)),
+        Entry::Aside(_) => Ok(nothing(alloc)),
+        Entry::Shut(_) => Ok(nothing(alloc)),
+        Entry::Worn(_) => Ok(nothing(alloc)),
         Entry::Reopened => Ok(nothing(alloc)),
     }
 }
@@ -63,9 +63,10 @@ fn make_completion(
     if !reply.applied {
         return Ok(nothing(alloc));
     }
+    let standing = Standing::new(kept);
     Ok(Made {
-        blocks: kept.make_blocks_of(alloc, queue, command)?,
-        space: kept.make_space_of(alloc, command)?,
+        blocks: make_blocks_of(&standing, alloc, queue, command)?,
+        space: make_space_of(&standing, alloc, command)?,
         going: None,
     })
 }

@@ -2,25 +2,15 @@ ghost use Rattle.std.specs.Prelude.{◌≡◌, None, IfOk, replicate};
 ghost use Rattle.fdp_plain.specs.Prepared.{pages_of};
 
 use fdp_base::{Entry, Spot};
-use fdp_tables::blocks_written;
 use std::alloc::{AllocError, Global};
 
 /// How many pages an entry is to write: those of a write that it lets go.
 pub(crate) fn pages_of(entry: &Entry) -> u32
     ensures { result ≡ pages_of entry.now }
 {
-    match entry {
-        Entry::Host { .. } => 0,
-        Entry::Started { command, .. } => blocks_written(command),
-        Entry::Placed { .. } => 0,
-        Entry::Copied { .. } => 0,
-        Entry::Moved { .. } => 0,
-        Entry::Erased { .. } => 0,
-        Entry::Retired { .. } => 0,
-        Entry::Aside { .. } => 0,
-        Entry::Shut { .. } => 0,
-        Entry::Worn { .. } => 0,
-        Entry::Reopened => 0,
+    match entry.as_started() {
+        Some(started) => started.command.blocks_written(),
+        None => 0,
     }
 }
 

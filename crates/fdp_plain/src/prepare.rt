@@ -10,7 +10,9 @@ use crate::copied::copied;
 use crate::made::make;
 use crate::pages::{no_pages, pages_of};
 use fdp_base::{Entry, Event, Spot};
-use fdp_tables::{Kept, Made};
+use fdp_plain_answers::push_kept;
+use fdp_plain_effects::Made;
+use fdp_tables::{Kept, Standing};
 use std::alloc::{AllocError, Global};
 
 /// What an entry that may follow needs memory for.
@@ -50,6 +52,6 @@ pub(crate) fn kept_events(
     ensures { IfOk result (λ events. events.items ≡ kept_of_entry kept.now.config (plain_of kept.now) entry.now) }
 {
     let mut events = Vec::new(alloc);
-    kept.push_kept(alloc, entry, &mut events)?;
+    push_kept(&Standing::new(kept), alloc, entry, &mut events)?;
     Ok(events)
 }

@@ -1,6 +1,6 @@
 ghost use Rattle.std.specs.Prelude.{◌≡◌, OnOk, map};
 ghost use Rattle.std.specs.Vec.{vec_items};
-ghost use Rattle.fdp_tables.specs.Places.{HasCopyRoom, HasGroupOf};
+ghost use Rattle.fdp_plain_effects.specs.Places.{HasCopyRoom, HasGroupOf};
 ghost use Rattle.fdp_plain.specs.Reserved.{HasCopyGroup, HasCopySpare, HasSpare, IsSame};
 
 use fdp_base::Entry;
@@ -29,16 +29,16 @@ fn reserve_copy(kept: &mut Kept, entry: &Entry) -> Result<(), AllocError>
     ensures spare { OnOk result (HasCopySpare kept.new entry.now) }
 {
     match entry {
-        Entry::Copied { from, .. } => reserve_in(kept, from.unit),
-        Entry::Host { .. } => Ok(()),
-        Entry::Started { .. } => Ok(()),
-        Entry::Placed { .. } => Ok(()),
-        Entry::Moved { .. } => Ok(()),
-        Entry::Erased { .. } => Ok(()),
-        Entry::Retired { .. } => Ok(()),
-        Entry::Aside { .. } => Ok(()),
-        Entry::Shut { .. } => Ok(()),
-        Entry::Worn { .. } => Ok(()),
+        Entry::Copied(copied) => reserve_in(kept, copied.from.unit),
+        Entry::Host(_) => Ok(()),
+        Entry::Started(_) => Ok(()),
+        Entry::Placed(_) => Ok(()),
+        Entry::Moved(_) => Ok(()),
+        Entry::Erased(_) => Ok(()),
+        Entry::Retired(_) => Ok(()),
+        Entry::Aside(_) => Ok(()),
+        Entry::Shut(_) => Ok(()),
+        Entry::Worn(_) => Ok(()),
         Entry::Reopened => Ok(()),
     }
 }

@@ -9,7 +9,8 @@ use crate::prepare::{kept_events, prepare};
 use crate::refused::Refused;
 use crate::reserve::reserve;
 use fdp_base::Entry;
-use fdp_tables::Kept;
+use fdp_plain_judge::rule_of;
+use fdp_tables::{Kept, Standing};
 use std::alloc::{AllocError, Global};
 
 /// Takes an entry that may follow. All that needs memory is made before anything changes.
@@ -30,10 +31,11 @@ pub(crate) fn take_step(kept: &mut Kept, alloc: Global, entry: &Entry) -> Result
 
 /// Why an entry is refused that is no step.
 pub(crate) fn refusal(kept: &Kept, entry: &Entry) -> Refused
+    requires { TellsHistory kept.now }
     ensures { IsIllegalIn (plain_of kept.now) entry.now result }
 {
     Refused::Illegal {
         at: kept.next_position(),
-        why: kept.rule_of(entry).number(),
+        why: rule_of(&Standing::new(kept), entry).number(),
     }
 }

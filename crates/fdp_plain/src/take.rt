@@ -7,6 +7,8 @@ use crate::plain::Plain;
 use crate::refused::Refused;
 use crate::step::{refusal, take_step};
 use fdp_base::Entry;
+use fdp_plain_judge::judge;
+use fdp_tables::Standing;
 use std::alloc::Global;
 
 impl Plain {
@@ -20,7 +22,7 @@ impl Plain {
         ensures cause { IfErr result (IsCause self.old.config self.old.entries entry.now) }
         ensures refused { OnErr result (self.new ≡ self.old) }
     {
-        if self.kept.judge(alloc, entry)? {
+        if judge(&Standing::new(&self.kept), alloc, entry)? {
             take_step(&mut self.kept, alloc, entry)?;
             Ok(())
         } else {

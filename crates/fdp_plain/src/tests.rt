@@ -5,8 +5,8 @@ ghost use Rattle.fdp_base.specs.Config.{IsValidConfig};
 
 use super::*;
 use fdp_base::{
-    Bytes, Class, Classes, Command, DriveConfig, Entry, HandleList, NamespaceConfig, Payload,
-    Reply, Sequence, Status,
+    Bytes, Class, Classes, Command, DriveConfig, Entry, HandleList, Host, NamespaceConfig, Payload,
+    Placed, Read, Reply, Sequence, Started, Status, Write,
 };
 use std::alloc::{AllocError, Global};
 use std::test::Fail;
@@ -40,14 +40,14 @@ fn drive_s(alloc: Global) -> Result<DriveConfig, AllocError>
 
 /// One block of 7s at address 0.
 fn write() -> Command {
-    Command::Write {
+    Command::Write(Write {
         nsid: 1,
         slba: 0,
         count: 1,
         dtype: 0,
         dspec: 0,
         payload: Payload::Pattern(7),
-    }
+    })
 }
 
 /// The number 7 with its low byte first, over and over.
@@ -60,16 +60,16 @@ fn sevens(alloc: Global) -> Result<Bytes, AllocError> {
 }
 
 fn placed(unit: u32, page: u32) -> Entry {
-    Entry::Placed {
+    Entry::Placed(Placed {
         ticket: 1,
         index: 0,
         unit,
         page,
-    }
+    })
 }
 
 fn completed(number: u16, command: Command, bytes: Bytes, applied: bool) -> Entry {
-    Entry::Host {
+    Entry::Host(Host {
         queue: 1,
         number,
         command,
@@ -80,27 +80,27 @@ fn completed(number: u16, command: Command, bytes: Bytes, applied: bool) -> Entr
             applied,
         },
         moment: 0,
-    }
+    })
 }
 
 fn started() -> Entry {
-    Entry::Started {
+    Entry::Started(Started {
         queue: 1,
         number: 1,
         command: write(),
         rg: 0,
         ruh: 0,
         pid_valid: true,
-    }
+    })
 }
 
 /// The read of the block at address 0, with these bytes.
 fn read(bytes: Bytes) -> Entry {
-    let command = Command::Read {
+    let command = Command::Read(Read {
         nsid: 1,
         slba: 0,
         count: 1,
-    };
+    });
     completed(2, command, bytes, false)
 }
 

@@ -3,7 +3,9 @@
 use crate::features::{create, log, other, set_events, set_fdp, status, update};
 use crate::words::{bytes, no, number, number8, number16, number32};
 use anyhow::Result;
-use fdp_base::{Command, Payload, Range, Sequence};
+use fdp_base::{
+    Command, Dealloc, Delete, Flush, GetFdp, Payload, Range, Read, Sequence, Write, Zero,
+};
 use std::alloc::Global;
 
 /// The command that words say.
@@ -21,7 +23,7 @@ pub fn command_of(alloc: Global, words: &[&str]) -> Result<Command> {
         "update" => update(alloc, rest),
         "log" => log(rest),
         "set-fdp" => set_fdp(rest),
-        "get-fdp" => Ok(Command::GetFdp { group: 1 }),
+        "get-fdp" => Ok(Command::GetFdp(GetFdp { group: 1 })),
         "set-events" => set_events(alloc, rest),
         "create" => create(alloc, rest),
         "io" => other(false, rest),
@@ -45,14 +47,14 @@ fn write(alloc: Global, words: &[&str]) -> Result<Command> {
         Some(_) => Payload::Bytes(Sequence::from_vec(bytes(alloc, &[*payload])?)),
         None => Payload::Pattern(number32(payload)?),
     };
-    Ok(Command::Write {
+    Ok(Command::Write(Write {
         nsid: number32(nsid)?,
         slba: number(slba)?,
         count: number32(count)?,
         dtype,
         dspec,
         payload,
-    })
+    }))
 }
 
 fn blocks(name: &str, words: &[&str]) -> Result<Command> {
@@ -61,9 +63,9 @@ fn blocks(name: &str, words: &[&str]) -> Result<Command> {
     };
     let (nsid, slba, count) = (number32(nsid)?, number(slba)?, number32(count)?);
     if name == "read" {
-        Ok(Command::Read { nsid, slba, count })
+        Ok(Command::Read(Read { nsid, slba, count }))
     } else {
-        Ok(Command::Zero { nsid, slba, count })
+        Ok(Command::Zero(Zero { nsid, slba, count }))
     }
 }
 
@@ -81,11 +83,11 @@ fn dataset(alloc: Global, deallocate: bool, words: &[&str]) -> Result<Command> {
             length: number32(length)?,
         })?;
     }
-    Ok(Command::Dealloc {
+    Ok(Command::Dealloc(Dealloc {
         nsid: number32(nsid)?,
         deallocate,
         ranges: Sequence::from_vec(ranges),
-    })
+    }))
 }
 
 fn of_namespace(name: &str, words: &[&str]) -> Result<Command> {
@@ -94,8 +96,8 @@ fn of_namespace(name: &str, words: &[&str]) -> Result<Command> {
     };
     let nsid = number32(nsid)?;
     if name == "flush" {
-        Ok(Command::Flush { nsid })
+        Ok(Command::Flush(Flush { nsid }))
     } else {
-        Ok(Command::Delete { nsid })
+        Ok(Command::Delete(Delete { nsid }))
     }
 }

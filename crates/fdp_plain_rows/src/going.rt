@@ -3,7 +3,7 @@ use crate::commands::command_of;
 use crate::replies::{Answer, answer_of};
 use crate::words::{no, number8, number16, number32, words_of};
 use anyhow::{Context, Result};
-use fdp_base::{Command, Entry};
+use fdp_base::{Command, Entry, Host, Placed, Started};
 use std::alloc::Global;
 
 /// A command with its queue and its number.
@@ -43,13 +43,13 @@ pub fn host(alloc: Global, text: &str, answer: &str) -> Result<Entry> {
     let asked = asked_of(alloc, command)?;
     let words = words_of(alloc, answer)?;
     let Answer { reply, moment } = answer_of(alloc, words.as_slice())?;
-    Ok(Entry::Host {
+    Ok(Entry::Host(Host {
         queue: asked.queue,
         number: asked.number,
         command: asked.command,
         reply,
         moment,
-    })
+    }))
 }
 
 /// The command was started.
@@ -60,14 +60,14 @@ pub fn started(alloc: Global, text: &str) -> Result<Entry> {
     let [rg, ruh, rest @ ..] = words.as_slice() else {
         return Err(no("place", words.as_slice()));
     };
-    Ok(Entry::Started {
+    Ok(Entry::Started(Started {
         queue: asked.queue,
         number: asked.number,
         command: asked.command,
         rg: number16(rg)?,
         ruh: number8(ruh)?,
         pid_valid: rest.is_empty(),
-    })
+    }))
 }
 
 /// The pages of a write were placed, in this order.
@@ -82,12 +82,12 @@ pub fn placed_pages(
         let (unit, run) = word.split_once('.').context("no dot")?;
         let (first, last) = run.split_once('-').unwrap_or((run, run));
         for page in number32(first)?..=number32(last)? {
-            entries.push(Entry::Placed {
+            entries.push(Entry::Placed(Placed {
                 ticket,
                 index,
                 unit: number32(unit)?,
                 page,
-            })?;
+            }))?;
             index = index.wrapping_add(1);
         }
     }

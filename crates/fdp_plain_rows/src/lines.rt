@@ -13,7 +13,9 @@
 use crate::going::{host, placed_pages, started};
 use crate::words::{no, number, number8, number16, number32, pair, words_of};
 use anyhow::Result;
-use fdp_base::{BlockName, Entry, Sequence, Spot};
+use fdp_base::{
+    Aside, BlockName, Copied, Entry, Erased, Moved, Placed, Retired, Sequence, Shut, Spot, Worn,
+};
 use std::alloc::Global;
 
 /// The entries of a line, the first of which is to have this position.
@@ -56,22 +58,22 @@ fn placed(words: &[&str]) -> Result<Entry> {
     let [ticket, index, unit, page] = words else {
         return Err(no("page", words));
     };
-    Ok(Entry::Placed {
+    Ok(Entry::Placed(Placed {
         ticket: number(ticket)?,
         index: number32(index)?,
         unit: number32(unit)?,
         page: number32(page)?,
-    })
+    }))
 }
 
 fn copied(words: &[&str]) -> Result<Entry> {
     let [from, to] = words else {
         return Err(no("copy", words));
     };
-    Ok(Entry::Copied {
+    Ok(Entry::Copied(Copied {
         from: spot(from)?,
         to: spot(to)?,
-    })
+    }))
 }
 
 fn spot(word: &str) -> Result<Spot> {
@@ -91,20 +93,20 @@ fn moved(alloc: Global, words: &[&str]) -> Result<Entry> {
         let (nsid, lba) = pair(name)?;
         blocks.push(BlockName { nsid, lba })?;
     }
-    Ok(Entry::Moved {
+    Ok(Entry::Moved(Moved {
         rg: number16(rg)?,
         blocks: Sequence::from_vec(blocks),
-    })
+    }))
 }
 
 fn shut(words: &[&str]) -> Result<Entry> {
     let [rg, ruh] = words else {
         return Err(no("handle", words));
     };
-    Ok(Entry::Shut {
+    Ok(Entry::Shut(Shut {
         rg: number16(rg)?,
         ruh: number8(ruh)?,
-    })
+    }))
 }
 
 /// An entry of one number.
@@ -113,18 +115,18 @@ fn of_one(name: &str, words: &[&str]) -> Result<Entry> {
         return Err(no("number", words));
     };
     match name {
-        "erased" => Ok(Entry::Erased {
+        "erased" => Ok(Entry::Erased(Erased {
             unit: number32(word)?,
-        }),
-        "retired" => Ok(Entry::Retired {
+        })),
+        "retired" => Ok(Entry::Retired(Retired {
             unit: number32(word)?,
-        }),
-        "aside" => Ok(Entry::Aside {
+        })),
+        "aside" => Ok(Entry::Aside(Aside {
             unit: number32(word)?,
-        }),
-        "worn" => Ok(Entry::Worn {
+        })),
+        "worn" => Ok(Entry::Worn(Worn {
             rg: number16(word)?,
-        }),
+        })),
         _ => Err(no("entry", &[name])),
     }
 }

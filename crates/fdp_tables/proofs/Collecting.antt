@@ -3,7 +3,7 @@ use Rattle.std.proofs.Common.{◌≡◌, ℕ, ◌+◌, ◌<◌, ◌≤◌, Bool,
 use mathlib.Core.List.{append-nil}
 use Rattle.std.proofs.lemmas.List.{drop_all}
 use Rattle.fdp_base.specs.Numbers.{numbers_below}
-use Rattle.fdp_tables.proofs.Counting.{rest_end, rest_next, rest_of}
+use Rattle.fdp_base.proofs.Sums.{rest_end, rest_next, rest_of}
 
 -- the elements that pass a test, one piece an element
 pub filtered : {X Y : Type 0} (f : X → Y) (test : X → Bool) (xs : List X) → map f (filter test xs) ≡ flat_map (λ (x : X). cond (test x) (f x ∷ []) []) xs

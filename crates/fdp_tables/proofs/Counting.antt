@@ -1,28 +1,11 @@
 -- Numbers in a row, taken from the front: counts, sums and searches over them.
-use Rattle.std.proofs.Common.{◌≡◌, ℕ, suc, ◌+◌, ◌-◌, ◌*◌, ◌<◌, ◌≤◌, Bool, true, false, List, [], ◌∷◌, None, Some, refl, ap, ◌∙◌, arith, cond}
-use Rattle.std.specs.Prelude.{not, ◌&&◌, ◌==◌, sum_by, find, ◌||◌, length, take, get_or, ◌^◌}
-use Rattle.std.specs.List.{list_any}
+use Rattle.std.proofs.Common.{◌≡◌, ℕ, ◌+◌, ◌-◌, ◌<◌, ◌≤◌, Bool, true, false, List, [], ◌∷◌, None, Some, refl, ap, ◌∙◌, arith, cond}
+use Rattle.std.specs.Prelude.{not, ◌&&◌, ◌==◌, sum_by, find, length, get_or}
 use Rattle.std.proofs.Common.{drop, drop-cons, add-one}
 use Rattle.std.proofs.lemmas.List.{drop_all}
-use Rattle.std.proofs.lemmas.List.Sums.{sum_by-cons, sum_by_more}
-use Rattle.fdp_base.specs.Numbers.{is_among, count_below, numbers_below, numbers_from}
-use Rattle.fdp_rules.specs.Room.{namespace_ids}
-
--- the numbers from one on that are below a bound
-abbrev pub rest_of : ℕ → ℕ → List ℕ
-rest_of i n = numbers_from i (n - i)
-
-pub rest_next : (i n : ℕ) → i < n → rest_of i n ≡ i ∷ rest_of (i + 1) n
-unfolding numbers_from
-rest_next i n below =
-    let more : n - i ≡ suc (n - (i + 1)) = omega arith in
-    rw more
-
-pub rest_end : (i n : ℕ) → n ≤ i → rest_of i n ≡ []
-unfolding numbers_from
-rest_end i n past =
-    let none : n - i ≡ 0 = omega arith in
-    rw none
+use Rattle.std.proofs.lemmas.List.Sums.{sum_by-cons}
+use Rattle.fdp_base.specs.Numbers.{is_among, count_below, numbers_below}
+use Rattle.fdp_base.proofs.Sums.{rest_end, rest_next, rest_of}
 
 pub record IsSumming (f : ℕ → ℕ) (n i total : ℕ) : Type 0 where
   pub value : total + sum_by f (rest_of i n) ≡ sum_by f (numbers_below n)
@@ -51,59 +34,14 @@ counting_next test n i count below h = record {
 pub counting_end : (test : ℕ → Bool) (n i count : ℕ) → n ≤ i → IsCounting test n i count → count ≡ count_below n test
 counting_end test n i count past h = summing_end (λ x. cond (test x) 1 0) n i count past h.value
 
--- a sum over a list so far, of numbers of 64 bits
-pub record IsSummedOver (f : ℕ → ℕ) (xs : List ℕ) (i total : ℕ) : Type 0 where
-  pub value : total ≡ sum_by f (take i xs)
-  pub bound : total ≤ i * 2 ^ 64
-
-pub summed_next : (f : ℕ → ℕ) (xs : List ℕ) (i total x d : ℕ) → i < length xs → x ≡ f (get_or xs i d) → x < 2 ^ 64 → IsSummedOver f xs i total → IsSummedOver f xs (i + 1) (total + x)
-summed_next f xs i total x d below e fits h = record {
-  value = let more : sum_by f (take (i + 1) xs) ≡ sum_by f (take i xs) + f (get_or xs i d) = sum_by_more f xs i d below in omega (arith, more, e, h.value);
-  bound = omega (arith, fits, h.bound);
-}
-
 -- a test as a number
 pub byte_is : (b : Bool) → (elim b as (λ _. ℕ) [ true ↦ 1 | false ↦ 0 ]) ≡ cond b 1 0
 byte_is true = refl
 byte_is false = refl
 
-pub namespace_ids_are : namespace_ids ≡ 1 ∷ 2 ∷ 3 ∷ 4 ∷ 5 ∷ 6 ∷ 7 ∷ 8 ∷ 9 ∷ 10 ∷ 11 ∷ 12 ∷ 13 ∷ 14 ∷ 15 ∷ 16 ∷ []
-unfolding namespace_ids numbers_from
-namespace_ids_are = refl
-
 -- no address lies among none
 pub none_among : (nsid lba : ℕ) → not (nsid == 0 && is_among 0 0 lba) ≡ true
 none_among nsid lba = grind arith
-
--- whether one of the rest passes is whether one of all does
-pub record IsAsking (test : ℕ → Bool) (n i : ℕ) : Type 0 where
-  pub rest : list_any test (numbers_below n) ≡ list_any test (rest_of i n)
-
-pub asking_next : (test : ℕ → Bool) (n i : ℕ) → i < n → test i ≡ false → IsAsking test n i → IsAsking test n (i + 1)
-asking_next test n i below fails h = record {
-  rest = h.rest ∙ ap (list_any test) (rest_next i n below) ∙ ap (λ b. b || list_any test (rest_of (i + 1) n)) fails;
-}
-
-pub asking_found : (test : ℕ → Bool) (n i : ℕ) → i < n → test i ≡ true → IsAsking test n i → list_any test (numbers_below n) ≡ true
-asking_found test n i below passes h = h.rest ∙ ap (list_any test) (rest_next i n below) ∙ ap (λ b. b || list_any test (rest_of (i + 1) n)) passes
-
-pub asking_end : (test : ℕ → Bool) (n i : ℕ) → n ≤ i → IsAsking test n i → list_any test (numbers_below n) ≡ false
-asking_end test n i past h = h.rest ∙ ap (list_any test) (rest_end i n past)
-
--- the first of the rest that passes is the first of all
-pub record IsSeeking (test : ℕ → Bool) (n i : ℕ) : Type 0 where
-  pub rest : find test (numbers_below n) ≡ find test (rest_of i n)
-
-pub seeking_next : (test : ℕ → Bool) (n i : ℕ) → i < n → test i ≡ false → IsSeeking test n i → IsSeeking test n (i + 1)
-seeking_next test n i below fails h = record {
-  rest = h.rest ∙ ap (find test) (rest_next i n below) ∙ ap (λ b. cond b (Some i) (find test (rest_of (i + 1) n))) fails;
-}
-
-pub seeking_found : (test : ℕ → Bool) (n i : ℕ) → i < n → test i ≡ true → IsSeeking test n i → find test (numbers_below n) ≡ Some i
-seeking_found test n i below passes h = h.rest ∙ ap (find test) (rest_next i n below) ∙ ap (λ b. cond b (Some i) (find test (rest_of (i + 1) n))) passes
-
-pub seeking_end : (test : ℕ → Bool) (n i : ℕ) → n ≤ i → IsSeeking test n i → find test (numbers_below n) ≡ None
-seeking_end test n i past h = h.rest ∙ ap (find test) (rest_end i n past)
 
 -- the first of the rest of a list that passes is the first of all
 pub record IsSeekingIn (test : ℕ → Bool) (xs : List ℕ) (i : ℕ) : Type 0 where

@@ -1,14 +1,5 @@
-pub mod Counted
-pub mod Going
-pub mod Places
-pub mod Rows
-pub mod Reports
-pub mod Rules
+pub mod State
 pub mod Sound
 pub mod Spaces
-pub mod State
-pub mod Judging
-pub mod Keeping
-pub mod Ready
 pub mod Fresh
-pub mod Making
+pub mod Reports

@@ -2,14 +2,14 @@
 use Rattle.std.specs.Prelude.{ℕ, ◌≡◌, ◌+◌, ◌*◌, ◌<◌, ◌≤◌, IsTrue, IfSome, Some, length, slice_get, slice_index}
 use Rattle.std.specs.Option.{IsSomeAnd}
 use Rattle.fdp_rules.specs.Change.{birth_of}
-use Rattle.fdp_base.specs.CommandKinds.{Write, write_of}
+use Rattle.fdp_base.specs.CommandKinds.{blocks_written, write_of}
 use Rattle.fdp_base.specs.Config.{IsValidConfig}
 use Rattle.fdp_rules.specs.PlainState.{Going}
 use Rattle.fdp_rules.specs.Room.{handles_of, size_of}
 use Rattle.fdp_rules.specs.Sites.{is_there}
-use Rattle.fdp_rules.specs.Totals.{blocks_written}
 use Rattle.fdp_tables.specs.declared.state.Kept.{Kept}
 use Rattle.fdp_tables.specs.State.{plain_of}
+use Rattle.fdp_base.specs.declared.command.Write.{Write}
 
 -- a going write: its handle has a place in its group; it is not older than the history; no more pages were counted than it
 -- has blocks, and each has a place for its site; its blocks lie in its namespace, where that is still there

@@ -9,8 +9,6 @@ use Rattle.fdp_rules.specs.Events.{is_host_event, latest}
 use Rattle.fdp_rules.specs.PlainState.{Block, Going, Namespace, PageName, PageName.found, PageName.written, PlainState, Reference}
 use Rattle.fdp_rules.specs.Point.{Copy, Point}
 use Rattle.fdp_rules.specs.Sites.{trail_of}
-use Rattle.fdp_rules.specs.Target.{Target}
-use Rattle.fdp_tables.specs.declared.state.Destination.{Destination}
 use Rattle.fdp_tables.specs.declared.state.Kept.{Kept}
 use Rattle.fdp_tables.specs.declared.state.KeptBlock.{KeptBlock}
 use Rattle.fdp_tables.specs.declared.state.KeptGoing.{KeptGoing}
@@ -107,6 +105,3 @@ point_kept k = record {
   host_events = latest (filter is_host_event k.events.items);
   controller_events = latest (filter (λ e. not (is_host_event e)) k.events.items);
 }
-
-abbrev pub target_at : Destination → Target
-target_at d = record { rg = d.rg; ruh = d.ruh; valid = d.valid }

@@ -1,26 +1,10 @@
-ghost use Rattle.std.specs.Prelude.{◌≡◌, ℕ, ◌+◌, ◌<◌, ◌&&◌, nat_lt, Bool, List, Some, None, length, replicate, IfOk};
-ghost use Rattle.fdp_base.specs.declared.command.Command.TheVariants as commands;
-ghost use Rattle.fdp_rules.specs.Effect.{chosen_handles, created, effect_of, lowest_free};
+ghost use Rattle.fdp_rules.specs.Effect.{chosen_handles, created};
 ghost use Rattle.fdp_tables.specs.Spaces.{IsMade};
-ghost use Rattle.fdp_tables.specs.State.{namespace_of, plain_of, row};
+ghost use Rattle.std.specs.Prelude.{◌≡◌, ◌<◌, ◌&&◌, List, None, replicate, IfOk};
 
-use crate::state::{Kept, KeptBlock, Space};
+use crate::state::{KeptBlock, Space};
 use fdp_base::HandleList;
 use std::alloc::{AllocError, Global};
-
-impl Kept {
-    /// Creates a namespace that was made for it, under the lowest identifier that none has.
-    pub fn create(&mut self, nsid: u32, space: Space)
-        requires free { lowest_free (plain_of self.old) ≡ Some nsid }
-        requires row { nsid < length self.old.spaces.items }
-        requires empty { (lba : ℕ) → row space.blocks.items lba ≡ None }
-        ensures state { (queue size : ℕ) (given : Bool) (list : List ℕ) → namespace_of space ≡ created (plain_of self.old) size given list → plain_of self.new ≡ effect_of self.old.config (plain_of self.old) queue (commands.Create size given list) }
-        ensures rest { self.new ≡ record self.old { spaces = self.new.spaces } }
-        ensures rows { length self.new.spaces.items ≡ length self.old.spaces.items }
-    {
-        self.set_space(nsid, Some(space));
-    }
-}
 
 /// A namespace of `size` absent blocks, created at this position.
 #[tactic(auto, using(crate::proofs::Spaces::row_absent))]

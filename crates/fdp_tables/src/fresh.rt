@@ -6,7 +6,6 @@ ghost use Rattle.fdp_tables.specs.Reports.{no_reports};
 ghost use Rattle.fdp_tables.specs.Spaces.{IsMade};
 
 use crate::create::make_space;
-use crate::feature::no_reports;
 use crate::state::{Kept, KeptGoing, KeptReference, KeptReports, Space};
 use fdp_base::{DriveConfig, HandleList, NamespaceConfig, Spot};
 use std::alloc::{AllocError, Global};
@@ -153,5 +152,19 @@ fn first_space(alloc: Global, namespace: &NamespaceConfig) -> Result<Space, Allo
     match &namespace.handles {
         Some(handles) => make_space(alloc, namespace.blocks, true, handles, 0),
         None => make_space(alloc, namespace.blocks, true, &HandleList::new(alloc), 0),
+    }
+}
+
+/// No kind of event is kept.
+pub fn no_reports() -> KeptReports
+    ensures { result ≡ no_reports }
+{
+    KeptReports {
+        not_fully_written: false,
+        time_limit_exceeded: false,
+        handles_modified: false,
+        invalid_identifier: false,
+        media_reallocated: false,
+        implicitly_modified: false,
     }
 }

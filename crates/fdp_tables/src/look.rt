@@ -1,6 +1,8 @@
-ghost use Rattle.std.specs.Prelude.{◌≡◌, ℕ, ◌+◌, ◌*◌, ◌^◌, ◌<◌, ◌≤◌, length, slice_get, option_and_then};
+ghost use Rattle.std.specs.Prelude.{◌≡◌, ℕ, ◌+◌, ◌*◌, ◌^◌, ◌<◌, ◌≤◌, length, slice_get, slice_index, option_and_then};
 ghost use Rattle.std.specs.Option.{option_copied, option_flatten};
+ghost use Rattle.fdp_rules.specs.Effect.{is_partly_written, no_reference};
 ghost use Rattle.fdp_rules.specs.Refusal.{is_absent};
+ghost use Rattle.fdp_rules.specs.Sites.{group_of};
 ghost use Rattle.fdp_rules.specs.Room.{size_of, handles_of, handles_in_force, lost_in, budget};
 ghost use Rattle.fdp_tables.specs.Sound.{IsSound};
 ghost use Rattle.fdp_tables.specs.State.{row, space_at, block_at, reference_at, reference_of, going_of, plain_of};
@@ -112,6 +114,38 @@ impl Kept {
             Some(worn) => *worn,
             None => false,
         }
+    }
+
+    /// The position of the entry that comes next.
+    pub fn next_position(&self) -> u64
+        ensures { result ≡ (plain_of self.now).position + 1 }
+    {
+        self.entries.len() as u64 + 1
+    }
+
+    /// The group in which a unit lies.
+    pub fn group_of(&self, unit: u32) -> u32
+        requires { 0 < self.now.config.units }
+        ensures { result ≡ group_of self.now.config unit }
+    {
+        unit / self.config.units
+    }
+
+    /// A handle without a unit.
+    pub fn no_reference(&self) -> KeptReference
+        ensures { reference_of result ≡ no_reference self.now.config }
+    {
+        KeptReference {
+            unit: None,
+            left: self.config.unit_pages,
+        }
+    }
+
+    /// Whether some of a unit is written, and not all.
+    pub fn is_partly_written(&self, reference: &KeptReference) -> bool
+        ensures { result ≡ is_partly_written self.now.config (reference_of reference.now) }
+    {
+        0 < reference.left && reference.left < self.config.unit_pages
     }
 }
 

@@ -91,11 +91,3 @@ pub struct Kept {
     /// All events that were kept, the oldest first.
     pub events: Vec<Event>,
 }
-
-/// Where a placement identifier sends a write: a group, a handle, and whether the identifier, if there is one, is valid.
-#[derive(Clone, Copy, Debug, PartialEq, Eq)]
-pub struct Destination {
-    pub rg: u16,
-    pub ruh: u16,
-    pub valid: bool,
-}

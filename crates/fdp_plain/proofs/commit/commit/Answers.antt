@@ -12,15 +12,15 @@ change-requires-clause-sound c = history_sound c.args.kept.now c.requires.histor
 
 pub trace-requires-clause-places : goal.trace-requires-clause-places
 trace-requires-clause-places c =
-    same_places c.args.kept.now c.change.new.self c.args.prepared.entry c.change.ensures.rest
+    same_places c.args.kept.now c.change.new.kept c.args.prepared.entry c.change.ensures.rest
     (places_there c.args.kept.now c.args.prepared.entry (history_sound c.args.kept.now c.requires.history) c.requires.follows c.requires.spare.copy)
 
 pub lengthen-requires-clause-count : goal.lengthen-requires-clause-count
 lengthen-requires-clause-count c =
-    counts_there c.args.kept.now c.change.new.self c.trace.new.kept (history_sound c.args.kept.now c.requires.history) c.change.ensures.rest c.trace.ensures.rest
+    counts_there c.args.kept.now c.change.new.kept c.trace.new.kept (history_sound c.args.kept.now c.requires.history) c.change.ensures.rest c.trace.ensures.rest
 
 pub returns-clause-history : goal.returns-clause-history
 returns-clause-history c =
     let count : length c.args.prepared.pages.items ≡ pages_of c.args.prepared.entry = ap length c.requires.prepared.pages ∙ length-replicate (pages_of c.args.prepared.entry) None in
-    taken c.args.kept.now c.change.new.self c.trace.new.kept c.lengthen.new.kept c.args.prepared.entry c.args.events.now
-    c.requires.history c.requires.follows c.change.ensures.state c.change.ensures.rest c.change.ensures.rows (subst (IsTraced c.change.new.self c.trace.new.kept c.args.prepared.entry) count c.trace.ensures) c.lengthen.ensures c.requires.events
+    taken c.args.kept.now c.change.new.kept c.trace.new.kept c.lengthen.new.kept c.args.prepared.entry c.args.events.now
+    c.requires.history c.requires.follows c.change.ensures.state c.change.ensures.rest c.change.ensures.rows (subst (IsTraced c.change.new.kept c.trace.new.kept c.args.prepared.entry) count c.trace.ensures) c.lengthen.ensures c.requires.events

@@ -3,10 +3,10 @@ use Rattle.fdp_plain.proofs.made.make.Goals as goal
 
 pub make_completion-requires-clause-host : goal.make_completion-requires-clause-host
 make_completion-requires-clause-host c =
-    (c.in-Host.number, c.in-Host.moment, host_of c.args.kept.now c.in-Host.queue c.in-Host.number c.in-Host.command c.in-Host.reply c.in-Host.moment (rw (← c.in-Host.is) c.requires.follows))
+    (c.in-Host.host.number, c.in-Host.host.moment, host_of c.args.kept.now c.in-Host.host.queue c.in-Host.host.number c.in-Host.host.command c.in-Host.host.reply c.in-Host.host.moment (rw (← c.in-Host.is) c.requires.follows))
 
-pub returns-in_ok-make_going-in-Started : goal.returns-in_ok-make_going-in-Started
-returns-in_ok-make_going-in-Started c = change_ready c.args.kept.now _ _ _ c.requires.sound c.args.entry.now c.requires.follows (rw c.in-Started.is c.in_ok-make_going-in-Started.ensures)
+pub returns-in_ok-going-in-Started : goal.returns-in_ok-going-in-Started
+returns-in_ok-going-in-Started c = change_ready c.args.kept.now _ _ _ c.requires.sound c.args.entry.now c.requires.follows (rw c.in-Started.is (rw c.new-standing.ensures at c.in_ok-going-in-Started.ensures))
 
 pub returns-in-Placed : goal.returns-in-Placed
 returns-in-Placed c = change_ready c.args.kept.now _ _ _ c.requires.sound c.args.entry.now c.requires.follows (rw c.in-Placed.is tt)

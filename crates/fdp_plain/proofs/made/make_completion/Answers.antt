@@ -10,6 +10,6 @@ returns c =
     record {
       queue_is = omega (arith, host.2.queue_is.1, c.requires.sound.going);
       effect = λ applied.
-          effect_ready k c.args.queue host.0 c.args.reply.now host.1 _ _ c.requires.sound few applied c.args.command.now host.2 c.in_ok-make_blocks_of.ensures c.in_ok-make_space_of.ensures;
+          effect_ready k c.args.queue host.0 c.args.reply.now host.1 _ _ c.requires.sound few applied c.args.command.now host.2 (rw c.new-standing.ensures at c.in_ok-make_blocks_of.ensures) (rw c.new-standing.ensures at c.in_ok-make_space_of.ensures);
       moments = c.requires.moment;
     }

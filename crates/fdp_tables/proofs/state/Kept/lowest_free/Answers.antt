@@ -2,7 +2,8 @@ use Rattle.std.proofs.Common.{◌∙◌, ap, arith, sym}
 use Rattle.std.specs.Prelude.{find}
 use Rattle.fdp_rules.specs.Refusal.{is_absent}
 use Rattle.fdp_tables.specs.State.{plain_of}
-use Rattle.fdp_tables.proofs.Counting.{namespace_ids_are, seeking_in_end, seeking_in_found, seeking_in_next}
+use Rattle.fdp_commands.proofs.Summing.{namespace_ids_are}
+use Rattle.fdp_tables.proofs.Counting.{seeking_in_end, seeking_in_found, seeking_in_next}
 use Rattle.fdp_tables.proofs.state.Kept.lowest_free.Goals as goal
 
 pub returns-then-is_absent : goal.returns-then-is_absent

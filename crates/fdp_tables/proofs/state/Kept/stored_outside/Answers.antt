@@ -1,5 +1,5 @@
 use Rattle.std.proofs.Common.{◌≡◌, ◌∙◌, arith, refl}
-use Rattle.fdp_tables.proofs.Counting.{namespace_ids_are, summed_next}
+use Rattle.fdp_commands.proofs.Summing.{namespace_ids_are, summed_next}
 use Rattle.fdp_tables.proofs.state.Kept.stored_outside.Goals as goal
 
 pub overflow_add-stored : goal.overflow_add-stored

@@ -3,7 +3,7 @@ use Rattle.fdp_base.specs.Numbers.{count_below, is_among}
 use Rattle.fdp_rules.specs.Room.{lies_in, size_of}
 use Rattle.fdp_tables.specs.declared.state.Kept.{Kept}
 use Rattle.fdp_tables.specs.State.{plain_of}
-use Rattle.fdp_tables.proofs.Counting.{IsSummedOver}
+use Rattle.fdp_commands.proofs.Summing.{IsSummedOver}
 use Rattle.fdp_tables.proofs.state.Kept.stored_outside.Given as goal
 
 -- what one namespace has of it

@@ -1,0 +1,4 @@
+pub mod Accepted
+pub mod Appending
+pub mod Closing
+pub mod Choosing

@@ -1,0 +1,20 @@
+//! What the plain drive answers and tells: refusals, the data of replies, the events of an entry.
+#![tactic(auto)]
+
+mod bytes;
+mod closings;
+mod configurations;
+mod data;
+mod events;
+mod handle_status;
+mod kept_events;
+mod log;
+mod pages;
+mod reallocations;
+mod refusals;
+mod transfer;
+
+pub use data::data_of;
+pub use kept_events::push_kept;
+pub use refusals::refusal;
+pub use transfer::dword0_of;

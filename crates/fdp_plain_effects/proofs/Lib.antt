@@ -1,0 +1,5 @@
+pub mod Completing
+pub mod Features
+pub mod Placing
+pub mod Putting
+pub mod Sounds

@@ -1,0 +1,101 @@
+ghost use Rattle.fdp_base.specs.Numbers.{is_among, with_at};
+ghost use Rattle.fdp_base.specs.declared.command.Command.TheVariants as commands;
+ghost use Rattle.fdp_rules.specs.Effect.{effect_of, is_in_ranges, without_blocks};
+ghost use Rattle.fdp_tables.specs.Spaces.{block_in};
+ghost use Rattle.fdp_tables.specs.State.{namespace_of, plain_of, row};
+ghost use Rattle.std.specs.Prelude.{◌≡◌, ℕ, ◌-◌, ◌<◌, ◌==◌, if◌then◌else◌, None, length, option_map};
+
+use fdp_base::{Dealloc, Range};
+use fdp_tables::{Kept, KeptBlock, Space, is_among};
+
+/// A namespace is there with its blocks, or none is.
+pub(crate) fn set_space(kept: &mut Kept, nsid: u32, space: Option<Space>)
+    requires { nsid < length kept.old.spaces.items }
+    ensures state { plain_of kept.new ≡ record (plain_of kept.old) { namespaces = with_at (plain_of kept.old).namespaces nsid (option_map namespace_of space); blocks = λ n lba. if n == nsid then block_in space lba else (plain_of kept.old).blocks n lba } }
+    ensures rest { kept.new ≡ record kept.old { spaces = kept.new.spaces } }
+    ensures rows { length kept.new.spaces.items ≡ length kept.old.spaces.items }
+{
+    kept.spaces[nsid as usize] = space;
+}
+
+/// Deletes a namespace.
+#[tactic(auto, unfolding(fdp_rules::specs::Effect::effect_of))]
+pub(crate) fn delete_namespace(kept: &mut Kept, nsid: u32)
+    requires { nsid < length kept.old.spaces.items }
+    ensures state { (queue : ℕ) → plain_of kept.new ≡ effect_of kept.old.config (plain_of kept.old) queue (commands.Delete (record { nsid = nsid })) }
+    ensures rest { kept.new ≡ record kept.old { spaces = kept.new.spaces } }
+    ensures rows { length kept.new.spaces.items ≡ length kept.old.spaces.items }
+{
+    set_space(kept, nsid, None);
+}
+
+/// The blocks of a namespace in these ranges become absent. It looks at each block.
+fn clear(kept: &mut Kept, nsid: u32, ranges: &[Range])
+    ensures state { plain_of kept.new ≡ without_blocks (plain_of kept.old) nsid (is_in_ranges ranges.now) }
+    ensures rest { kept.new ≡ record kept.old { spaces = kept.new.spaces } }
+    ensures rows { length kept.new.spaces.items ≡ length kept.old.spaces.items }
+{
+    let place = nsid as usize;
+    if place < kept.spaces.len() {
+        clear_space(&mut kept.spaces[place], ranges);
+    }
+}
+
+/// Zeroes blocks.
+#[tactic(auto, unfolding(fdp_rules::specs::Effect::effect_of))]
+pub(crate) fn zero_blocks(kept: &mut Kept, nsid: u32, slba: u64, count: u32)
+    ensures state { (queue : ℕ) → plain_of kept.new ≡ effect_of kept.old.config (plain_of kept.old) queue (commands.Zero (record { nsid = nsid; slba = slba; count = count })) }
+    ensures rest { kept.new ≡ record kept.old { spaces = kept.new.spaces } }
+    ensures rows { length kept.new.spaces.items ≡ length kept.old.spaces.items }
+{
+    clear(
+        kept,
+        nsid,
+        &[Range {
+            slba,
+            length: count,
+        }],
+    );
+}
+
+/// Deallocates blocks.
+#[tactic(auto, unfolding(fdp_rules::specs::Effect::effect_of))]
+pub(crate) fn deallocate(kept: &mut Kept, dealloc: &Dealloc)
+    ensures state { (queue : ℕ) → plain_of kept.new ≡ effect_of kept.old.config (plain_of kept.old) queue (commands.Dealloc dealloc.now) }
+    ensures rest { kept.new ≡ record kept.old { spaces = kept.new.spaces } }
+    ensures rows { length kept.new.spaces.items ≡ length kept.old.spaces.items }
+{
+    if dealloc.deallocate {
+        clear(kept, dealloc.nsid, dealloc.ranges.as_slice());
+    }
+}
+
+/// The blocks of a namespace in these ranges become absent.
+fn clear_space(space: &mut Option<Space>, ranges: &[Range])
+    ensures namespace { option_map namespace_of space.new ≡ option_map namespace_of space.old }
+    ensures blocks { (lba : ℕ) → block_in space.new lba ≡ (if is_in_ranges ranges.now lba then None else block_in space.old lba) }
+{
+    if let Some(space) = space {
+        clear_blocks(space.blocks.as_mut_slice(), ranges);
+    }
+}
+
+#[tactic(auto, using(fdp_tables::proofs::Walks::put_start, fdp_tables::proofs::Walks::put_next, fdp_tables::proofs::Walks::put_skip))]
+fn clear_blocks(blocks: &mut [Option<KeptBlock>], ranges: &[Range])
+    ensures { (lba : ℕ) → row blocks.new lba ≡ (if is_in_ranges ranges.now lba then None else row blocks.old lba) }
+{
+    for lba in 0..blocks.len() {
+        if is_in_ranges(ranges, lba as u64) {
+            blocks[lba] = None;
+        }
+    }
+}
+
+/// Whether an address lies in a range of the list.
+fn is_in_ranges(ranges: &[Range], lba: u64) -> bool
+    ensures { result ≡ is_in_ranges ranges.now lba }
+{
+    ranges
+        .iter()
+        .any(|range| is_among(range.slba, u64::from(range.length), lba))
+}

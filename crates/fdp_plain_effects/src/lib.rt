@@ -1,0 +1,20 @@
+//! What an entry changes in the tables of the plain drive.
+#![tactic(auto)]
+
+mod apply;
+mod blocks;
+mod completed;
+mod create;
+mod entries;
+mod feature;
+mod going;
+mod make;
+mod totals;
+mod trail;
+mod update;
+mod write;
+
+pub use apply::{Made, change};
+pub use make::{make_blocks_of, make_going, make_space_of};
+pub use totals::count;
+pub use trail::trace;

@@ -1,6 +1,0 @@
-use Rattle.fdp_rules.specs.LogPages.{event_bytes}
-use Rattle.fdp_logs.proofs.Appending.{IsAppendingOver}
-use Rattle.fdp_tables.proofs.logs.push_events.Given as goal
-
-abbrev pub invariant-loop-event : goal.invariant-loop-event
-invariant-loop-event l = IsAppendingOver event_bytes l.events l.event-index l.initial.log.items l.log.items

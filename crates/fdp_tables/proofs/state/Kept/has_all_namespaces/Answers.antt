@@ -1,9 +1,0 @@
-use Rattle.std.proofs.Common.{◌∙◌, ap, sym}
-use Rattle.std.specs.List.{list_all}
-use Rattle.fdp_rules.specs.Refusal.{is_present}
-use Rattle.fdp_tables.specs.State.{plain_of}
-use Rattle.fdp_tables.proofs.Counting.{namespace_ids_are}
-use Rattle.fdp_tables.proofs.state.Kept.has_all_namespaces.Goals as goal
-
-pub returns : goal.returns
-returns c = c.has_all_of.ensures ∙ sym (ap (list_all (is_present (plain_of c.args.self.now))) namespace_ids_are)

@@ -1,6 +1,0 @@
-use Rattle.std.proofs.Common.{ℕ, ◌≤◌, ◌<◌}
-use Rattle.fdp_tables.specs.Judging.{IsNextIn}
-use Rattle.fdp_tables.proofs.state.Kept.is_next_of_a_write.Given as goal
-
-abbrev pub invariant-loop-queue : goal.invariant-loop-queue
-invariant-loop-queue l = (q : ℕ) → 1 ≤ q → q < l.queue → IsNextIn l.self l.ticket l.index l.at q → ⊥

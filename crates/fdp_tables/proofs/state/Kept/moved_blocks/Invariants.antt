@@ -1,9 +1,0 @@
-use Rattle.std.proofs.Common.{[]}
-use Rattle.fdp_base.specs.declared.entry.Spot.{Spot}
-use Rattle.fdp_rules.specs.Sites.{blocks_at}
-use Rattle.fdp_tables.specs.State.{point_kept}
-use Rattle.fdp_tables.proofs.Collecting.{IsCollectingIn}
-use Rattle.fdp_tables.proofs.state.Kept.moved_blocks.Given as goal
-
-abbrev pub invariant-loop-copy : goal.invariant-loop-copy
-invariant-loop-copy l = IsCollectingIn (λ (x : Spot × Spot). blocks_at (point_kept l.self) x.0) l.copy-items l.copy-index [] l.blocks.items

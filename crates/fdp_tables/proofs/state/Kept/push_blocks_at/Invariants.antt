@@ -1,7 +1,0 @@
-use Rattle.fdp_rules.specs.Sites.{blocks_in}
-use Rattle.fdp_tables.specs.State.{point_kept}
-use Rattle.fdp_tables.proofs.Collecting.{IsCollectingIn}
-use Rattle.fdp_tables.proofs.state.Kept.push_blocks_at.Given as goal
-
-abbrev pub invariant-loop-nsid : goal.invariant-loop-nsid
-invariant-loop-nsid l = IsCollectingIn (blocks_in (point_kept l.self) l.spot) l.nsid-items l.nsid-index l.fn.into.items l.into.items

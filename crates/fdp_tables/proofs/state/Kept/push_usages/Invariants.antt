@@ -1,8 +1,0 @@
-use Rattle.std.proofs.Common.{◌∷◌}
-use Rattle.fdp_rules.specs.LogPages.{usage_of, zeros}
-use Rattle.fdp_tables.specs.State.{plain_of}
-use Rattle.fdp_tables.proofs.Appending.{IsAppending}
-use Rattle.fdp_tables.proofs.state.Kept.push_usages.Given as goal
-
-abbrev pub invariant-loop-ruh : goal.invariant-loop-ruh
-invariant-loop-ruh l = IsAppending (λ ruh. usage_of (plain_of l.self) ruh ∷ zeros 7) l.handles l.ruh l.initial.log.items l.log.items

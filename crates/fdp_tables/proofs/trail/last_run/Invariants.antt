@@ -1,5 +1,0 @@
-use Rattle.fdp_tables.proofs.Walks.{IsShortening}
-use Rattle.fdp_tables.proofs.trail.last_run.Given as goal
-
-abbrev pub invariant-loop-start : goal.invariant-loop-start
-invariant-loop-start l = IsShortening l.copies l.start

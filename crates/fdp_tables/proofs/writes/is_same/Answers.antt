@@ -1,5 +1,0 @@
-use Rattle.fdp_tables.proofs.Comparing.{same_command}
-use Rattle.fdp_tables.proofs.writes.is_same.Goals as goal
-
-pub returns : goal.returns
-returns c = rw c.eq.ensures (same_command c.args.a.now c.args.b.now)
