@@ -1,16 +1,17 @@
 -- Why a text is that of no configuration.
 use Rattle.std.proofs.Common.{◌≡◌, ◌≢◌, ◌≤◌, IsTrue, ℕ, List, length, Some}
 use Rattle.toml.specs.Data.{Members}
+use Rattle.fdp_base.specs.declared.limits.TheConstants.{LONGEST_CONFIG}
 use Rattle.fdp_config.specs.declared.fault.ConfigFault.{ConfigFault}
 use Rattle.fdp_config.specs.declared.fault.ConfigFault.TheVariants as configs
 use Rattle.fdp_config.specs.Document.{IsDocument}
 use Rattle.fdp_config.specs.Faults.{IsFaultOf, IsInByteOrder}
 use Rattle.fdp_io.specs.Bench.{BenchState}
 use Rattle.fdp_cli.specs.Faults.{of_config}
-use Rattle.fdp_cli.specs.Found.{ConfigLacks, CountsSource}
+use Rattle.fdp_cli.specs.Wanted.{ConfigLacks, CountsSource}
 
 -- a fault of the text that was read is one of the run
-pub config_lacks : (old new : BenchState) (name text : List ℕ) (fault : ConfigFault) → length text ≤ 65536 → (IsTrue old.told → old.text name ≡ Some text) → (fault ≢ configs.NoMemory → IsFaultOf text fault) → ((doc : Members) → IsDocument text doc → IsInByteOrder doc fault) → ConfigLacks old new name (of_config fault)
+pub config_lacks : (old new : BenchState) (name text : List ℕ) (fault : ConfigFault) → length text ≤ LONGEST_CONFIG → (IsTrue old.told → old.text name ≡ Some text) → (fault ≢ configs.NoMemory → IsFaultOf text fault) → ((doc : Members) → IsDocument text doc → IsInByteOrder doc fault) → ConfigLacks old new name (of_config fault)
 config_lacks old new name text configs.NotToml short there first order = λ told. record { text = text; there = there told; short = short; first = first (λ e. absurd (cc)); in_order = order }
 config_lacks old new name text (configs.Unknown key) short there first order = λ told. record { text = text; there = there told; short = short; first = first (λ e. absurd (cc)); in_order = order }
 config_lacks old new name text (configs.Missing key) short there first order = λ told. record { text = text; there = there told; short = short; first = first (λ e. absurd (cc)); in_order = order }

@@ -5,6 +5,7 @@ use Rattle.std.specs.List.{All, AllZip, filter, list_all}
 use Rattle.std.proofs.lemmas.List.Elements.{All-cons, All-nil}
 use Rattle.fdp_base.specs.declared.command.Command.{Command}
 use Rattle.fdp_base.specs.declared.config.DriveConfig.{DriveConfig}
+use Rattle.fdp_base.specs.declared.limits.TheConstants.{MOST_ENTRY_BLOCKS}
 use Rattle.fdp_base.specs.CommandKinds.{IsWellFormed}
 use Rattle.fdp_base.specs.Geometry.{IsWithin}
 use Rattle.fdp_trace.specs.Demands.{IsInRange}
@@ -15,14 +16,14 @@ use Rattle.std.specs.Str.Lines.{lines}
 use Rattle.fdp_cli.specs.Servable.{IsServable, is_served}
 
 -- the amount in the third place of a line is in its range
-third : (a b : Part) (n : ℕ) (more : List Part) (words : List (List ℕ)) → AllZip IsInRange (a ∷ b ∷ amount n ∷ more) words → IsWithin 1 65536 n
+third : (a b : Part) (n : ℕ) (more : List Part) (words : List (List ℕ)) → AllZip IsInRange (a ∷ b ∷ amount n ∷ more) words → IsWithin 1 MOST_ENTRY_BLOCKS n
 third a b n more [] h = absurd h
 third a b n more (x ∷ []) h = absurd h.1
 third a b n more (x ∷ y ∷ []) h = absurd h.1.1
 third a b n more (x ∷ y ∷ z ∷ words) h = (h.1.1.0.1, h.1.1.0.2)
 
 -- the same of the fourth place
-fourth : (a b c : Part) (n : ℕ) (more : List Part) (words : List (List ℕ)) → AllZip IsInRange (a ∷ b ∷ c ∷ amount n ∷ more) words → IsWithin 1 65536 n
+fourth : (a b c : Part) (n : ℕ) (more : List Part) (words : List (List ℕ)) → AllZip IsInRange (a ∷ b ∷ c ∷ amount n ∷ more) words → IsWithin 1 MOST_ENTRY_BLOCKS n
 fourth a b c n more [] h = absurd h
 fourth a b c n more (x ∷ words) h = third b c n more words h.1
 

@@ -1,6 +1,7 @@
 -- The configuration that a run finds, or why it finds none.
 use Rattle.std.specs.Prelude.{◌≡◌, ℕ, ◌<◌, ◌≤◌, IsTrue, List, length, Option, Some, None}
 use Rattle.fdp_base.specs.declared.config.DriveConfig.{DriveConfig}
+use Rattle.fdp_base.specs.declared.limits.TheConstants.{LONGEST_CONFIG}
 use Rattle.toml.specs.Data.{Members}
 use Rattle.fdp_config.specs.declared.fault.ConfigFault.{ConfigFault}
 use Rattle.fdp_config.specs.declared.fault.NoConfig.{NoConfig}
@@ -14,20 +15,20 @@ use Rattle.fdp_io.specs.Bench.{BenchState}
 pub record IsTextOf (found : Option (List ℕ)) (c : DriveConfig) : Type 0 where
   pub text : List ℕ
   pub there : found ≡ Some text
-  pub short : length text ≤ 65536
+  pub short : length text ≤ LONGEST_CONFIG
   pub spells : IsConfigText text c
 
 -- it is there, and longer
 pub record IsTooLong (found : Option (List ℕ)) : Type 0 where
   pub text : List ℕ
   pub there : found ≡ Some text
-  pub long : 65536 < length text
+  pub long : LONGEST_CONFIG < length text
 
 -- it is there, and this is its first fault; of unknown keys the first in byte order
 pub record IsFaulty (found : Option (List ℕ)) (fault : ConfigFault) : Type 0 where
   pub text : List ℕ
   pub there : found ≡ Some text
-  pub short : length text ≤ 65536
+  pub short : length text ≤ LONGEST_CONFIG
   pub first : IsFaultOf text fault
   pub in_order : (doc : Members) → IsDocument text doc → IsInByteOrder doc fault
 

@@ -1,7 +1,7 @@
 pub mod Asked
 pub mod Configured
 pub mod Faults
-pub mod Found
+pub mod Wanted
 pub mod OutputText
 pub mod Printing
 pub mod Servable

@@ -8,7 +8,7 @@ use Rattle.fdp_io.specs.Bench.{BenchState}
 use Rattle.fdp_io.specs.Sink.{Holds, HoldsFront, SinkState}
 use Rattle.fdp_cli.specs.declared.fault.Fault.{Fault}
 use Rattle.fdp_cli.specs.Faults.{fault_text, status_of}
-use Rattle.fdp_cli.specs.Found.{CountsSource, Finds, Lacks}
+use Rattle.fdp_cli.specs.Wanted.{CountsSource, Finds, Lacks}
 use Rattle.fdp_cli.specs.OutputText.{printed_text}
 use Rattle.fdp_cli.specs.Printing.{HoldsSome}
 use Rattle.fdp_cli.specs.Session.{IsRecordOf}

@@ -5,29 +5,26 @@ ghost use Rattle.fdp_base.specs.Config.{IsValidConfig};
 ghost use Rattle.fdp_io.specs.Bench.{SameTexts};
 ghost use Rattle.fdp_cli.specs.Asked.{asked_of};
 ghost use Rattle.fdp_cli.specs.Configured.{ReadsConfig};
-ghost use Rattle.fdp_cli.specs.Found.{ConfigLacks, CountsSource, Finds, HasFault, IsServedTrace, Lacks, Reads, TraceLacks};
+ghost use Rattle.fdp_cli.specs.Wanted.{ConfigLacks, CountsSource, Finds, HasFault, IsServedTrace, Lacks, Reads, TraceLacks};
 ghost use Rattle.fdp_cli.specs.Servable.{IsServable, is_served};
 
 use crate::asked::asked;
 use crate::fault::Fault;
-use fdp_base::{Command, DriveConfig};
-use fdp_config::{NoConfig, TEXT_LIMIT, read_config};
+use fdp_base::{Command, DriveConfig, LONGEST_CONFIG, LONGEST_TRACE, MOST_TRACE_COMMANDS};
+use fdp_config::{NoConfig, read_config};
 use fdp_io::{Bench, TextRead};
 use fdp_trace::{TraceFault, read_trace};
 use std::alloc::Global;
 
-/// A trace has at most so many bytes.
-const MOST_BYTES: u64 = 16_777_216;
-
 /// A configuration, and the commands of a trace.
 #[derive(Debug, Drop)]
-pub struct Found {
+pub struct Wanted {
     pub config: DriveConfig,
     pub trace: Vec<Command>,
 }
 
 /// The configuration and the commands that the words ask for.
-pub fn find<B: Bench>(alloc: Global, words: &[String], bench: &mut B) -> Result<Found, Fault>
+pub fn find<B: Bench>(alloc: Global, words: &[String], bench: &mut B) -> Result<Wanted, Fault>
     ensures texts { SameTexts (B.state bench.old) (B.state bench.new) }
     ensures faults { (B.state bench.old).faults ≤ (B.state bench.new).faults }
     ensures counts { MatchResult result
@@ -37,7 +34,7 @@ pub fn find<B: Bench>(alloc: Global, words: &[String], bench: &mut B) -> Result<
         (λ found. Finds (B.state bench.old) words.now found.config found.trace.items)
         (λ fault. Lacks (B.state bench.old) (B.state bench.new) words.now fault) }
     ensures served { IfOk result (λ found. All (IsServable found.config) found.trace.items) }
-    ensures few { IfOk result (λ found. length found.trace.items ≤ 8192) }
+    ensures few { IfOk result (λ found. length found.trace.items ≤ MOST_TRACE_COMMANDS) }
 {
     let texts = match asked(words) {
         Ok(texts) => texts,
@@ -45,7 +42,7 @@ pub fn find<B: Bench>(alloc: Global, words: &[String], bench: &mut B) -> Result<
     };
     let config = find_config(alloc, texts.config, bench)?;
     let trace = find_trace(alloc, texts.trace, bench)?;
-    Ok(Found { config, trace })
+    Ok(Wanted { config, trace })
 }
 
 /// The configuration of this name.
@@ -61,7 +58,7 @@ fn find_config<B: Bench>(alloc: Global, name: &str, bench: &mut B) -> Result<Dri
     ensures valid { IfOk result IsValidConfig }
 {
     let mut text = Vec::new(alloc);
-    match bench.read_text(name, &mut text, TEXT_LIMIT) {
+    match bench.read_text(name, &mut text, LONGEST_CONFIG) {
         TextRead::Done => match read_config(alloc, text.as_slice()) {
             Ok(config) => Ok(config),
             Err(fault) => Err(Fault::from(fault)),
@@ -84,10 +81,10 @@ fn find_trace<B: Bench>(alloc: Global, name: &str, bench: &mut B) -> Result<Vec<
         (λ commands. Reads (B.state bench.old) name.now (Ok commands.items))
         (λ fault. TraceLacks (B.state bench.old) (B.state bench.new) name.now fault) }
     ensures served { IfOk result (λ commands. (c : DriveConfig) → All (IsServable c) commands.items) }
-    ensures few { IfOk result (λ commands. length commands.items ≤ 8192) }
+    ensures few { IfOk result (λ commands. length commands.items ≤ MOST_TRACE_COMMANDS) }
 {
     let mut text = Vec::new(alloc);
-    match bench.read_text(name, &mut text, MOST_BYTES) {
+    match bench.read_text(name, &mut text, LONGEST_TRACE) {
         TextRead::Done => read_commands(alloc, text.as_slice()),
         TextRead::Missing => Err(Fault::TraceAbsent),
         TextRead::TooLong => Err(Fault::TraceLong),
@@ -102,7 +99,7 @@ fn read_commands(alloc: Global, text: &[u8]) -> Result<Vec<Command>, Fault>
         (λ commands. IsServedTrace text.now commands.items)
         (λ fault. HasFault text.now fault) }
     ensures served { IfOk result (λ commands. (c : DriveConfig) → All (IsServable c) commands.items) }
-    ensures few { IfOk result (λ commands. length commands.items ≤ 8192) }
+    ensures few { IfOk result (λ commands. length commands.items ≤ MOST_TRACE_COMMANDS) }
 {
     match read_trace(alloc, text) {
         Ok(commands) => {
@@ -127,20 +124,5 @@ fn all_served(commands: &[Command]) -> bool
 fn is_served(command: &Command) -> bool
     ensures { result ≡ is_served command.now }
 {
-    match command {
-        Command::Write { .. } => true,
-        Command::Read { .. } => true,
-        Command::Zero { .. } => false,
-        Command::Dealloc { .. } => false,
-        Command::Flush { .. } => false,
-        Command::Delete { .. } => false,
-        Command::Status { .. } => false,
-        Command::Update { .. } => false,
-        Command::Log { .. } => false,
-        Command::SetFdp { .. } => false,
-        Command::GetFdp { .. } => false,
-        Command::SetEvents { .. } => false,
-        Command::Create { .. } => false,
-        Command::Other { .. } => false,
-    }
+    command.as_write().is_some() || command.as_read().is_some()
 }

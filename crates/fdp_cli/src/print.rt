@@ -92,19 +92,9 @@ fn push_queue(queue: u16, into: &mut Vec<u8>) -> Result<(), AllocError>
 fn push_entry(entry: &Entry, into: &mut Vec<u8>) -> Result<(), AllocError>
     ensures { OnOk result (into.new.items ≡ into.old.items ++ completion_of 1 entry.now) }
 {
-    match entry {
-        Entry::Host {
-            queue,
-            number,
-            command,
-            reply,
-            ..
-        } => {
-            if *queue == 1 {
-                print_completion(*number, command, reply, into)
-            } else {
-                Ok(())
-            }
+    match entry.as_host() {
+        Some(host) if host.queue == 1 => {
+            print_completion(host.number, &host.command, &host.reply, into)
         }
         _ => Ok(()),
     }

@@ -1,11 +1,12 @@
 ghost use Rattle.std.specs.Prelude.{◌≡◌, ◌+◌, ◌*◌, ◌≤◌, ◌<◌, ◌^◌, false, All, MatchResult, length};
-ghost use Rattle.fdp_rules.specs.Totals.{blocks_written};
 ghost use Rattle.fdp_core.specs.Steps.{most_steps};
 ghost use Rattle.fdp_cli.specs.Servable.{IsServable};
 ghost use Rattle.fdp_cli.specs.Serving.{EndsWrite, IsIdle, IsPlacing, PlacesAll, Serves, ServesOne};
+ghost use Rattle.fdp_core.specs.Seen.{failed_in};
 
-use fdp_base::Command;
-use fdp_core::{Begun, Group, Placed, Room, Ticket};
+use fdp_base::{Command, MOST_TRACE_COMMANDS};
+use fdp_book::{Room, Ticket};
+use fdp_core::{Begun, Group, Placed};
 use fdp_flash::Flash;
 use std::alloc::{AllocError, Global};
 
@@ -25,9 +26,9 @@ pub fn serve<F: Flash>(
     group: &mut Group<F>,
     trace: &[Command],
 ) -> Result<ServeEnd, AllocError>
-    requires sound { group.old.failed ≡ false }
+    requires sound { failed_in group.old.book ≡ false }
     requires servable { All (IsServable group.old.book.config) trace.now }
-    requires number { length trace.now ≤ 8192 }
+    requires number { length trace.now ≤ MOST_TRACE_COMMANDS }
     requires steps { group.old.book.spent + length trace.now * most_steps group.old.book.config ≤ 2 ^ 30 }
     requires idle { IsIdle group.old.book }
     ensures { Serves F.state group.old group.new trace.now result }
@@ -47,7 +48,7 @@ fn serve_one<F: Flash>(
     number: u16,
     command: &Command,
 ) -> Result<(), AllocError>
-    requires sound { group.old.failed ≡ false }
+    requires sound { failed_in group.old.book ≡ false }
     requires servable { IsServable group.old.book.config command.now }
     requires steps { group.old.book.spent + most_steps group.old.book.config ≤ 2 ^ 30 }
     requires idle { IsIdle group.old.book }
@@ -60,34 +61,30 @@ fn serve_one<F: Flash>(
     let begun = command.copied()?;
     match group.start(1, number, begun, room) {
         Begun::Ended(done) => drop(done),
-        Begun::Going(ticket) => end_write(group, ticket, blocks_written(command)),
+        Begun::Going(ticket) => end_write(group, ticket),
     }
     Ok(())
 }
 
 /// Places the pages of a write, and commits it.
-fn end_write<F: Flash>(group: &mut Group<F>, ticket: Ticket, pages: u32)
-    requires placing { IsPlacing group.old.book ticket pages 0 }
-    requires some { 0 < pages }
-    requires spare { pages + 1 ≤ group.old.book.spare }
-    requires sound { group.old.failed ≡ false }
-    ensures { EndsWrite F.state group.old group.new ticket pages }
+fn end_write<F: Flash>(group: &mut Group<F>, ticket: Ticket)
+    requires placing { IsPlacing group.old.book ticket }
+    requires sound { failed_in group.old.book ≡ false }
+    ensures { EndsWrite F.state group.old group.new ticket }
 {
-    if let Some(ticket) = place_all(group, ticket, pages) {
+    if let Some(ticket) = place_all(group, ticket) {
         drop(group.commit(ticket));
     }
 }
 
 /// Places the pages of a write one after another, until all are placed or it ends.
-fn place_all<F: Flash>(group: &mut Group<F>, ticket: Ticket, pages: u32) -> Option<Ticket>
-    requires placing { IsPlacing group.old.book ticket pages 0 }
-    requires some { 0 < pages }
-    requires spare { pages + 1 ≤ group.old.book.spare }
-    requires sound { group.old.failed ≡ false }
-    ensures { PlacesAll F.state group.old group.new ticket pages result }
+fn place_all<F: Flash>(group: &mut Group<F>, ticket: Ticket) -> Option<Ticket>
+    requires placing { IsPlacing group.old.book ticket }
+    requires sound { failed_in group.old.book ≡ false }
+    ensures { PlacesAll F.state group.old group.new ticket result }
 {
     let mut ticket = ticket;
-    for _ in 0..pages {
+    loop {
         match group.place(ticket) {
             Placed::More(next) => ticket = next,
             Placed::Ready(next) => return Some(next),
@@ -96,28 +93,5 @@ fn place_all<F: Flash>(group: &mut Group<F>, ticket: Ticket, pages: u32) -> Opti
                 return None;
             }
         }
-    }
-    unreachable!()
-}
-
-/// How many blocks a write carries.
-fn blocks_written(command: &Command) -> u32
-    ensures { result ≡ blocks_written command.now }
-{
-    match command {
-        Command::Write { count, .. } => *count,
-        Command::Read { .. } => 0,
-        Command::Zero { .. } => 0,
-        Command::Dealloc { .. } => 0,
-        Command::Flush { .. } => 0,
-        Command::Delete { .. } => 0,
-        Command::Status { .. } => 0,
-        Command::Update { .. } => 0,
-        Command::Log { .. } => 0,
-        Command::SetFdp { .. } => 0,
-        Command::GetFdp { .. } => 0,
-        Command::SetEvents { .. } => 0,
-        Command::Create { .. } => 0,
-        Command::Other { .. } => 0,
     }
 }

@@ -8,7 +8,7 @@ use crate::fault::{Fault, push_fault};
 use crate::find::find;
 use crate::print::{Cut, print_output};
 use crate::serving::{ServeEnd, serve};
-use fdp_base::{Command, DriveConfig};
+use fdp_base::{Command, DriveConfig, MOST_TRACE_COMMANDS};
 use fdp_core::Group;
 use fdp_flash::{FlashMem, Plan};
 use fdp_io::{Bench, Sink, write_all};
@@ -61,7 +61,7 @@ fn refuse<K: Sink>(alloc: Global, fault: Fault, sink: &mut K) -> u8
 fn run<K: Sink>(alloc: Global, config: &DriveConfig, trace: &[Command], sink: &mut K) -> u8
     requires valid { IsValidConfig config.now }
     requires servable { All (IsServable config.now) trace.now }
-    requires few { length trace.now ≤ 8192 }
+    requires few { length trace.now ≤ MOST_TRACE_COMMANDS }
     ensures told { (K.state sink.new).told ≡ (K.state sink.old).told }
     ensures faults { (K.state sink.old).faults ≤ (K.state sink.new).faults }
     ensures unfailing { result ≢ 8 → (K.state sink.new).faults ≡ (K.state sink.old).faults }

@@ -27,24 +27,24 @@ silent-joined queue es fs first second other some ne =
     }
 
 -- a write is let go
-pub silent-started : (queue number : ℕ) (command : Command) (rg ruh : ℕ) (valid : Bool) → OthersStaySilent queue (entries.Started queue number command rg ruh valid ∷ [])
+pub silent-started : (queue number : ℕ) (command : Command) (rg ruh : ℕ) (valid : Bool) → OthersStaySilent queue (entries.Started (record { queue = queue; number = number; command = command; rg = rg; ruh = ruh; pid_valid = valid }) ∷ [])
 silent-started queue number command rg ruh valid other some ne = record { completes = refl; starts = starts-one other _ (λ same. ne (sym same)) }
 
 -- a command is completed
-pub silent-host : (queue number : ℕ) (command : Command) (reply : Reply) (moment : ℕ) → OthersStaySilent queue (entries.Host queue number command reply moment ∷ [])
+pub silent-host : (queue number : ℕ) (command : Command) (reply : Reply) (moment : ℕ) → OthersStaySilent queue (entries.Host (record { queue = queue; number = number; command = command; reply = reply; moment = moment }) ∷ [])
 silent-host queue number command reply moment other some ne = record {
   completes = ap (λ (b : Bool). cons_option (cond b (Some (number, command)) None) []) (ne_eqb queue other (λ same. ne (sym same)));
   starts = starts-one other _ (λ same. omega arith);
 }
 
 -- a command is completed, behind other entries
-pub silent-completed : (queue number : ℕ) (command : Command) (before : List Entry) (reply : Reply) (moment : ℕ) → OthersStaySilent queue before → OthersStaySilent queue (before ++ entries.Host queue number command reply moment ∷ [])
-silent-completed queue number command before reply moment silent = silent-joined queue before (entries.Host queue number command reply moment ∷ []) silent (silent-host queue number command reply moment)
+pub silent-completed : (queue number : ℕ) (command : Command) (before : List Entry) (reply : Reply) (moment : ℕ) → OthersStaySilent queue before → OthersStaySilent queue (before ++ entries.Host (record { queue = queue; number = number; command = command; reply = reply; moment = moment }) ∷ [])
+silent-completed queue number command before reply moment silent = silent-joined queue before (entries.Host (record { queue = queue; number = number; command = command; reply = reply; moment = moment }) ∷ []) silent (silent-host queue number command reply moment)
 
 -- a page is placed, for whichever queue
-pub silent-placed : (queue ticket index unit page : ℕ) → OthersStaySilent queue (entries.Placed ticket index unit page ∷ [])
+pub silent-placed : (queue ticket index unit page : ℕ) → OthersStaySilent queue (entries.Placed (record { ticket = ticket; index = index; unit = unit; page = page }) ∷ [])
 silent-placed queue ticket index unit page other some ne = record { completes = refl; starts = starts-one other _ (λ same. omega arith) }
 
 -- a handle is shut, for whichever queue
-pub silent-shut : (queue rg ruh : ℕ) → OthersStaySilent queue (entries.Shut rg ruh ∷ [])
+pub silent-shut : (queue rg ruh : ℕ) → OthersStaySilent queue (entries.Shut (record { rg = rg; ruh = ruh }) ∷ [])
 silent-shut queue rg ruh other some ne = record { completes = refl; starts = starts-one other _ (λ same. omega arith) }

@@ -1,5 +1,5 @@
 -- What the calls of a group answer, each with its cause.
-use Rattle.std.specs.Prelude.{◌≡◌, ◌⊎◌, ℕ, ◌+◌, ◌<◌, ◌≤◌, true, false, IsTrue, IsFalse, List, [], ◌∷◌, length, None, Some, option_map}
+use Rattle.std.specs.Prelude.{◌≡◌, ◌⊎◌, ℕ, ◌+◌, ◌<◌, ◌≤◌, true, false, IsTrue, IsFalse, List, [], ◌∷◌, None, Some, option_map}
 use Rattle.fdp_base.specs.declared.command.Command.{Command}
 use Rattle.fdp_base.specs.declared.command.Command.TheVariants as commands
 use Rattle.fdp_base.specs.declared.entry.Entry.TheVariants as entries
@@ -8,28 +8,27 @@ use Rattle.fdp_base.specs.declared.status.Status.{Status}
 use Rattle.fdp_base.specs.declared.status.TheConstants.Status as statuses
 use Rattle.fdp_rules.specs.Answer.{bare}
 use Rattle.fdp_rules.specs.Change.{one_more_placed, started}
-use Rattle.fdp_base.specs.CommandKinds.{write_of}
+use Rattle.fdp_base.specs.CommandKinds.{blocks_written, write_of}
 use Rattle.fdp_rules.specs.PlainState.{Going}
 use Rattle.fdp_rules.specs.Refusal.{refusal_of}
 use Rattle.fdp_rules.specs.Room.{roomiest}
 use Rattle.fdp_rules.specs.Sites.{is_there}
 use Rattle.fdp_rules.specs.Step.{MaySucceed, exceeds_budget, goes_to}
 use Rattle.fdp_rules.specs.Target.{Target}
-use Rattle.fdp_rules.specs.Totals.{blocks_written}
 use Rattle.fdp_flash.specs.FlashState.{Call, FlashState}
-use Rattle.fdp_core.specs.declared.extent.Extent.{Extent}
-use Rattle.fdp_core.specs.declared.ticket.Done.{Done}
-use Rattle.fdp_core.specs.declared.ticket.Ticket.{Ticket}
-use Rattle.fdp_core.specs.Book.{point_in, state_in}
-use Rattle.fdp_core.specs.Tickets.{IsTicketOf, next_spot}
-use Rattle.fdp_core.specs.UsedOnce.{WantsUnit, is_used}
+use Rattle.fdp_base.specs.declared.command.Read.{Read}
+use Rattle.fdp_book.specs.declared.ticket.Done.{Done}
+use Rattle.fdp_book.specs.declared.ticket.Ticket.{Ticket}
+use Rattle.fdp_book.specs.Book.{point_in, position_in, state_in}
+use Rattle.fdp_book.specs.Tickets.{IsTicketOf, next_spot}
+use Rattle.fdp_book.specs.UsedOnce.{WantsUnit, is_used}
 use Rattle.fdp_core.specs.declared.answer.Begun.{Begun}
 use Rattle.fdp_core.specs.declared.answer.Begun.TheVariants as begun
 use Rattle.fdp_core.specs.declared.answer.Placed.{Placed}
 use Rattle.fdp_core.specs.declared.answer.Placed.TheVariants as placed
 use Rattle.fdp_core.specs.Calls.{program_at}
 use Rattle.fdp_core.specs.Fetches.{Fetches}
-use Rattle.fdp_core.specs.Seen.{Seen}
+use Rattle.fdp_core.specs.Seen.{Seen, failed_in}
 use Rattle.fdp_core.specs.Steps.{Adds, Completes}
 
 -- a step starts a write that is not refused, and has no more blocks than a command may: at its target, with the group that has
@@ -39,11 +38,11 @@ pub record Starts {F : Type 0} (state : F → FlashState) (old new : Seen F) (qu
   pub few : blocks_written command ≤ old.book.config.blocks_per_command
   pub target : Target
   pub target_is : option_map (goes_to old.book.config (state_in old.book) (roomiest old.book.config (state_in old.book))) (write_of command) ≡ Some target
-  pub step : Adds state old new (entries.Started queue number command target.rg target.ruh target.valid ∷ [])
-  pub ticket_is : ticket ≡ record { queue = queue; number = number; position = length new.book.entries }
+  pub step : Adds state old new (entries.Started (record { queue = queue; number = number; command = command; rg = target.rg; ruh = target.ruh; pid_valid = target.valid }) ∷ [])
+  pub ticket_is : ticket ≡ record { queue = queue; number = number; position = position_in new.book }
   pub going : IsTicketOf (state_in new.book) ticket (started old.book.config (state_in old.book) number command target.rg target.ruh target.valid)
   pub uncalled : new.flash ≡ old.flash
-  pub well : new.failed ≡ false
+  pub well : failed_in new.book ≡ false
 
 -- a command is refused with its refusal; the flash is not called
 pub record Refuses {F : Type 0} (old new : Seen F) (command : Command) (reply : Reply) : Type 0 where
@@ -55,9 +54,9 @@ pub record Refuses {F : Type 0} (old new : Seen F) (command : Command) (reply : 
 -- a read that is not refused fetches its blocks; whether or not a fetch fails, the cells are as they were
 pub record ReadsBlocks {F : Type 0} (state : F → FlashState) (old new : Seen F) (command : Command) (calls : List Call) : Type 0 where
   pub accepted : refusal_of old.book.config (point_in old.book) command ≡ None
-  pub extent : Extent
-  pub command_is : command ≡ commands.Read extent.nsid extent.slba extent.count
-  pub fetches : Fetches old.book extent calls new.failed
+  pub read : Read
+  pub command_is : command ≡ commands.Read read
+  pub fetches : Fetches old.book read calls (failed_in new.book)
   pub cells : IsTrue (state old.flash).told → (state new.flash).cells ≡ (state old.flash).cells
 
 -- the first step completes a command: it is refused, or it is a read
@@ -75,12 +74,12 @@ Begins state old new queue number command (begun.Going ticket) = Starts state ol
 pub record PlacesPage {F : Type 0} (state : F → FlashState) (old new : Seen F) (ticket : Ticket) (g : Going) (next : Ticket) : Type 0 where
   pub unit : ℕ
   pub page : ℕ
-  pub step : Adds state old new (entries.Placed ticket.position g.placed unit page ∷ [])
+  pub step : Adds state old new (entries.Placed (record { ticket = ticket.position; index = g.placed; unit = unit; page = page }) ∷ [])
   pub call_is : step.calls ≡ program_at (record { unit = unit; page = page }) false ∷ []
   pub next_is : next ≡ ticket
   pub going : IsTicketOf (state_in new.book) next (one_more_placed g)
   pub unused : ((state_in old.book).references g.rg g.ruh).unit ≡ None → IsFalse (is_used old.book.entries unit)
-  pub well : new.failed ≡ false
+  pub well : failed_in new.book ≡ false
 
 -- a going write ends with this reply, behind no other entry; the flash is not called
 pub record EndsAlone {F : Type 0} (state : F → FlashState) (old new : Seen F) (ticket : Ticket) (g : Going) (reply : Reply) (done : Done) : Type 0 where
@@ -90,10 +89,10 @@ pub record EndsAlone {F : Type 0} (state : F → FlashState) (old new : Seen F) 
 
 -- the one call, which was to program the next page of a write, failed: the handle is shut, and the write ends with Write Fault
 pub record FailsToPlace {F : Type 0} (state : F → FlashState) (old new : Seen F) (ticket : Ticket) (g : Going) (done : Done) : Type 0 where
-  pub completes : Completes state old new (entries.Shut g.rg g.ruh ∷ []) ticket.queue g.number g.command done
+  pub completes : Completes state old new (entries.Shut (record { rg = g.rg; ruh = g.ruh }) ∷ []) ticket.queue g.number g.command done
   pub call_is : completes.step.calls ≡ program_at (next_spot old.book g.rg g.ruh) true ∷ []
   pub reply_is : done.reply ≡ bare statuses.WRITE_FAULT false
-  pub failed : new.failed ≡ true
+  pub failed : failed_in new.book ≡ true
 
 -- a write ends in place of its next page: its namespace is gone; it wants a unit; or a program failed
 abbrev pub EndsInPlacing : {F : Type 0} → (F → FlashState) → Seen F → Seen F → Ticket → Going → Done → Type 0

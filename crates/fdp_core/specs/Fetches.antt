@@ -5,8 +5,8 @@ use Rattle.fdp_base.specs.declared.entry.Spot.{Spot}
 use Rattle.fdp_base.specs.Numbers.{numbers_from}
 use Rattle.fdp_rules.specs.PlainState.{Block}
 use Rattle.fdp_flash.specs.FlashState.{Call, FlashState}
-use Rattle.fdp_core.specs.declared.extent.Extent.{Extent}
-use Rattle.fdp_core.specs.Book.{BookSeen, point_in, state_in}
+use Rattle.fdp_base.specs.declared.command.Read.{Read}
+use Rattle.fdp_book.specs.Book.{BookSeen, point_in, state_in}
 use Rattle.fdp_core.specs.Calls.{MakesCalls, fetch_at}
 
 -- the page at which a block stands, if it is there
@@ -28,7 +28,7 @@ pub record FailsToFetch (old new : FlashState) (b : BookSeen) (nsid lba : ℕ) :
   pub made : MakesCalls old new (fetch_at page true ∷ [])
 
 -- the fetches of a read of which one failed: those of the blocks before it, and that one
-pub record IsCutShort (b : BookSeen) (x : Extent) (calls : List Call) : Type 0 where
+pub record IsCutShort (b : BookSeen) (x : Read) (calls : List Call) : Type 0 where
   pub index : ℕ
   pub within : index < x.count
   pub page : Spot
@@ -36,11 +36,11 @@ pub record IsCutShort (b : BookSeen) (x : Extent) (calls : List Call) : Type 0 w
   pub calls_are : calls ≡ fetches_of (pages_of b x.nsid x.slba index) ++ fetch_at page true ∷ []
 
 -- the fetches of a read: of the page of each block that is there, in order, up to one that fails
-abbrev pub Fetches : BookSeen → Extent → List Call → Bool → Type 0
+abbrev pub Fetches : BookSeen → Read → List Call → Bool → Type 0
 Fetches b x calls failed = MatchBool failed (IsCutShort b x calls) (calls ≡ fetches_of (pages_of b x.nsid x.slba x.count))
 
 -- they were made, and no other call
-pub record MakesFetches (old new : FlashState) (b : BookSeen) (x : Extent) (failed : Bool) : Type 0 where
+pub record MakesFetches (old new : FlashState) (b : BookSeen) (x : Read) (failed : Bool) : Type 0 where
   pub calls : List Call
   pub made : MakesCalls old new calls
   pub fetches : Fetches b x calls failed

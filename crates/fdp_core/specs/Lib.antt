@@ -1,16 +1,3 @@
-pub mod Logged
-pub mod Extent
-pub mod Destinations
-pub mod Room
-pub mod Pages
-pub mod UsedOnce
-pub mod Book
-pub mod Tickets
-pub mod BookSteps
-pub mod Reading
-pub mod Configured
-pub mod Held
-pub mod Flown
 pub mod Seen
 pub mod Calls
 pub mod Fetches
@@ -18,6 +5,5 @@ pub mod Media
 pub mod ReadSteps
 pub mod Steps
 pub mod Silence
-pub mod Stages
 pub mod Answers
 pub mod Sound

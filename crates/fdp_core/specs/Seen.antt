@@ -9,14 +9,12 @@ use Rattle.fdp_base.specs.Counts.{counted}
 use Rattle.fdp_rules.specs.Totals.{media_blocks}
 use Rattle.fdp_flash.specs.FlashState.{FlashState, Faulted}
 use Rattle.fdp_core.specs.declared.counts.Counts.{Counts}
-use Rattle.fdp_core.specs.Book.{BookSeen, first_book}
-use Rattle.fdp_core.specs.Pages.{cells_of}
+use Rattle.fdp_book.specs.Book.{BookSeen, first_book}
+use Rattle.fdp_book.specs.Pages.{cells_of}
 
 pub record Seen (F : Type 0) : Type 0 where
   -- the history, and the steps for which there is room
   pub book : BookSeen
-  -- whether a flash call failed
-  pub failed : Bool
   -- what the flash had counted when it was handed in
   pub handed : Counts
   pub flash : F
@@ -27,49 +25,53 @@ counts_of flash = record { moment = flash.moment; faults = flash.faults; program
 
 -- a group before its first command
 abbrev pub new_over : {F : Type 0} → (F → FlashState) → DriveConfig → F → Seen F
-new_over state c flash = record { book = first_book c; failed = false; handed = counts_of (state flash); flash = flash }
+new_over state c flash = record { book = first_book c; handed = counts_of (state flash); flash = flash }
 
 -- whether an entry tells of a media error
 abbrev pub is_media_reply : Entry → Bool
-is_media_reply (entries.Host queue number command reply moment) = is_media_error reply.status
-is_media_reply (entries.Started queue number command rg ruh pid_valid) = false
-is_media_reply (entries.Placed ticket index unit page) = false
-is_media_reply (entries.Copied old new) = false
-is_media_reply (entries.Moved rg blocks) = false
-is_media_reply (entries.Erased unit) = false
-is_media_reply (entries.Retired unit) = false
-is_media_reply (entries.Aside unit) = false
-is_media_reply (entries.Shut rg ruh) = false
-is_media_reply (entries.Worn rg) = false
+is_media_reply (entries.Host h) = is_media_error h.reply.status
+is_media_reply (entries.Started s) = false
+is_media_reply (entries.Placed p) = false
+is_media_reply (entries.Copied c) = false
+is_media_reply (entries.Moved m) = false
+is_media_reply (entries.Erased e) = false
+is_media_reply (entries.Retired r) = false
+is_media_reply (entries.Aside a) = false
+is_media_reply (entries.Shut s) = false
+is_media_reply (entries.Worn w) = false
 is_media_reply entries.Reopened = false
 
 -- whether an entry tells of a handle that was shut
 abbrev pub is_shut : Entry → Bool
-is_shut (entries.Host queue number command reply moment) = false
-is_shut (entries.Started queue number command rg ruh pid_valid) = false
-is_shut (entries.Placed ticket index unit page) = false
-is_shut (entries.Copied old new) = false
-is_shut (entries.Moved rg blocks) = false
-is_shut (entries.Erased unit) = false
-is_shut (entries.Retired unit) = false
-is_shut (entries.Aside unit) = false
-is_shut (entries.Shut rg ruh) = true
-is_shut (entries.Worn rg) = false
+is_shut (entries.Host h) = false
+is_shut (entries.Started s) = false
+is_shut (entries.Placed p) = false
+is_shut (entries.Copied c) = false
+is_shut (entries.Moved m) = false
+is_shut (entries.Erased e) = false
+is_shut (entries.Retired r) = false
+is_shut (entries.Aside a) = false
+is_shut (entries.Shut s) = true
+is_shut (entries.Worn w) = false
 is_shut entries.Reopened = false
 
 -- whether an entry tells of a failed call of the flash: a media error, or a handle that was shut
 abbrev pub tells_failure : Entry → Bool
-tells_failure (entries.Host queue number command reply moment) = is_media_error reply.status
-tells_failure (entries.Started queue number command rg ruh pid_valid) = false
-tells_failure (entries.Placed ticket index unit page) = false
-tells_failure (entries.Copied old new) = false
-tells_failure (entries.Moved rg blocks) = false
-tells_failure (entries.Erased unit) = false
-tells_failure (entries.Retired unit) = false
-tells_failure (entries.Aside unit) = false
-tells_failure (entries.Shut rg ruh) = true
-tells_failure (entries.Worn rg) = false
+tells_failure (entries.Host h) = is_media_error h.reply.status
+tells_failure (entries.Started s) = false
+tells_failure (entries.Placed p) = false
+tells_failure (entries.Copied c) = false
+tells_failure (entries.Moved m) = false
+tells_failure (entries.Erased e) = false
+tells_failure (entries.Retired r) = false
+tells_failure (entries.Aside a) = false
+tells_failure (entries.Shut s) = true
+tells_failure (entries.Worn w) = false
 tells_failure entries.Reopened = false
+
+-- whether some entry of a history tells of a failed call of the flash
+abbrev pub failed_in : BookSeen → Bool
+failed_in b = list_any tells_failure b.entries
 
 -- a count after so many more
 unfoldable pub counted_more : ℕ → ℕ → ℕ
@@ -85,24 +87,22 @@ pub record IsKept (old new : FlashState) : Type 0 where
   pub faults : old.faults ≤ new.faults
 
 -- the flash before and after calls that added these entries: its programs are the Placed entries; it counted a fault
--- exactly where the group then has failed, and exactly then one of the entries tells of it
-pub record Matches (old new : FlashState) (es : List Entry) (failed : Bool) : Type 0 where
+-- exactly where one of these entries tells of a failed call
+pub record Matches (old new : FlashState) (es : List Entry) : Type 0 where
   pub kept : IsKept old new
   pub programs : new.programs ≡ counted_more old.programs (media_blocks es)
-  pub fault : IsTrue failed → Faulted old new
-  pub no_fault : failed ≡ false → new.faults ≡ old.faults
-  pub told_by : list_any tells_failure es ≡ failed
+  pub fault : IsTrue (list_any tells_failure es) → Faulted old new
+  pub no_fault : list_any tells_failure es ≡ false → new.faults ≡ old.faults
 
--- where no call failed and the cells are told, they are what the history placed
-abbrev pub HoldsHistory : DriveConfig → FlashState → List Entry → Bool → Type 0
-HoldsHistory c flash es failed = failed ≡ false → IsTrue flash.told → flash.cells ≡ cells_of c es
+-- where no entry tells of a failed call and the cells are told, they are what the history placed
+abbrev pub HoldsHistory : FlashState → BookSeen → Type 0
+HoldsHistory flash b = failed_in b ≡ false → IsTrue flash.told → flash.cells ≡ cells_of b.config b.found b.entries
 
 -- What a flash counted since it was handed in: as many programs as pages were placed or copied; at least as many faults as
--- replies tell of a media error, and as handles were shut; no fault while no call failed, and exactly then no entry tells of one.
-pub record CountedSince (handed : Counts) (now : FlashState) (es : List Entry) (failed : Bool) : Type 0 where
+-- replies tell of a media error, and as handles were shut; no fault while no entry tells of a failed call.
+pub record CountedSince (handed : Counts) (now : FlashState) (es : List Entry) : Type 0 where
   pub moment : handed.moment ≤ now.moment
   pub programs : now.programs ≡ counted_more handed.programs (media_blocks es)
   pub media_replies : counted_more handed.faults (count_by is_media_reply es) ≤ now.faults
   pub shut : counted_more handed.faults (count_by is_shut es) ≤ now.faults
-  pub no_fault : failed ≡ false → now.faults ≡ handed.faults
-  pub told_by : list_any tells_failure es ≡ failed
+  pub no_fault : list_any tells_failure es ≡ false → now.faults ≡ handed.faults

@@ -1,4 +1,4 @@
-use crate::ticket::{Done, Ticket};
+use fdp_book::{Done, Ticket};
 
 /// What the first step of a command came to.
 #[derive(Debug, PartialEq, Eq)]

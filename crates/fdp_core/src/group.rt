@@ -1,20 +1,19 @@
 ghost use Rattle.std.specs.Prelude.{◌≡◌, ◌↔◌, ◌+◌, ◌*◌, ◌≤◌, ◌^◌, IsTrue, length, OnOk, OnErr, IfOk};
 ghost use Rattle.fdp_base.specs.Config.{IsValidConfig};
-ghost use Rattle.fdp_rules.specs.History.{fresh, totals_of};
+ghost use Rattle.fdp_rules.specs.History.{totals_of};
 ghost use Rattle.fdp_base.specs.Placement.{geometry_of};
-ghost use Rattle.fdp_core.specs.Book.{state_in};
-ghost use Rattle.fdp_core.specs.Pages.{blank_cells};
-ghost use Rattle.fdp_core.specs.BookSteps.{IsFlying};
-ghost use Rattle.fdp_core.specs.UsedOnce.{IsLegalOnce};
-ghost use Rattle.fdp_core.specs.Seen.{CountedSince, HoldsHistory, new_over};
-ghost use Rattle.fdp_core.specs.Stages.{IsStage};
-ghost use Rattle.fdp_core.specs.Steps.{IsFree, most_steps};
+ghost use Rattle.fdp_book.specs.Book.{state_in};
+ghost use Rattle.fdp_book.specs.Pages.{blank_cells};
+ghost use Rattle.fdp_book.specs.Steps.{IsFlying};
+ghost use Rattle.fdp_book.specs.UsedOnce.{IsLegalOnce};
+ghost use Rattle.fdp_core.specs.Seen.{CountedSince, HoldsHistory, failed_in, new_over};
+ghost use Rattle.fdp_book.specs.Stages.{IsStage};
+ghost use Rattle.fdp_book.specs.Stages.{IsFree};
+ghost use Rattle.fdp_core.specs.Steps.{most_steps};
 
-use crate::book::Book;
 use crate::counts::{Counts, counts_of};
-use crate::stage::Stage;
-use crate::ticket::Ticket;
 use fdp_base::{DriveConfig, Entry, Totals};
+use fdp_book::{Book, Stage, Ticket};
 use fdp_flash::Flash;
 use std::alloc::{AllocError, Global};
 use std::marker::Model;
@@ -44,9 +43,9 @@ impl<F: Flash> Model for Group<F> {
 
     ghost use Rattle.fdp_core.specs.Sound.{IsSoundGroup};
 
-    ghost view = { λ g. record { book = g.book; failed = g.failed; handed = g.handed; flash = g.flash } };
+    ghost view = { λ g. record { book = g.book; handed = g.handed; flash = g.flash } };
 
-    ghost invariant = { λ g. IsSoundGroup g.handed (F.state g.flash) g.book.config g.book.entries g.failed g.block.items };
+    ghost invariant = { λ g. IsSoundGroup g.handed (F.state g.flash) g.book g.failed g.block.items };
 }
 
 impl<F: Flash + Drop> Group<F> {
@@ -115,32 +114,30 @@ impl<F: Flash> Group<F> {
     pub fn entries(&self) -> &[Entry]
         ensures entries { result.now ≡ self.now.book.entries }
         ensures few { length result.now ≤ 300 * self.now.book.spent + 1 }
-        ensures legal { IsLegalOnce (F.state self.now.flash).told self.now.book.config self.now.book.entries }
-        ensures cells { HoldsHistory self.now.book.config (F.state self.now.flash) self.now.book.entries self.now.failed }
-        ensures counted { CountedSince self.now.handed (F.state self.now.flash) self.now.book.entries self.now.failed }
+        ensures legal { IsLegalOnce (F.state self.now.flash).told self.now.book.config self.now.book.found self.now.book.entries }
+        ensures cells { HoldsHistory (F.state self.now.flash) self.now.book }
+        ensures counted { CountedSince self.now.handed (F.state self.now.flash) self.now.book.entries }
     {
         self.book.entries()
     }
 
     /// The position of the first entry of this run.
-    #[tactic(auto, unfolding(fdp_rules::specs::History::fresh))]
     pub fn first(&self) -> u64
-        ensures { result ≡ (fresh self.now.book.config).totals.position + 1 }
+        ensures { result ≡ self.now.book.found.totals.position + 1 }
     {
-        let _ = self;
-        1
+        self.book.first()
     }
 
-    /// The position of the last entry, and the sums of the history.
+    /// The position of the last entry, and the sums with those before the history.
     pub fn totals(&self) -> Totals
-        ensures { result ≡ totals_of (fresh self.now.book.config) self.now.book.entries }
+        ensures { result ≡ totals_of self.now.book.found self.now.book.entries }
     {
         self.book.totals()
     }
 
-    /// Whether a call of the flash failed. No step may follow.
+    /// Whether a call of the flash failed: some entry tells of it. No step may follow.
     pub fn failed(&self) -> bool
-        ensures { result ≡ self.now.failed }
+        ensures { result ≡ failed_in self.now.book }
     {
         self.failed
     }
@@ -176,9 +173,9 @@ impl<F: Flash> Group<F> {
     pub fn finish(self) -> (F, Vec<Entry>)
         ensures flash { result.0 ≡ self.flash }
         ensures entries { result.1.items ≡ self.book.entries }
-        ensures legal { IsLegalOnce (F.state self.flash).told self.book.config self.book.entries }
-        ensures cells { HoldsHistory self.book.config (F.state self.flash) self.book.entries self.failed }
-        ensures counted { CountedSince self.handed (F.state self.flash) self.book.entries self.failed }
+        ensures legal { IsLegalOnce (F.state self.flash).told self.book.config self.book.found self.book.entries }
+        ensures cells { HoldsHistory (F.state self.flash) self.book }
+        ensures counted { CountedSince self.handed (F.state self.flash) self.book.entries }
     {
         let Group {
             flash,

@@ -2,22 +2,10 @@
 #![tactic(auto)]
 
 mod answer;
-mod book;
 mod counts;
-mod destination;
-mod extent;
-mod flight;
 mod group;
-mod log;
 mod media;
-mod next_page;
-mod room;
-mod stage;
-mod ticket;
 
 pub use answer::{Begun, Placed};
 pub use counts::Counts;
 pub use group::Group;
-pub use room::Room;
-pub use stage::Stage;
-pub use ticket::{Done, Ticket};

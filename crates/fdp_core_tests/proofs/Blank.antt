@@ -8,7 +8,7 @@ use Rattle.fdp_flash.specs.declared.cell.Cell.TheVariants.{Blank}
 use Rattle.fdp_flash.specs.declared.memory.FlashMem.{FlashMem}
 use Rattle.fdp_flash.specs.declared.plan.Plan.{Plan}
 use Rattle.fdp_flash.specs.FlashMem.{BeginsWith}
-use Rattle.fdp_core.specs.Pages.{blank_cells}
+use Rattle.fdp_book.specs.Pages.{blank_cells}
 
 -- one that is blank by its geometry is blank by the configuration
 pub begins-blank : (c : DriveConfig) (geometry : Geometry) (plan : Plan) (flash : FlashMem) → geometry ≡ geometry_of c → BeginsWith geometry (replicate (all_pages geometry) Blank) plan flash → BeginsWith (geometry_of c) (blank_cells c) plan flash

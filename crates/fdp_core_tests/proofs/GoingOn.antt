@@ -5,14 +5,14 @@ use Rattle.fdp_rules.specs.PlainState.{Going}
 use Rattle.fdp_flash.specs.FlashState.{FlashState}
 use Rattle.fdp_core.specs.declared.answer.Placed.{Placed}
 use Rattle.fdp_core.specs.declared.answer.Placed.TheVariants as placed
-use Rattle.fdp_core.specs.declared.stage.Stage.{Stage}
-use Rattle.fdp_core.specs.declared.stage.Stage.TheVariants as stages
-use Rattle.fdp_core.specs.declared.ticket.Done.{Done}
-use Rattle.fdp_core.specs.declared.ticket.Ticket.{Ticket}
+use Rattle.fdp_book.specs.declared.stage.Stage.{Stage}
+use Rattle.fdp_book.specs.declared.stage.Stage.TheVariants as stages
+use Rattle.fdp_book.specs.declared.ticket.Done.{Done}
+use Rattle.fdp_book.specs.declared.ticket.Ticket.{Ticket}
 use Rattle.fdp_core.specs.Answers.{Places, PlacesPage}
-use Rattle.fdp_core.specs.Book.{state_in}
+use Rattle.fdp_book.specs.Book.{state_in}
 use Rattle.fdp_core.specs.Seen.{Seen}
-use Rattle.fdp_core.specs.Tickets.{IsTicketOf}
+use Rattle.fdp_book.specs.Tickets.{IsTicketOf}
 use Rattle.fdp_core_tests.specs.Played.{CameToBegin, CameToPlace, IsBegun, MayGoOn, Played, ended, with_spare}
 
 ticket-same : (x y : Ticket) → Some x ≡ Some y → x ≡ y

@@ -9,15 +9,15 @@ use Rattle.fdp_rules.specs.Step.{IsQueue}
 use Rattle.fdp_flash.specs.FlashState.{FlashState}
 use Rattle.fdp_core.specs.declared.answer.Placed.{Placed}
 use Rattle.fdp_core.specs.declared.answer.Placed.TheVariants as placed
-use Rattle.fdp_core.specs.declared.stage.Stage.{Stage}
-use Rattle.fdp_core.specs.declared.ticket.Done.{Done}
-use Rattle.fdp_core.specs.declared.ticket.Ticket.{Ticket}
+use Rattle.fdp_book.specs.declared.stage.Stage.{Stage}
+use Rattle.fdp_book.specs.declared.ticket.Done.{Done}
+use Rattle.fdp_book.specs.declared.ticket.Ticket.{Ticket}
 use Rattle.fdp_core.specs.Answers.{Commits, EndsAtOnce, EndsInPlacing, PlacesPage, Starts}
-use Rattle.fdp_core.specs.Book.{state_in}
-use Rattle.fdp_core.specs.BookSteps.{IsServed}
-use Rattle.fdp_core.specs.Seen.{Seen}
-use Rattle.fdp_core.specs.Stages.{IsStage}
-use Rattle.fdp_core.specs.Steps.{IsFree}
+use Rattle.fdp_book.specs.Book.{state_in}
+use Rattle.fdp_book.specs.Steps.{IsServed}
+use Rattle.fdp_core.specs.Seen.{Seen, failed_in}
+use Rattle.fdp_book.specs.Stages.{IsStage}
+use Rattle.fdp_book.specs.Stages.{IsFree}
 use Rattle.fdp_core_tests.specs.declared.noted.Noted.{Noted}
 
 -- a drive, by queue the write that was started last, and the number of the next command
@@ -43,7 +43,7 @@ pub record IsPlayable (c : DriveConfig) (command : Command) : Type 0 where
 
 -- the drive has not failed, and has not made too many steps
 pub record MayMakeSteps {F : Type 0} (group : Seen F) : Type 0 where
-  pub well : group.failed ≡ false
+  pub well : (failed_in group.book) ≡ false
   pub spent : group.book.spent ≤ 1000000
 
 -- a command may be begun in a queue under a number, once there is memory
@@ -57,7 +57,7 @@ pub record MayPlay {F : Type 0} (group : Seen F) (queue number : ℕ) (command :
 pub record MayGoOn {F : Type 0} (player : Played F) (queue : ℕ) (stage : Stage) (ticket : Ticket) : Type 0 where
   pub known : ticket_in player.noted queue ≡ Some ticket
   pub stage_is : IsStage player.group.book ticket stage
-  pub well : player.group.failed ≡ false
+  pub well : failed_in player.group.book ≡ false
   pub spare : 0 < player.group.book.spare
 
 -- the ticket with which a queue may go on, or none

@@ -42,22 +42,22 @@ fn is_playable(command: &Command, config: &DriveConfig) -> bool
     ensures { IsTrue result ↔ IsPlayable config.now command.now }
 {
     match command {
-        Command::Write { count, payload, .. } => {
-            is_count(*count) && is_payload(payload, *count, config)
+        Command::Write(write) => {
+            is_count(write.count) && is_payload(&write.payload, write.count, config)
         }
-        Command::Read { count, .. } => is_count(*count),
-        Command::Zero { .. }
-        | Command::Dealloc { .. }
-        | Command::Flush { .. }
-        | Command::Delete { .. }
-        | Command::Status { .. }
-        | Command::Update { .. }
-        | Command::Log { .. }
-        | Command::SetFdp { .. }
-        | Command::GetFdp { .. }
-        | Command::SetEvents { .. }
-        | Command::Create { .. }
-        | Command::Other { .. } => false,
+        Command::Read(read) => is_count(read.count),
+        Command::Zero(_)
+        | Command::Dealloc(_)
+        | Command::Flush(_)
+        | Command::Delete(_)
+        | Command::Status(_)
+        | Command::Update(_)
+        | Command::Log(_)
+        | Command::SetFdp(_)
+        | Command::GetFdp(_)
+        | Command::SetEvents(_)
+        | Command::Create(_)
+        | Command::Other(_) => false,
     }
 }
 

@@ -1,16 +1,18 @@
 ghost use Rattle.std.specs.Prelude.{◌≡◌, ◌<◌, false, None, IfOk, Ok, OnErr};
 ghost use Rattle.fdp_rules.specs.PlainState.{Going};
-ghost use Rattle.fdp_core.specs.Book.{state_in};
+ghost use Rattle.fdp_book.specs.Book.{state_in};
 ghost use Rattle.fdp_core.specs.Steps.{MayBegin};
-ghost use Rattle.fdp_core.specs.Tickets.{IsTicketOf};
-ghost use Rattle.fdp_core.specs.declared.stage.Stage.TheVariants as stages;
-ghost use Rattle.fdp_core.specs.declared.ticket.Ticket.{Ticket as ATicket};
+ghost use Rattle.fdp_book.specs.Tickets.{IsTicketOf};
+ghost use Rattle.fdp_book.specs.declared.stage.Stage.TheVariants as stages;
+ghost use Rattle.fdp_book.specs.declared.ticket.Ticket.{Ticket as ATicket};
+ghost use Rattle.fdp_core.specs.Seen.{failed_in};
 ghost use Rattle.fdp_core_tests.specs.Played.{CameToBegin, CameToCommit, CameToPlace, IsBegun, IsTicketFor, MayGoOn, MayPlay, ended, ticket_in, with_spare};
 
 use crate::formed::may_play;
 use crate::noted::Noted;
 use fdp_base::{Command, Entry};
-use fdp_core::{Begun, Done, Group, Placed, Room, Stage, Ticket};
+use fdp_book::{Done, Room, Stage, Ticket};
+use fdp_core::{Begun, Group, Placed};
 use fdp_flash::Flash;
 use std::alloc::{AllocError, Global};
 use std::marker::Model;
@@ -127,7 +129,7 @@ impl<F: Flash> Player<F> {
         requires may { MayBegin self.old.group queue self.old.next command room }
         requires row { queue < 17 }
         requires spare { 0 < self.old.group.book.spare }
-        requires sound { self.old.group.failed ≡ false }
+        requires sound { failed_in self.old.group.book ≡ false }
         ensures { CameToBegin F.state self.old.group self.new queue self.old.next command result }
     {
         let number = self.next;

@@ -1,4 +1,3 @@
-pub mod Sums
 pub mod Tables
 pub mod Stored
 pub mod Counted

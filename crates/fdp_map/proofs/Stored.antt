@@ -8,7 +8,7 @@ use Rattle.fdp_rules.specs.Room.{lies_in, namespace_ids, size_of, stored, stored
 use Rattle.fdp_map.specs.Counting.{as_number}
 use Rattle.fdp_map.specs.declared.mapped.Mapped.{Mapped}
 use Rattle.fdp_map.specs.MapTable.{Agrees, MapTable, block_in, is_mapped_in, mapped_at, size_in, stored_from, stored_in, stored_in_row, with_mapped}
-use Rattle.fdp_map.proofs.Sums.{counted-bound, counting, counting-bound, sum_from, sum_from-bound, sum_from-cut, sum_from-last, sum_from-none, sum_from-one, sum_from-same, sum_from-zero}
+use Rattle.fdp_base.proofs.Sums.{counted-bound, counting, counting-bound, sum_from, sum_from-bound, sum_from-cut, sum_from-last, sum_from-none, sum_from-one, sum_from-same, sum_from-zero}
 use Rattle.fdp_map.proofs.Tables.{blocks_put, put_in, sizes_put}
 
 -- a place holds a block of a group

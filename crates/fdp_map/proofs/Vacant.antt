@@ -8,7 +8,7 @@ use Rattle.fdp_map.specs.declared.mapped.Mapped.{Mapped}
 use Rattle.fdp_map.specs.MapTable.{IsCounted, MapTable, block_in, is_mapped_in, mapped_at, row, size_in, stored_in}
 use Rattle.fdp_map.proofs.Counted.{IsKnown}
 use Rattle.fdp_map.proofs.Stored.{holds, of_one, stored_is}
-use Rattle.fdp_map.proofs.Sums.{counting, sum_from, sum_from-same, sum_from-zero}
+use Rattle.fdp_base.proofs.Sums.{counting, sum_from, sum_from-same, sum_from-zero}
 use Rattle.fdp_map.proofs.Tables.{block_past, blocks_with, sizes_with, with_row}
 
 -- a row has no block

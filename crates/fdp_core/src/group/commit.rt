@@ -1,12 +1,13 @@
 ghost use Rattle.std.specs.Prelude.{◌≡◌, ◌<◌, false};
 ghost use Rattle.fdp_rules.specs.PlainState.{Going};
-ghost use Rattle.fdp_core.specs.Book.{state_in};
-ghost use Rattle.fdp_core.specs.BookSteps.{IsReady};
-ghost use Rattle.fdp_core.specs.Tickets.{IsTicketOf};
+ghost use Rattle.fdp_book.specs.Book.{state_in};
+ghost use Rattle.fdp_book.specs.Steps.{IsReady};
+ghost use Rattle.fdp_book.specs.Tickets.{IsTicketOf};
 ghost use Rattle.fdp_core.specs.Answers.{Commits};
+ghost use Rattle.fdp_core.specs.Seen.{failed_in};
 
 use super::Group;
-use crate::ticket::{Done, Ticket};
+use fdp_book::{Done, Ticket};
 use fdp_flash::Flash;
 
 impl<F: Flash> Group<F> {
@@ -14,7 +15,7 @@ impl<F: Flash> Group<F> {
     pub fn commit(&mut self, ticket: Ticket) -> Done
         requires ticket { IsReady self.old.book ticket }
         requires spare { 0 < self.old.book.spare }
-        requires sound { self.old.failed ≡ false }
+        requires sound { failed_in self.old.book ≡ false }
         ensures { (g : Going) → IsTicketOf (state_in self.old.book) ticket g → Commits F.state self.old self.new ticket g result }
     {
         let moment = self.flash.moment();

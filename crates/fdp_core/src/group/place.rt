@@ -1,16 +1,16 @@
 ghost use Rattle.std.specs.Prelude.{◌≡◌, ◌<◌, false};
 ghost use Rattle.fdp_rules.specs.PlainState.{Going};
-ghost use Rattle.fdp_core.specs.Book.{state_in};
-ghost use Rattle.fdp_core.specs.BookSteps.{IsWaiting};
-ghost use Rattle.fdp_core.specs.Tickets.{ComesTo, IsTicketOf};
+ghost use Rattle.fdp_book.specs.Book.{state_in};
+ghost use Rattle.fdp_book.specs.Steps.{IsWaiting};
+ghost use Rattle.fdp_book.specs.Tickets.{ComesTo, IsTicketOf};
 ghost use Rattle.fdp_core.specs.Answers.{Places};
+ghost use Rattle.fdp_core.specs.Seen.{failed_in};
 
 use super::Group;
 use crate::answer::Placed;
 use crate::media::{MediaError, program};
-use crate::next_page::NextPage;
-use crate::ticket::Ticket;
 use fdp_base::{Spot, Status};
+use fdp_book::{NextPage, Ticket};
 use fdp_flash::Flash;
 
 impl<F: Flash> Group<F> {
@@ -18,7 +18,7 @@ impl<F: Flash> Group<F> {
     pub fn place(&mut self, ticket: Ticket) -> Placed
         requires ticket { IsWaiting self.old.book ticket }
         requires spare { 0 < self.old.book.spare }
-        requires sound { self.old.failed ≡ false }
+        requires sound { failed_in self.old.book ≡ false }
         ensures { (g : Going) → IsTicketOf (state_in self.old.book) ticket g → Places F.state self.old self.new ticket g result }
     {
         match self.book.next_page(&ticket) {
@@ -39,7 +39,7 @@ impl<F: Flash> Group<F> {
         requires ticket { IsWaiting self.old.book ticket }
         requires next { (g : Going) → IsTicketOf (state_in self.old.book) ticket g → ComesTo self.old.book ticket g (NextPage.At spot index spare.now) }
         requires spare { 0 < self.old.book.spare }
-        requires sound { self.old.failed ≡ false }
+        requires sound { failed_in self.old.book ≡ false }
         ensures { (g : Going) → IsTicketOf (state_in self.old.book) ticket g → Places F.state self.old self.new ticket g result }
     {
         let payload = self.book.payload(&ticket);

@@ -1,12 +1,12 @@
 ghost use Rattle.std.specs.Prelude.{◌≡◌, ◌<◌, false};
 ghost use Rattle.fdp_core.specs.Answers.{Begins};
 ghost use Rattle.fdp_core.specs.Steps.{MayBegin};
+ghost use Rattle.fdp_core.specs.Seen.{failed_in};
 
 use super::Group;
 use crate::answer::Begun;
-use crate::extent::extent_read;
-use crate::room::Room;
 use fdp_base::Command;
+use fdp_book::{FirstStep, Room};
 use fdp_flash::Flash;
 
 impl<F: Flash> Group<F> {
@@ -15,17 +15,19 @@ impl<F: Flash> Group<F> {
     pub fn start(&mut self, queue: u8, number: u16, command: Command, room: Room) -> Begun
         requires may { MayBegin self.old queue number command room }
         requires spare { 0 < self.old.book.spare }
-        requires sound { self.old.failed ≡ false }
+        requires sound { failed_in self.old.book ≡ false }
         ensures { Begins F.state self.old self.new queue number command result }
     {
-        if let Some(status) = self.book.refusal(&command) {
-            let (_, replies) = room.end(status, false);
-            let moment = self.flash.moment();
-            return Begun::Ended(self.book.complete(queue, number, command, replies, moment));
-        }
-        match extent_read(&command) {
-            Some(extent) => Begun::Ended(self.read(queue, number, command, extent, room)),
-            None => Begun::Going(self.book.start(queue, number, command, room)),
+        match self.book.first_step(&command) {
+            FirstStep::Refused(status) => {
+                let (_, replies) = room.end(status, false);
+                let moment = self.flash.moment();
+                Begun::Ended(self.book.complete(queue, number, command, replies, moment))
+            }
+            FirstStep::Read(read) => Begun::Ended(self.read(queue, number, command, read, room)),
+            FirstStep::Write(admission) => {
+                Begun::Going(self.book.start(queue, number, command, admission, room))
+            }
         }
     }
 }

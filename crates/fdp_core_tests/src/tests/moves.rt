@@ -1,5 +1,5 @@
 //! The moves of which tables are made, as words.
-use fdp_base::{Command, Payload};
+use fdp_base::{Command, Payload, Read, Write};
 use std::test::Fail;
 
 /// What a move asks of a drive: a write of blocks with the numbers from a seed on, or a read.
@@ -113,15 +113,15 @@ impl Asked {
                 dtype,
                 dspec,
                 seed,
-            } => Command::Write {
+            } => Command::Write(Write {
                 nsid,
                 slba,
                 count,
                 dtype,
                 dspec,
                 payload: Payload::Pattern(seed),
-            },
-            Asked::Read { nsid, slba, count } => Command::Read { nsid, slba, count },
+            }),
+            Asked::Read { nsid, slba, count } => Command::Read(Read { nsid, slba, count }),
         }
     }
 }

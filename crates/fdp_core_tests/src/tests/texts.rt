@@ -69,25 +69,12 @@ pub fn starts_text(alloc: Global, entries: &[Entry]) -> Result<String, AllocErro
 }
 
 fn start_text(alloc: Global, entry: &Entry) -> Result<Option<String>, AllocError> {
-    match entry {
-        Entry::Started {
-            rg,
-            ruh,
-            pid_valid,
-            ..
-        } => {
-            let sign = if *pid_valid { "" } else { "-" };
+    match entry.as_started() {
+        Some(started) => {
+            let (rg, ruh) = (started.rg, started.ruh);
+            let sign = if started.pid_valid { "" } else { "-" };
             Ok(Some(format!(in alloc; "{rg}.{ruh}{sign}")?))
         }
-        Entry::Host { .. }
-        | Entry::Placed { .. }
-        | Entry::Copied { .. }
-        | Entry::Moved { .. }
-        | Entry::Erased { .. }
-        | Entry::Retired { .. }
-        | Entry::Aside { .. }
-        | Entry::Shut { .. }
-        | Entry::Worn { .. }
-        | Entry::Reopened => Ok(None),
+        None => Ok(None),
     }
 }

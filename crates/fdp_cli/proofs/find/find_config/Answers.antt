@@ -1,6 +1,6 @@
 use Rattle.std.proofs.Common.{ap, sym, subst, ◌∙◌, Some, arith, length}
 use Rattle.fdp_cli.specs.declared.fault.Fault.{Fault}
-use Rattle.fdp_cli.specs.Found.{ConfigLacks, CountsSource}
+use Rattle.fdp_cli.specs.Wanted.{ConfigLacks, CountsSource}
 use Rattle.fdp_cli.proofs.Configuring.{config_counts, config_lacks}
 use Rattle.fdp_cli.proofs.find.find_config.Goals as goal
 

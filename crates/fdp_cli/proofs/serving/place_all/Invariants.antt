@@ -1,6 +1,8 @@
-use Rattle.std.proofs.Common.{◌<◌}
-use Rattle.fdp_cli.specs.Serving.{PlacesSome}
+use Rattle.fdp_cli.proofs.Served.{StillPlaces}
 use Rattle.fdp_cli.proofs.serving.place_all.Given as goal
 
-abbrev pub invariant-loop : goal.invariant-loop
-invariant-loop g l = PlacesSome g.F.Flash.state l.initial.group l.group l.initial.ticket l.ticket l.pages l.counter × (l.counter < l.pages)
+abbrev pub invariant-loop-next : goal.invariant-loop-next
+invariant-loop-next g l = StillPlaces g.F.Flash.state l.initial.group l.group l.initial.ticket l.ticket
+
+abbrev pub decreases-loop-next : goal.decreases-loop-next
+decreases-loop-next g l = l.group.book.spare

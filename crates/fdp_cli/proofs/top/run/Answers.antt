@@ -4,7 +4,7 @@ use Rattle.fdp_core.specs.Seen.{Seen}
 use Rattle.fdp_core.specs.Steps.{most_steps}
 use Rattle.fdp_cli.specs.Servable.{IsServable}
 use Rattle.fdp_cli.proofs.Small.{few_steps}
-use Rattle.fdp_cli.proofs.Shown.{begun_blank, idle_fresh, printed_front, printed_some, recorded, served_small, served_whole}
+use Rattle.fdp_cli.proofs.Shown.{begun_blank, idle_fresh, printed_front, printed_some, recorded, served_small, served_whole, told_totals}
 use Rattle.fdp_cli.proofs.top.run.Goals as goal
 
 pub fresh-requires-clause-blank : goal.fresh-requires-clause-blank
@@ -25,6 +25,11 @@ serve-requires-clause-steps g c =
 
 pub serve-requires-clause-idle : goal.serve-requires-clause-idle
 serve-requires-clause-idle g c = idle_fresh c.args.config.now c.in-Ok.flash c.in-Ok-fresh.group c.in-Ok-fresh.ensures
+
+pub print_output-requires-clause-totals : goal.print_output-requires-clause-totals
+print_output-requires-clause-totals g c =
+    let served = served_whole _ _ _ _ _ c.in-Ok-Whole.field-0-is c.in-Ok-Whole.ensures in
+    told_totals c.args.config.now c.in-Ok-fresh.group c.serve.new.group c.in-Ok.flash c.args.trace.now c.entries.result.now c.totals.result c.in-Ok-fresh.ensures served c.entries.ensures.entries c.totals.ensures
 
 pub print_output-requires-clause-small : goal.print_output-requires-clause-small
 print_output-requires-clause-small g c =

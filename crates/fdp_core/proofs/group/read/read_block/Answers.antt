@@ -1,4 +1,4 @@
-use Rattle.fdp_core.proofs.GroupReads.{at-success, fetches-absent, fetches-there, whole-there}
+use Rattle.fdp_core.proofs.Reading.{at-success, fetches-absent, fetches-there, whole-there}
 use Rattle.fdp_core.proofs.group.read.read_block.Goals as goal
 
 pub fetch-requires-clause-there : goal.fetch-requires-clause-there

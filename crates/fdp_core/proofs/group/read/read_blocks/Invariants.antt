@@ -10,8 +10,8 @@ abbrev pub invariant-loop-index : goal.invariant-loop-index
 invariant-loop-index g l = record {
   block : l.size ≡ l.book.config.block;
   read : IsReadFrom (g.F.Flash.state l.fn.flash) (g.F.Flash.state l.flash);
-  made : MakesCalls (g.F.Flash.state l.fn.flash) (g.F.Flash.state l.flash) (fetches_of (pages_of l.book l.extent.nsid l.extent.slba l.index));
-  size : length l.into ≡ l.extent.count * l.book.config.block;
-  done : IsTrue (g.F.Flash.state l.fn.flash).told → take (l.index * l.book.config.block) l.into ≡ blocks_from l.book l.extent.nsid l.extent.slba l.index;
-  rest : drop (l.index * l.book.config.block) l.into ≡ replicate ((l.extent.count - l.index) * l.book.config.block) 0;
+  made : MakesCalls (g.F.Flash.state l.fn.flash) (g.F.Flash.state l.flash) (fetches_of (pages_of l.book l.read.nsid l.read.slba l.index));
+  size : length l.into ≡ l.read.count * l.book.config.block;
+  done : IsTrue (g.F.Flash.state l.fn.flash).told → take (l.index * l.book.config.block) l.into ≡ blocks_from l.book l.read.nsid l.read.slba l.index;
+  rest : drop (l.index * l.book.config.block) l.into ≡ replicate ((l.read.count - l.index) * l.book.config.block) 0;
 }

@@ -1,0 +1,4 @@
+pub mod Verdicts
+pub mod Successes
+pub mod Points
+pub mod PutPages

@@ -1,0 +1,4 @@
+pub mod Pages
+pub mod Points
+pub mod Steps
+pub mod Nexts

@@ -1,0 +1,3 @@
+pub mod Unused
+pub mod UsedMore
+pub mod More

@@ -1,0 +1,14 @@
+pub mod Logged
+pub mod Extent
+pub mod Room
+pub mod Pages
+pub mod UsedOnce
+pub mod Book
+pub mod FirstSteps
+pub mod Tickets
+pub mod Steps
+pub mod Reading
+pub mod Configured
+pub mod Held
+pub mod Flown
+pub mod Stages

@@ -1,0 +1,38 @@
+ghost use Rattle.fdp_book.specs.Book.{state_in};
+ghost use Rattle.fdp_book.specs.Reading.{StandsAt};
+
+use super::Book;
+use fdp_base::{DataSpare, Spot};
+
+/// Where a block stands, and the spare bytes of its page.
+#[derive(Clone, Copy, Debug, PartialEq, Eq)]
+pub struct Page {
+    pub spot: Spot,
+    pub spare: [u8; 32],
+}
+
+impl Book {
+    /// The page of a block, if it is there. It takes a constant time.
+    pub fn page_of(&self, nsid: u32, lba: u64) -> Option<Page>
+        ensures { StandsAt self.now ((state_in self.now).blocks nsid lba) result }
+    {
+        match self.tables.map.get(nsid, lba) {
+            Some(mapped) => {
+                let spare = DataSpare {
+                    ruh: mapped.ruh,
+                    rg: mapped.rg,
+                    generation: mapped.generation,
+                    ticket: mapped.ticket,
+                    nsid,
+                    index: mapped.index as u16,
+                    lba,
+                };
+                Some(Page {
+                    spot: mapped.spot,
+                    spare: spare.encode(),
+                })
+            }
+            None => None,
+        }
+    }
+}

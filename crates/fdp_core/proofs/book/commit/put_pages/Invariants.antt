@@ -1,5 +1,0 @@
-use Rattle.fdp_core.proofs.PutPages.{IsPutTo}
-use Rattle.fdp_core.proofs.book.commit.put_pages.Given as goal
-
-abbrev pub invariant-loop-index : goal.invariant-loop-index
-invariant-loop-index l = IsPutTo l.fn.map l.map l.nsid l.slba l.first l.pages l.index
