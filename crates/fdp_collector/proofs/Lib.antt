@@ -1,0 +1,9 @@
+pub mod Copied
+pub mod Used
+pub mod Readied
+pub mod Kept
+pub mod Opening
+pub mod Using
+pub mod Stepped
+pub mod Steps
+pub mod Stored

@@ -1,0 +1,4 @@
+pub mod Copying
+pub mod Erasing
+pub mod Ready
+pub mod Step

@@ -1,0 +1,11 @@
+//! The steps of relocation, with the calls of the flash that they make.
+#![tactic(auto)]
+
+mod copy_step;
+mod copying;
+mod erasing;
+mod step;
+
+pub use copying::{Copying, copy_page};
+pub use erasing::erase_victim;
+pub use step::{Lost, Step, advance};

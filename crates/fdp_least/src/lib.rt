@@ -1,0 +1,8 @@
+//! The least of many keys, known at once.
+#![tactic(auto)]
+
+mod least;
+#[cfg(test)]
+mod tests;
+
+pub use least::Least;

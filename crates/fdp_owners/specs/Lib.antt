@@ -1,0 +1,2 @@
+pub mod OwnerTable
+pub mod Owned

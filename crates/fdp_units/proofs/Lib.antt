@@ -1,0 +1,5 @@
+pub mod States
+pub mod Groups
+pub mod Chosen
+pub mod Tables
+pub mod Counted

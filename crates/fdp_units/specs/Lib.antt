@@ -1,0 +1,3 @@
+pub mod DataUnits
+pub mod GroupTable
+pub mod UnitTable
