@@ -2,6 +2,7 @@ pub mod Answered
 pub mod Blocks
 pub mod Calls
 pub mod Called
+pub mod Failing
 pub mod Fates
 pub mod Faults
 pub mod Filled
@@ -10,7 +11,9 @@ pub mod Lists
 pub mod Held
 pub mod ImageCells
 pub mod OnList
+pub mod OnlyReads
 pub mod Pages
+pub mod Planned
 pub mod Reading
 pub mod Replay
 pub mod Runs

@@ -2,12 +2,15 @@ pub mod Answers
 pub mod Area
 pub mod Blocks
 pub mod Cells
+pub mod Failing
 pub mod FlashMem
 pub mod FlashState
 pub mod Layout
 pub mod MemoryState
 pub mod Noted
+pub mod OnlyReads
 pub mod Plan
+pub mod Planned
 pub mod Read
 pub mod Recorded
 pub mod Runs

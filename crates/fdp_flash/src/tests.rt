@@ -309,57 +309,99 @@ fn image_after(
     looked(alloc, &mut next)
 }
 
+/// Whether a stop in this call leaves these images, in the order of `OUTCOMES`.
+fn leaves(
+    alloc: Global,
+    flash: &FlashMem,
+    moment: u64,
+    images: &[&str; 3],
+) -> Result<bool, AllocError> {
+    for (outcome, image) in OUTCOMES.iter().zip(images.iter()) {
+        let told = image_after(alloc, flash, moment, *outcome)?;
+        if told.as_str() != *image {
+            return Ok(false);
+        }
+    }
+    Ok(true)
+}
+
+/// A flash that has recorded the calls of the script.
+fn recorded(alloc: Global) -> Result<FlashMem, AllocError> {
+    let mut flash = made(alloc, 9, None, None)?;
+    play(alloc, &mut flash, &SCRIPT)?;
+    Ok(flash)
+}
+
 #[test]
 fn images_are_what_a_stop_leaves(rt: HostRuntime) -> Result<(), Fail> {
-    let mut flash = made(rt.alloc(), 9, None, None)?;
-    play(rt.alloc(), &mut flash, &SCRIPT)?;
+    let flash = recorded(rt.alloc())?;
     for moment in 1..=9 {
         let images = &IMAGES[moment as usize - 1];
-        for (outcome, image) in OUTCOMES.iter().zip(images.iter()) {
-            let told = image_after(rt.alloc(), &flash, moment, *outcome)?;
-            assert_eq!(rt; told.as_str(), *image, "{moment}");
-        }
+        assert!(rt; leaves(rt.alloc(), &flash, moment, images)?, "{moment}");
     }
     assert!(rt; !flash.has_recorded(0));
     assert!(rt; !flash.has_recorded(10));
     Ok(())
 }
 
+/// Whether a flash with this failure answers the steps so, and then has these pages.
+fn plays(
+    alloc: Global,
+    failing: Option<(u64, Outcome)>,
+    steps: &[Step],
+    answers: &str,
+    cells: &str,
+) -> Result<bool, AllocError> {
+    let mut flash = made(alloc, 0, failing, None)?;
+    let letters = play(alloc, &mut flash, steps)?;
+    let drawing = drawn(alloc, flash.cells())?;
+    Ok(letters.as_str() == answers && drawing.as_str() == cells)
+}
+
+const TORN: [Step; 8] = [
+    Step::Program(2, 0, b'6'),
+    Step::Program(3, 0, b'7'),
+    Step::Look(3, 0),
+    Step::Look(3, 1),
+    Step::Fetch(3, 0, b'7'),
+    Step::Fetch(2, 0, b'7'),
+    Step::Program(2, 0, b'8'),
+    Step::Look(4, 0),
+];
+
+/// A page that was skipped stays blank, and is not programmed before its unit is erased.
+const SKIPPED: [Step; 8] = [
+    Step::Program(1, 1, b'4'),
+    Step::Program(1, 0, b'5'),
+    Step::Look(1, 0),
+    Step::Fetch(1, 1, b'4'),
+    Step::Program(1, 1, b'6'),
+    Step::Erase(1),
+    Step::Program(1, 0, b'7'),
+    Step::Look(1, 0),
+];
+
 #[test]
-fn torn_pages_and_areas(rt: HostRuntime) -> Result<(), Fail> {
-    let mut flash = made(rt.alloc(), 0, Some((2, Outcome::Torn)), None)?;
-    let steps = [
-        Step::Program(2, 0, b'6'),
-        Step::Program(3, 0, b'7'),
-        Step::Look(3, 0),
-        Step::Look(3, 1),
-        Step::Fetch(3, 0, b'7'),
-        Step::Fetch(2, 0, b'7'),
-        Step::Program(2, 0, b'8'),
-        Step::Look(4, 0),
-    ];
-    assert_eq!(rt; play(rt.alloc(), &mut flash, &steps)?.as_str(), "DF~.OO--");
-    assert!(rt; flash.has_place(Spot { unit: 3, page: 0 }));
-    assert!(rt; erase_area(&mut flash, 2, 2) == Wrote::Done);
-    assert_eq!(rt; drawn(rt.alloc(), flash.cells())?.as_str(), "........");
+fn torn_and_skipped_pages(rt: HostRuntime) -> Result<(), Fail> {
+    let torn = Some((2, Outcome::Torn));
+    assert!(rt; plays(rt.alloc(), torn, &TORN, "DF~.OO--", "....6.~.")?);
+    assert!(rt; plays(rt.alloc(), None, &SKIPPED, "D-.4-DD7", "..7.....")?);
     Ok(())
 }
 
-/// A page that was skipped stays blank, and is not programmed before its unit is erased.
+/// Whether the area of both units at the end is blank once it is erased.
+fn erases_an_area(alloc: Global) -> Result<bool, AllocError> {
+    let mut flash = made(alloc, 0, None, None)?;
+    play(alloc, &mut flash, &TORN)?;
+    if !flash.has_place(Spot { unit: 3, page: 0 }) {
+        return Ok(false);
+    }
+    let wrote = erase_area(&mut flash, 2, 2);
+    Ok(wrote == Wrote::Done && drawn(alloc, flash.cells())?.as_str() == "........")
+}
+
 #[test]
-fn skipped_pages(rt: HostRuntime) -> Result<(), Fail> {
-    let mut flash = made(rt.alloc(), 0, None, None)?;
-    let steps = [
-        Step::Program(1, 1, b'4'),
-        Step::Program(1, 0, b'5'),
-        Step::Look(1, 0),
-        Step::Fetch(1, 1, b'4'),
-        Step::Program(1, 1, b'6'),
-        Step::Erase(1),
-        Step::Program(1, 0, b'7'),
-        Step::Look(1, 0),
-    ];
-    assert_eq!(rt; play(rt.alloc(), &mut flash, &steps)?.as_str(), "D-.4-DD7");
-    assert_eq!(rt; flash.programs(), 2);
+fn areas(rt: HostRuntime) -> Result<(), Fail> {
+    assert!(rt; erases_an_area(rt.alloc())?);
     Ok(())
 }

@@ -2,7 +2,7 @@
 use Rattle.std.proofs.Common.{◌≡◌, ℕ, zero, suc, ◌+◌, ◌<◌, ◌≤◌, ◌⊎◌, Bool, true, false, List, [], ◌∷◌, ◌++◌, length, set, drop, take, Option, Some, None, refl, sym, ap, subst, ◌∙◌, arith, inl, inr, ⊎_elim}
 use Rattle.std.specs.Prelude.{fold, if◌then◌else◌, map, nat_lt, option_map, slice_get}
 use Rattle.std.proofs.lemmas.Bool.{cases_Bool}
-use Rattle.std.proofs.lemmas.List.{drop-set-add, drop-set-lt, length-drop, length-set, length-take-le, take-set-le}
+use Rattle.std.proofs.lemmas.List.{drop-set-add, drop-set-lt, length-append, length-drop, length-set, length-take-le, take-set-le}
 use Rattle.std.proofs.lemmas.Slice.Eq.{bytes_eq-Decides}
 use Rattle.std.specs.List.{concat}
 use Rattle.fdp_base.specs.declared.config.DriveConfig.{DriveConfig}
@@ -14,7 +14,7 @@ use Rattle.fdp_base.specs.Placement.{geometry_of}
 use Rattle.fdp_flash.specs.declared.cell.Cell.{Cell}
 use Rattle.fdp_flash.specs.declared.cell.Cell.TheVariants.{Blank, Torn, Whole}
 use Rattle.fdp_flash.specs.Cells.{IsProgrammed, ProgramMayLeave}
-use Rattle.fdp_flash.specs.Layout.{first_page}
+use Rattle.fdp_flash.specs.Layout.{first_page, page_number}
 use Rattle.fdp_records.specs.declared.change.Change.{Change}
 use Rattle.fdp_records.specs.declared.change.Change.TheVariants as changes
 use Rattle.fdp_records.specs.declared.spare.Stamp.{Stamp}
@@ -26,7 +26,7 @@ use Rattle.fdp_image.specs.Areas.{Sealed, area_of, area_unit, current_area, data
 use Rattle.fdp_image.specs.Checkpoint.{said_by_checkpoint}
 use Rattle.fdp_image.specs.Reading.{Reading}
 use Rattle.fdp_image.specs.Reads.{all_of, changes_in, extent, is_checkpoint_of, next_page, reads_as, said_by_area, said_by_current}
-use Rattle.fdp_image.specs.Saving.{IsNextRecord, IsSavedIn, ReadsWithOrWithout}
+use Rattle.fdp_image.specs.Saving.{AreBlankFrom, CanGoOn, IsCurrent, IsNextRecord, IsSavedIn, ReadsWithOrWithout}
 use Rattle.fdp_image.proofs.Journaling.{journal_grows, journal_stays, slice_get-set_other}
 
 -- ---- the areas
@@ -40,7 +40,7 @@ take-set (suc n) zero (x ∷ xs) y = refl
 take-set (suc n) (suc k) (x ∷ xs) y = ap (λ (ys : List Cell). x ∷ ys) (take-set n k xs y)
 
 -- a page of an area that is set is a page of it
-area_set : (g : Geometry) (area k : ℕ) (cells : List Cell) (cell : Cell) → area_of g area (set cells (first_page g (area_unit g area) + k) cell) ≡ set (area_of g area cells) k cell
+pub area_set : (g : Geometry) (area k : ℕ) (cells : List Cell) (cell : Cell) → area_of g area (set cells (first_page g (area_unit g area) + k) cell) ≡ set (area_of g area cells) k cell
 unfolding area_of
 area_set g area k cells cell =
     let first = first_page g (area_unit g area) in
@@ -50,13 +50,13 @@ second_first : (g : Geometry) → first_page g (area_unit g 1) ≡ first_page g 
 second_first g = grind arith
 
 -- and of none of the other
-second_kept : (g : Geometry) (k : ℕ) (cells : List Cell) (cell : Cell) → k < area_pages g → area_of g 1 (set cells (first_page g (area_unit g 0) + k) cell) ≡ area_of g 1 cells
+pub second_kept : (g : Geometry) (k : ℕ) (cells : List Cell) (cell : Cell) → k < area_pages g → area_of g 1 (set cells (first_page g (area_unit g 0) + k) cell) ≡ area_of g 1 cells
 unfolding area_of
 second_kept g k cells cell lt =
     let e = second_first g in
     ap (take (area_pages g)) (drop-set-lt (first_page g (area_unit g 1)) cells (first_page g (area_unit g 0) + k) cell (omega arith))
 
-first_kept : (g : Geometry) (k : ℕ) (cells : List Cell) (cell : Cell) → area_of g 0 (set cells (first_page g (area_unit g 1) + k) cell) ≡ area_of g 0 cells
+pub first_kept : (g : Geometry) (k : ℕ) (cells : List Cell) (cell : Cell) → area_of g 0 (set cells (first_page g (area_unit g 1) + k) cell) ≡ area_of g 0 cells
 unfolding area_of
 first_kept g k cells cell =
     let n = area_pages g in
@@ -65,7 +65,7 @@ first_kept g k cells cell =
     let place : first_page g (area_unit g 1) + k ≡ first + (n + k) = omega arith in
     ap (λ (p : ℕ). take n (drop first (set cells p cell))) place ∙ ap (take n) (drop-set-add first cells (n + k) cell) ∙ take-set-le n (drop first cells) (n + k) cell (omega arith)
 
-area_long : (g : Geometry) (area : ℕ) (cells : List Cell) → area ≤ 1 → length cells ≡ all_pages g → length (area_of g area cells) ≡ area_pages g
+pub area_long : (g : Geometry) (area : ℕ) (cells : List Cell) → area ≤ 1 → length cells ≡ all_pages g → length (area_of g area cells) ≡ area_pages g
 unfolding area_of
 area_long g area cells two size =
     let first = first_page g (area_unit g area) in
@@ -140,11 +140,11 @@ which (Some x) (Some y) n s e = ⊎_elim later earlier (cases_Bool (nat_lt x.sta
 
 -- ---- what the current area says
 
-fold-push : {X Y : Type 0} (f : X → Y → X) (a : X) (ys : List Y) (y : Y) → fold f a (ys ++ y ∷ []) ≡ f (fold f a ys) y
+pub fold-push : {X Y : Type 0} (f : X → Y → X) (a : X) (ys : List Y) (y : Y) → fold f a (ys ++ y ∷ []) ≡ f (fold f a ys) y
 fold-push f a [] y = refl
 fold-push f a (z ∷ zs) y = fold-push f (f a z) zs y
 
-all-push : {X : Type 0} (os : List (Option X)) (xs : List X) (x : X) → all_of os ≡ Some xs → all_of (os ++ Some x ∷ []) ≡ Some (xs ++ x ∷ [])
+pub all-push : {X : Type 0} (os : List (Option X)) (xs : List X) (x : X) → all_of os ≡ Some xs → all_of (os ++ Some x ∷ []) ≡ Some (xs ++ x ∷ [])
 unfolding all_of
 all-push {X} [] xs x e =
     let none : [] ≡ xs = cc in
@@ -158,7 +158,7 @@ all-push {X} (Some y ∷ os) xs x e = of_rest (all_of os) refl (λ ys is. all-pu
       let same : y ∷ ys ≡ xs = cc in
       ap (option_map (λ (zs : List X). y ∷ zs)) (pushed ys is) ∙ ap (λ (zs : List X). Some (zs ++ x ∷ [])) same
 
-map-push : (pages : List (List ℕ)) (page : List ℕ) → map decoded (pages ++ page ∷ []) ≡ map decoded pages ++ decoded page ∷ []
+pub map-push : (pages : List (List ℕ)) (page : List ℕ) → map decoded (pages ++ page ∷ []) ≡ map decoded pages ++ decoded page ∷ []
 map-push [] page = refl
 map-push (p ∷ ps) page = ap (λ (xs : List (Option (Change × Totals))). decoded p ∷ xs) (map-push ps page)
 
@@ -244,12 +244,19 @@ area_read g cells number s z cell current room stamp grows = ⊎_elim first seco
       ∙ ap (λ (o : Option Sealed). later_of (numbered 0 (sealed_in (area_of g 0 cells))) (numbered 1 o)) one
       ∙ h.stays z stamp
 
-number_small : (g : Geometry) (cells : List Cell) (number : ℕ) (s : Sealed) → current_area g cells ≡ Some (number, s) → number ≤ 1
+pub number_small : (g : Geometry) (cells : List Cell) (number : ℕ) (s : Sealed) → current_area g cells ≡ Some (number, s) → number ≤ 1
 unfolding current_area numbered
 number_small g cells number s current = ⊎_elim (λ h. omega (arith, h.number)) (λ h. omega (arith, h.number)) (which (sealed_in (area_of g 0 cells)) (sealed_in (area_of g 1 cells)) number s current)
 
+-- the current area is sealed
+pub current_sealed : (g : Geometry) (cells : List Cell) (number : ℕ) (s : Sealed) → current_area g cells ≡ Some (number, s) → sealed_in (area_of g number cells) ≡ Some s
+unfolding current_area numbered
+current_sealed g cells number s current =
+    ⊎_elim (λ h. ap (λ (a : ℕ). sealed_in (area_of g a cells)) h.number ∙ h.sealed) (λ h. ap (λ (a : ℕ). sealed_in (area_of g a cells)) h.number ∙ h.sealed)
+    (which (sealed_in (area_of g 0 cells)) (sealed_in (area_of g 1 cells)) number s current)
+
 -- what an image reads as whose current area is known
-read_by : (c : DriveConfig) (cells : List Cell) (number : ℕ) (s : Sealed) → current_area (geometry_of c) cells ≡ Some (number, s) → reads_as c cells ≡ said_by_area c s
+pub read_by : (c : DriveConfig) (cells : List Cell) (number : ℕ) (s : Sealed) → current_area (geometry_of c) cells ≡ Some (number, s) → reads_as c cells ≡ said_by_area c s
 unfolding reads_as said_by_current
 read_by c cells number s current = ap (said_by_current c cells) current
 
@@ -289,7 +296,35 @@ next_record_reads c cells r at spare bytes x image size read next left =
     behind_data : (g : Geometry) (number k page : ℕ) → page < data_pages g → page < first_page g (area_unit g number) + k
     behind_data g number k page lt = grind (arith, lt)
 
-extent_one : (x : Change) → extent x ≡ 1
+-- whatever the program of the page behind the journal leaves, its area stays current
+pub next_page_current : (g : Geometry) (cells : List Cell) (number : ℕ) (s : Sealed) (at : Spot) (bytes : List ℕ) (image : List Cell)
+    → length cells ≡ all_pages g → CanGoOn g cells number s → next_page s < area_pages g
+    → page_number g at ≡ first_page g (area_unit g number) + next_page s
+    → ProgramMayLeave g cells at (system_spare (record { kind = Journal; number = length s.journal; stamp = s.stamp })) bytes image → IsCurrent g image number s.stamp
+next_page_current g cells number s at bytes image size open_ room at_is left =
+    let long : next_page s < length (area_of g number cells) = omega (arith, area_long g number cells (number_small g cells number s open_.current) size) in
+    let place : image ≡ set cells (first_page g (area_unit g number) + next_page s) left.cell = left.cells ∙ ap (λ (k : ℕ). set cells k left.cell) at_is in
+    let same : page_bytes Journal (length s.journal) s.stamp left.cell ≡ None → IsCurrent g image number s.stamp =
+    λ none. record {
+      area = s;
+      current = ap (current_area g) place ∙ area_read g cells number s s left.cell open_.current room refl (λ sealed. journal_stays (area_of g number cells) s left.cell sealed long none);
+      stamp = refl;
+    } in
+    let more : left.cell ≡ Whole (system_spare (record { kind = Journal; number = length s.journal; stamp = s.stamp })) bytes → IsCurrent g image number s.stamp =
+    λ whole. record {
+      area = with_page s bytes;
+      current =
+          ap (current_area g) place
+          ∙ area_read g cells number s (with_page s bytes) left.cell open_.current room refl
+          (λ sealed. journal_grows (area_of g number cells) s left.cell bytes sealed long open_.blank (ap (page_bytes Journal (length s.journal) s.stamp) whole ∙ whole_page (length s.journal) s.stamp bytes));
+      stamp = refl;
+    } in
+    elim left.page [
+      | inl blank ↦ same (no_page (length s.journal) s.stamp left.cell (inl blank))
+      | inr other ↦ elim other [ inl torn ↦ same (no_page (length s.journal) s.stamp left.cell (inr torn)) | inr whole ↦ more whole ]
+    ]
+
+pub extent_one : (x : Change) → extent x ≡ 1
 extent_one (changes.Write nsid slba pid pid_invalid pages) = refl
 extent_one (changes.Clear nsid ranges) = refl
 extent_one (changes.Update nsid closed pids) = refl
@@ -300,7 +335,7 @@ extent_one (changes.SetEvents ruh on mask) = refl
 extent_one (changes.Moved victim first second handles) = refl
 extent_one (changes.Shut rg ruh) = refl
 
-slice_get-set_above : (cells : List Cell) (k j : ℕ) (cell : Cell) → k < j → slice_get (set cells k cell) j ≡ slice_get cells j
+pub slice_get-set_above : (cells : List Cell) (k j : ℕ) (cell : Cell) → k < j → slice_get (set cells k cell) j ≡ slice_get cells j
 slice_get-set_above [] zero j cell lt = refl
 slice_get-set_above [] (suc k) j cell lt = refl
 slice_get-set_above (c ∷ cs) k zero cell lt = absurd (omega arith)
@@ -334,4 +369,27 @@ next_record_saved c cells r at spare bytes x image size read next done =
           let same : area_of g number image ≡ set (area_of g number cells) (next_page s) cell = ap (area_of g number) place ∙ area in
           let within : k < length (area_of g number cells) = omega (arith, hi, ap length same, length-set (area_of g number cells) (next_page s) cell) in
           ap (λ (cs : List Cell). slice_get cs k) same ∙ slice_get-set_above (area_of g number cells) (next_page s) k cell (omega (arith, lo, one)) ∙ next.blank k (omega (arith, lo, one)) within;
+    }
+
+-- the page of the journal that is programmed: the journal goes on behind it
+pub next_page_done : (g : Geometry) (cells : List Cell) (number : ℕ) (s : Sealed) (at : Spot) (bytes : List ℕ) (image : List Cell)
+    → length cells ≡ all_pages g → CanGoOn g cells number s → next_page s < area_pages g
+    → page_number g at ≡ first_page g (area_unit g number) + next_page s
+    → IsProgrammed g cells at (system_spare (record { kind = Journal; number = length s.journal; stamp = s.stamp })) bytes image → CanGoOn g image number (with_page s bytes)
+next_page_done g cells number s at bytes image size open_ room at_is done =
+    let long : next_page s < length (area_of g number cells) = omega (arith, area_long g number cells (number_small g cells number s open_.current) size) in
+    let cell = Whole (system_spare (record { kind = Journal; number = length s.journal; stamp = s.stamp })) bytes in
+    let new = set cells (first_page g (area_unit g number) + next_page s) cell in
+    let place : image ≡ new = done ∙ ap (λ (k : ℕ). set cells k cell) at_is in
+    let area : area_of g number new ≡ set (area_of g number cells) (next_page s) cell = area_set g number (next_page s) cells cell in
+    let grown : next_page (with_page s bytes) ≡ next_page s + 1 = omega (arith, length-append s.journal (bytes ∷ [])) in
+    record {
+      current =
+          ap (current_area g) place
+          ∙ area_read g cells number s (with_page s bytes) cell open_.current room refl
+          (λ sealed. journal_grows (area_of g number cells) s cell bytes sealed long open_.blank (whole_page (length s.journal) s.stamp bytes));
+      blank = λ k lo hi.
+          let same : area_of g number image ≡ set (area_of g number cells) (next_page s) cell = ap (area_of g number) place ∙ area in
+          let within : k < length (area_of g number cells) = omega (arith, hi, ap length same, length-set (area_of g number cells) (next_page s) cell) in
+          ap (λ (cs : List Cell). slice_get cs k) same ∙ slice_get-set_above (area_of g number cells) (next_page s) k cell (omega (arith, lo, grown)) ∙ open_.blank k (omega (arith, lo, grown)) within;
     }

@@ -14,7 +14,9 @@ use Rattle.fdp_rules.specs.History.{first_state, fresh}
 use Rattle.fdp_rules.specs.PlainState.{PlainState}
 use Rattle.fdp_image.specs.Applied.{applied}
 use Rattle.fdp_image.specs.Areas.{Sealed, current_area, data_pages}
-use Rattle.fdp_image.specs.Checkpoint.{checkpoint_size, is_checkpoint, said_by_checkpoint}
+use Rattle.fdp_image.specs.Checkpoint.{said_by_checkpoint}
+use Rattle.fdp_snapshot.specs.Checkpoint.{checkpoint_size, is_checkpoint}
+use Rattle.fdp_snapshot.specs.Reading.{keys_in, summary_in}
 use Rattle.fdp_image.specs.CheckpointFields.{same_keys}
 use Rattle.fdp_image.specs.Reading.{Reading}
 
@@ -47,8 +49,8 @@ next_page area = suc (length area.checkpoint) + length area.journal
 unfoldable pub is_checkpoint_of : DriveConfig → Sealed → Bool
 is_checkpoint_of c area =
     let bytes = concat area.checkpoint in
-    is_checkpoint area.stamp.version bytes && list_all (λ same. same) (same_keys c bytes)
-    && nat_lt (length bytes) (checkpoint_size bytes + c.block)
+    is_checkpoint area.stamp.version bytes && list_all (λ same. same) (same_keys c (keys_in bytes))
+    && nat_lt (length bytes) (checkpoint_size (summary_in bytes) + c.block)
 
 -- what a sealed area says: its checkpoint with the changes of its journal
 unfoldable pub said_by_area : DriveConfig → Sealed → Option Reading

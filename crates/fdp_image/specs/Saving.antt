@@ -1,6 +1,7 @@
 -- What is known before the page of a change is programmed, and what its programming may leave.
 use Rattle.std.specs.Prelude.{◌≡◌, ◌⊎◌, slice_get, ℕ, ◌+◌, ◌<◌, ◌≤◌, List, [], ◌∷◌, ◌++◌, length, Some}
 use Rattle.fdp_base.specs.declared.config.DriveConfig.{DriveConfig}
+use Rattle.fdp_base.specs.declared.config.Geometry.{Geometry}
 use Rattle.fdp_base.specs.declared.entry.Entry.{Entry}
 use Rattle.fdp_base.specs.declared.entry.Spot.{Spot}
 use Rattle.fdp_base.specs.declared.entry.Totals.{Totals}
@@ -10,6 +11,7 @@ use Rattle.fdp_flash.specs.declared.cell.Cell.{Cell}
 use Rattle.fdp_flash.specs.declared.cell.Cell.TheVariants.{Blank}
 use Rattle.fdp_flash.specs.Layout.{first_page, page_number}
 use Rattle.fdp_records.specs.declared.change.Change.{Change}
+use Rattle.fdp_records.specs.declared.spare.Stamp.{Stamp}
 use Rattle.fdp_records.specs.declared.spare.SystemKind.TheVariants.{Journal}
 use Rattle.fdp_records.specs.Reading.{decoded}
 use Rattle.fdp_records.specs.Spares.{system_spare}
@@ -24,6 +26,17 @@ use Rattle.fdp_image.specs.Valid.{IsValid}
 -- from this page on all pages are blank
 abbrev pub AreBlankFrom : ℕ → List Cell → Type 0
 AreBlankFrom first cells = (k : ℕ) → first ≤ k → k < length cells → slice_get cells k ≡ Some Blank
+
+-- the journal of the current area can go on: all pages of the area behind it are blank
+pub record CanGoOn (g : Geometry) (cells : List Cell) (number : ℕ) (area : Sealed) : Type 0 where
+  pub current : current_area g cells ≡ Some (number, area)
+  pub blank : AreBlankFrom (next_page area) (area_of g number cells)
+
+-- an area is current, with this version and epoch
+pub record IsCurrent (g : Geometry) (cells : List Cell) (number : ℕ) (t : Stamp) : Type 0 where
+  pub area : Sealed
+  pub current : current_area g cells ≡ Some (number, area)
+  pub stamp : area.stamp ≡ t
 
 -- a page behind the journal of the current area, blank as all behind it, would tell a change with this spare and these bytes
 pub record IsNextRecord (c : DriveConfig) (cells : List Cell) (at : Spot) (spare bytes : List ℕ) (x : Change × Totals) : Type 0 where

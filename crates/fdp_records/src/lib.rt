@@ -16,6 +16,7 @@ mod spare;
 mod tests;
 
 pub use bad_record::BadRecord;
+pub use bytes::{put, read_u16, read_u32, read_u64};
 pub use change::{Change, PageNumbers, UnitPages};
 pub use kind::RecordKind;
 pub use page_set::PageSet;

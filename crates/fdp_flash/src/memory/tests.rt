@@ -1,3 +1,5 @@
+ghost use Rattle.std.specs.Prelude.{◌≡◌, IfOk};
+
 use crate::answer::{Seen, Wrote};
 use crate::flash::Flash;
 use crate::memory::FlashMem;
@@ -7,17 +9,24 @@ use fdp_base::{Sequence, Spot};
 use std::alloc::{AllocError, Global};
 use std::test::Fail;
 
-/// A blank flash whose counts have one step left, and which fails at the last moment if it is to.
-fn nearly_counted(alloc: Global, failing: bool) -> Result<FlashMem, AllocError> {
+/// A plan that keeps no calls, under which the last moment fails if it is to.
+fn failing_at_last(alloc: Global, failing: bool) -> Result<Plan, AllocError>
+    ensures { IfOk result (λ plan. plan.calls ≡ 0) }
+{
     let mut failures = Vec::new(alloc);
     if failing {
         failures.push((u64::MAX, Outcome::Blank))?;
     }
-    let plan = Plan {
+    Ok(Plan {
         calls: 0,
         failing: Sequence::from_vec(failures),
         stop: None,
-    };
+    })
+}
+
+/// A blank flash whose counts have one step left, and which fails at the last moment if it is to.
+fn nearly_counted(alloc: Global, failing: bool) -> Result<FlashMem, AllocError> {
+    let plan = failing_at_last(alloc, failing)?;
     let mut flash = FlashMem::new(alloc, SMALL, plan)?;
     flash.moment = u64::MAX - 1;
     flash.faults = u64::MAX - 1;

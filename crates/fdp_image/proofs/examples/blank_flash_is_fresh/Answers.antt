@@ -10,14 +10,18 @@ use Rattle.fdp_rules.specs.Room.{namespace_ids}
 use Rattle.fdp_image.specs.Applied.{applied}
 use Rattle.fdp_image.specs.Areas.{area_of, current_area, leading, page_bytes, sealed_behind, sealed_by, sealed_in}
 use Rattle.fdp_image.specs.ChangeEvents.{events_of_change, kept_of_change}
-use Rattle.fdp_image.specs.Checkpoint.{blocks_below, checkpoint_size, is_checkpoint, said_by_checkpoint}
+use Rattle.fdp_image.specs.Checkpoint.{reading_of_state, said_by_checkpoint}
+use Rattle.fdp_snapshot.specs.Checkpoint.{checkpoint_size, is_checkpoint}
+use Rattle.fdp_snapshot.specs.Fixed.{fixed_of}
+use Rattle.fdp_snapshot.specs.Reading.{blocks_in, page_lists, state_in, summary_in}
+use Rattle.fdp_snapshot.specs.Rows.{space_bytes}
 use Rattle.fdp_image.specs.CheckpointFields.{same_keys}
-use Rattle.fdp_image.specs.Fields.{is_zero_from, pieces}
+use Rattle.fdp_image.specs.Fields.{pieces}
 use Rattle.fdp_image.specs.Outline.{state_with}
 use Rattle.fdp_image.specs.Reading.{blocks_on}
 use Rattle.fdp_image.specs.Reads.{all_of, changes_in, fresh_reading, is_checkpoint_of, reads_as, said_by_area, said_by_current}
 use Rattle.fdp_image.proofs.examples.blank_flash_is_fresh.Goals as goal
 
 pub returns : goal.returns
-unfolding decoded decoded_as change_in items record_of placed is_within_limits numbers_from data_spare said_by_data said_by_system system_spare namespace_ids applied area_of current_area leading page_bytes sealed_behind sealed_by sealed_in events_of_change kept_of_change blocks_below checkpoint_size is_checkpoint said_by_checkpoint same_keys is_zero_from pieces state_with blocks_on all_of changes_in fresh_reading is_checkpoint_of reads_as said_by_area said_by_current
+unfolding decoded decoded_as change_in items record_of placed is_within_limits numbers_from data_spare said_by_data said_by_system system_spare namespace_ids applied area_of current_area leading page_bytes sealed_behind sealed_by sealed_in events_of_change kept_of_change reading_of_state said_by_checkpoint checkpoint_size is_checkpoint fixed_of blocks_in page_lists state_in summary_in space_bytes same_keys pieces state_with blocks_on all_of changes_in fresh_reading is_checkpoint_of reads_as said_by_area said_by_current
 returns c = refl

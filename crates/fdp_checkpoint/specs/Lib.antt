@@ -1,0 +1,4 @@
+pub mod Ends
+pub mod Pages
+pub mod Target
+pub mod Writing

@@ -1,0 +1,21 @@
+//! Checkpoints of the drive, read from its system areas and written there.
+#![tactic(auto)]
+
+mod collect;
+mod count;
+mod erasing;
+mod fault;
+mod filling;
+mod laws;
+mod reading;
+mod sealing;
+mod target;
+#[cfg(test)]
+mod tests;
+mod writing;
+
+pub use count::page_count;
+pub use fault::{CheckpointFault, ContentFault, FoundCheckpoint};
+pub use laws::{bad_checkpoint_is_none_of_the_image, checkpoint_is_that_of_the_image};
+pub use reading::{read, read_content};
+pub use writing::write;

@@ -1,0 +1,3 @@
+pub mod JournalState
+pub mod Journal
+pub mod Inside

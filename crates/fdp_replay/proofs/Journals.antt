@@ -1,0 +1,179 @@
+-- The pages of a journal that were read, and what the next page makes of them.
+use Rattle.std.proofs.Common.{◌≡◌, ℕ, zero, suc, ◌+◌, ◌≤◌, Bool, true, false, IsTrue, List, [], ◌∷◌, ◌++◌, ◌-◌, drop, length, take, Option, Some, None, refl, sym, ap, ◌∙◌, subst, arith, zero-add, length-drop}
+use Rattle.std.specs.Prelude.{bytes_eq, if◌then◌else◌, ◌&&◌, fold, map, slice_get}
+use Rattle.fdp_base.specs.declared.config.DriveConfig.{DriveConfig}
+use Rattle.fdp_base.specs.declared.config.Geometry.{Geometry}
+use Rattle.fdp_base.specs.declared.entry.Totals.{Totals}
+use Rattle.fdp_base.specs.Geometry.{all_pages, area_pages}
+use Rattle.fdp_flash.specs.declared.cell.Cell.{Cell}
+use Rattle.fdp_flash.specs.declared.cell.Cell.TheVariants.{Blank, Torn, Whole}
+use Rattle.fdp_records.specs.declared.change.Change.{Change}
+use Rattle.fdp_records.specs.declared.spare.Stamp.{Stamp}
+use Rattle.fdp_records.specs.declared.spare.SystemKind.{SystemKind}
+use Rattle.fdp_records.specs.declared.spare.SystemKind.TheVariants as kinds
+use Rattle.fdp_records.specs.Reading.{decoded}
+use Rattle.fdp_records.specs.Spares.{system_spare}
+use Rattle.fdp_image.specs.Applied.{applied}
+use Rattle.fdp_image.specs.Areas.{Sealed, area_of, current_area, leading, more, page_bytes}
+use Rattle.fdp_image.specs.Reading.{Reading}
+use Rattle.fdp_image.specs.Reads.{all_of, changes_in}
+use Rattle.fdp_image.proofs.Journaling.{journal_read, slice_get-drop}
+use Rattle.fdp_image.proofs.NextRecord.{all-push, area_long, current_sealed, fold-push, map-push}
+use Rattle.fdp_areas.specs.declared.seal.Current.{Current}
+use Rattle.fdp_areas.specs.Seals.{IsCurrentSeal}
+use Rattle.fdp_image.proofs.Leading.{leading_ends, leading_most, leading_next}
+use Rattle.fdp_replay.specs.Records.{Fitting, IsTaken, all_fit}
+use Rattle.fdp_replay.specs.Replay.{IsReplayed}
+
+-- the pages behind the seal
+abbrev pub behind_seal : Geometry → List Cell → Current → List Cell
+behind_seal g cells x = drop (suc x.seal.checkpoint) (area_of g x.area cells)
+
+-- the journal pages behind the seal
+abbrev pub journal_of : Geometry → List Cell → Current → List (List ℕ)
+journal_of g cells x = leading kinds.Journal 0 x.seal.stamp (behind_seal g cells x)
+
+-- the bytes of a page that is the next of those that come first
+pub leading_at : (kind : SystemKind) (number : ℕ) (t : Stamp) (cells : List Cell) (i : ℕ) (cell : Cell) (bytes : List ℕ) → i ≤ length (leading kind number t cells)
+    → slice_get cells i ≡ Some cell → page_bytes kind (number + i) t cell ≡ Some bytes → slice_get (leading kind number t cells) i ≡ Some bytes
+unfolding leading
+leading_at kind number t [] i cell bytes most at page = absurd cc
+leading_at kind number t (c ∷ cs) zero cell bytes most at page =
+    let same : c ≡ cell = cc in
+    let place : number ≡ number + 0 = omega arith in
+    let here : page_bytes kind number t c ≡ Some bytes = ap (page_bytes kind number t) same ∙ ap (λ (n : ℕ). page_bytes kind n t cell) place ∙ page in
+    ap (λ (o : Option (List ℕ)). slice_get (more o (leading kind (suc number) t cs)) 0) here
+leading_at kind number t (c ∷ cs) (suc i) cell bytes most at page =
+    let place : number + suc i ≡ suc number + i = omega arith in
+    of_page (page_bytes kind number t c) refl (λ h. leading_at kind (suc number) t cs i cell bytes h at (sym (ap (λ (n : ℕ). page_bytes kind n t cell) place) ∙ page))
+  where
+    of_page : (o : Option (List ℕ)) → page_bytes kind number t c ≡ o → (i ≤ length (leading kind (suc number) t cs) → slice_get (leading kind (suc number) t cs) i ≡ Some bytes)
+        → slice_get (more (page_bytes kind number t c) (leading kind (suc number) t cs)) (suc i) ≡ Some bytes
+    of_page None is again =
+        let none : length (more (page_bytes kind number t c) (leading kind (suc number) t cs)) ≡ 0 = ap (λ (x : Option (List ℕ)). length (more x (leading kind (suc number) t cs))) is in
+        absurd (omega arith)
+    of_page (Some xs) is again =
+        let size : length (more (page_bytes kind number t c) (leading kind (suc number) t cs)) ≡ suc (length (leading kind (suc number) t cs)) =
+        ap (λ (x : Option (List ℕ)). length (more x (leading kind (suc number) t cs))) is in
+        ap (λ (x : Option (List ℕ)). slice_get (more x (leading kind (suc number) t cs)) (suc i)) is ∙ again (omega arith)
+
+take-one_more : (xs : List (List ℕ)) (i : ℕ) (x : List ℕ) → slice_get xs i ≡ Some x → take (i + 1) xs ≡ take i xs ++ x ∷ []
+take-one_more [] i x at = absurd cc
+take-one_more (y ∷ ys) zero x at = let same : y ≡ x = cc in ap (λ (z : List ℕ). z ∷ []) same
+take-one_more (y ∷ ys) (suc i) x at =
+    let n : suc i + 1 ≡ suc (i + 1) = omega arith in
+    ap (λ (k : ℕ). take k (y ∷ ys)) n ∙ ap (λ (zs : List (List ℕ)). y ∷ zs) (take-one_more ys i x at)
+
+-- one change more that fits
+both-true : (a b : Bool) → IsTrue a → IsTrue b → IsTrue (a && b)
+both-true true b p q = q
+both-true false b p q = cc
+
+first-true : (a b : Bool) → IsTrue (a && b) → IsTrue a
+first-true true b p = refl
+first-true false b p = p
+
+second-true : (a b : Bool) → IsTrue (a && b) → IsTrue b
+second-true true b p = p
+second-true false b p = cc
+
+all_fit-push : (fits : Fitting) (c : DriveConfig) (r : Reading) (xs : List (Change × Totals)) (x : Change × Totals) → IsTrue (all_fit fits c r xs)
+    → IsTrue (fits c (fold (applied c) r xs) x) → IsTrue (all_fit fits c r (xs ++ x ∷ []))
+unfolding all_fit
+all_fit-push fits c r [] x all one = both-true (fits c r x) true one refl
+all_fit-push fits c r (y ∷ ys) x all one =
+    both-true (fits c r y) _ (first-true (fits c r y) _ all) (all_fit-push fits c (applied c r y) ys x (second-true (fits c r y) _ all) one)
+
+-- no page was read
+pub replayed_none : (fits : Fitting) (c : DriveConfig) (journal : List (List ℕ)) (r : Reading) → IsReplayed fits c journal 0 r r
+unfolding changes_in all_of all_fit
+replayed_none fits c journal r = record { changes = []; told = refl; fit = refl; reading = refl }
+
+-- one page more was read
+pub replayed_more : (fits : Fitting) (c : DriveConfig) (journal : List (List ℕ)) (i : ℕ) (bytes : List ℕ) (start old new : Reading) → slice_get journal i ≡ Some bytes
+    → IsReplayed fits c journal i start old → IsTaken fits c bytes old new → IsReplayed fits c journal (i + 1) start new
+unfolding changes_in
+replayed_more fits c journal i bytes start old new at p taken = record {
+  changes = p.changes ++ taken.change ∷ [];
+  told =
+      ap (λ (pages : List (List ℕ)). all_of (map decoded pages)) (take-one_more journal i bytes at)
+      ∙ ap all_of (map-push (take i journal) bytes ∙ ap (λ (o : Option (Change × Totals)). map decoded (take i journal) ++ o ∷ []) taken.told)
+      ∙ all-push (map decoded (take i journal)) p.changes taken.change p.told;
+  fit = all_fit-push fits c start p.changes taken.change p.fit (subst (λ (r : Reading). IsTrue (fits c r taken.change)) p.reading taken.fit);
+  reading = taken.reading ∙ ap (λ (r : Reading). applied c r taken.change) p.reading ∙ sym (fold-push (applied c) start p.changes taken.change);
+}
+
+-- the journal of the current area stands behind its seal
+pub sealed_journal : (g h : Geometry) (cells : List Cell) (x : Current) (area : Sealed) → g ≡ h → IsCurrentSeal h cells x → current_area h cells ≡ Some (x.area, area)
+    → area.journal ≡ journal_of g cells x
+sealed_journal g h cells x area same is current =
+    let both : Some (x.area, is.area) ≡ Some (x.area, area) = sym is.current ∙ current in
+    let pair : (x.area, is.area) ≡ (x.area, area) = cc in
+    let one : is.area ≡ area = ap (λ (p : ℕ × Sealed). p.1) pair in
+    let stamp : area.stamp ≡ x.seal.stamp = ap (λ (s : Sealed). s.stamp) (sym one) ∙ is.seal_is.stamp in
+    let count : length area.checkpoint ≡ x.seal.checkpoint = ap (λ (s : Sealed). length s.checkpoint) (sym one) ∙ is.seal_is.checkpoint in
+    sym (journal_read (area_of h x.area cells) area (current_sealed h cells x.area area current))
+    ∙ ap (λ (t : Stamp). leading kinds.Journal 0 t (drop (suc (length area.checkpoint)) (area_of h x.area cells))) stamp
+    ∙ ap (λ (n : ℕ). leading kinds.Journal 0 x.seal.stamp (drop (suc n) (area_of h x.area cells))) count
+    ∙ ap (λ (k : Geometry). journal_of k cells x) (sym same)
+
+-- a page of the area behind the seal, by its number in the journal
+pub behind_at : (g : Geometry) (cells : List Cell) (x : Current) (number : ℕ) (cell : Cell) → slice_get (area_of g x.area cells) (1 + x.seal.checkpoint + number) ≡ Some cell
+    → slice_get (behind_seal g cells x) number ≡ Some cell
+behind_at g cells x number cell at =
+    let place : suc x.seal.checkpoint + number ≡ 1 + x.seal.checkpoint + number = omega arith in
+    slice_get-drop (area_of g x.area cells) (suc x.seal.checkpoint) number ∙ ap (slice_get (area_of g x.area cells)) place ∙ at
+
+-- a whole page with the spare of the next record, and one with another spare
+pub journal_page : (t : Stamp) (number : ℕ) (spare bytes : List ℕ) → bytes_eq (system_spare (record { kind = kinds.Journal; number = number; stamp = t })) spare ≡ true
+    → page_bytes kinds.Journal number t (Whole spare bytes) ≡ Some bytes
+unfolding page_bytes
+journal_page t number spare bytes e = ap (λ (b : Bool). if b then Some bytes else None) e
+
+pub no_journal_page : (t : Stamp) (number : ℕ) (spare bytes : List ℕ) → bytes_eq (system_spare (record { kind = kinds.Journal; number = number; stamp = t })) spare ≡ false
+    → page_bytes kinds.Journal number t (Whole spare bytes) ≡ None
+unfolding page_bytes
+no_journal_page t number spare bytes e = ap (λ (b : Bool). if b then Some bytes else None) e
+
+blank_page : (t : Stamp) (number : ℕ) → page_bytes kinds.Journal number t Blank ≡ None
+unfolding page_bytes
+blank_page t number = refl
+
+torn_page : (t : Stamp) (number : ℕ) → page_bytes kinds.Journal number t Torn ≡ None
+unfolding page_bytes
+torn_page t number = refl
+
+-- the next page is one of the journal
+pub journal_next : (g : Geometry) (cells : List Cell) (x : Current) (i : ℕ) (cell : Cell) (bytes : List ℕ) → i ≤ length (journal_of g cells x)
+    → slice_get (area_of g x.area cells) (1 + x.seal.checkpoint + i) ≡ Some cell → page_bytes kinds.Journal i x.seal.stamp cell ≡ Some bytes
+    → (i + 1 ≤ length (journal_of g cells x)) × (slice_get (journal_of g cells x) i ≡ Some bytes)
+journal_next g cells x i cell bytes most at page =
+    let here = ap (λ (n : ℕ). page_bytes kinds.Journal n x.seal.stamp cell) (zero-add i) ∙ page in
+    let there = behind_at g cells x i cell at in
+    (leading_next kinds.Journal 0 x.seal.stamp (behind_seal g cells x) i cell bytes most there here, leading_at kinds.Journal 0 x.seal.stamp (behind_seal g cells x) i cell bytes most there here)
+
+-- the next page is none of it
+pub journal_ends : (g : Geometry) (cells : List Cell) (x : Current) (i : ℕ) (cell : Cell) → i ≤ length (journal_of g cells x)
+    → slice_get (area_of g x.area cells) (1 + x.seal.checkpoint + i) ≡ Some cell → page_bytes kinds.Journal i x.seal.stamp cell ≡ None → i ≡ length (journal_of g cells x)
+journal_ends g cells x i cell most at page =
+    sym (leading_ends kinds.Journal 0 x.seal.stamp (behind_seal g cells x) i cell most (behind_at g cells x i cell at) (ap (λ (n : ℕ). page_bytes kinds.Journal n x.seal.stamp cell) (zero-add i) ∙ page))
+
+pub journal_ends_blank : (g : Geometry) (cells : List Cell) (x : Current) (i : ℕ) → i ≤ length (journal_of g cells x)
+    → slice_get (area_of g x.area cells) (1 + x.seal.checkpoint + i) ≡ Some Blank → i ≡ length (journal_of g cells x)
+journal_ends_blank g cells x i most at = journal_ends g cells x i Blank most at (blank_page x.seal.stamp i)
+
+pub journal_ends_torn : (g : Geometry) (cells : List Cell) (x : Current) (i : ℕ) → i ≤ length (journal_of g cells x)
+    → slice_get (area_of g x.area cells) (1 + x.seal.checkpoint + i) ≡ Some Torn → i ≡ length (journal_of g cells x)
+journal_ends_torn g cells x i most at = journal_ends g cells x i Torn most at (torn_page x.seal.stamp i)
+
+-- the area ends
+pub journal_fills : (g : Geometry) (cells : List Cell) (x : Current) (i : ℕ) → length cells ≡ all_pages g → x.area ≤ 1 → i ≤ length (journal_of g cells x)
+    → area_pages g - (1 + x.seal.checkpoint) ≤ i → i ≡ length (journal_of g cells x)
+journal_fills g cells x i size two most end =
+    omega (arith, leading_most kinds.Journal 0 x.seal.stamp (behind_seal g cells x), length-drop (suc x.seal.checkpoint) (area_of g x.area cells), area_long g x.area cells two size)
+
+-- all pages of the journal were read
+pub replayed_whole : (fits : Fitting) (c : DriveConfig) (journal : List (List ℕ)) (area : Sealed) (i : ℕ) (old new : Reading) → area.journal ≡ journal → i ≡ length journal
+    → IsReplayed fits c journal i old new → (i ≡ length area.journal) × IsReplayed fits c area.journal i old new
+replayed_whole fits c journal area i old new same end p =
+    (end ∙ ap length (sym same), subst (λ (pages : List (List ℕ)). IsReplayed fits c pages i old new) (sym same) p)

@@ -1,0 +1,11 @@
+//! The journal of the current system area, read page by page into a state.
+#![tactic(auto)]
+
+mod journal;
+mod record;
+mod replayed;
+#[cfg(test)]
+mod tests;
+
+pub use journal::replay;
+pub use replayed::{Refusal, ReplayFault, Replayed};

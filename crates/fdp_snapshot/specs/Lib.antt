@@ -1,0 +1,9 @@
+pub mod Rows
+pub mod Events
+pub mod Sizes
+pub mod Fixed
+pub mod Reading
+pub mod Checkpoint
+pub mod Content
+pub mod Lengths
+pub mod Scanning

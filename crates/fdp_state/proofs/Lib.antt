@@ -1,0 +1,11 @@
+pub mod Closing
+pub mod Collecting
+pub mod Editing
+pub mod Filling
+pub mod Loadable
+pub mod Making
+pub mod MaskBits
+pub mod Moving
+pub mod Named
+pub mod Places
+pub mod Spacing

@@ -1,0 +1,170 @@
+-- What a loaded state says once a part of it was changed.
+use Rattle.std.proofs.Common.{◌≡◌, ℕ, ◌<◌, ◌≤◌, ◌++◌, Bool, true, List, filter, length, Option, refl, ap, sym, ◌∙◌, subst}
+use Rattle.std.specs.Prelude.{not, option_map}
+use Rattle.fdp_base.specs.declared.config.DriveConfig.{DriveConfig}
+use Rattle.fdp_base.specs.declared.entry.Totals.{Totals}
+use Rattle.fdp_base.specs.declared.event.Event.{Event}
+use Rattle.fdp_base.specs.declared.event.EventKind.{EventKind}
+use Rattle.fdp_rules.specs.Events.{is_host_event, latest}
+use Rattle.fdp_rules.specs.PlainState.{Namespace}
+use Rattle.fdp_records.specs.declared.change.Change.{Change}
+use Rattle.fdp_records.specs.declared.change.Change.TheVariants as changes
+use Rattle.fdp_image.specs.Applied.{applied}
+use Rattle.fdp_image.specs.ChangeEvents.{kept_of_change}
+use Rattle.fdp_image.specs.Changed.{changed, pages_after}
+use Rattle.fdp_image.specs.Checkpoint.{in_place, namespace_of, page_in_lists, reports_in}
+use Rattle.fdp_image.specs.Reading.{Reading, size_in}
+use Rattle.fdp_state.specs.declared.parts.Parts.{Parts}
+use Rattle.fdp_state.specs.Fits.{names_what_is}
+use Rattle.fdp_state.specs.Loaded.{IsLoaded}
+use Rattle.fdp_state.specs.Made.{IsMade}
+use Rattle.fdp_state.specs.Parts.{IsSound, listed, reading_of}
+use Rattle.fdp_state.proofs.Named.{index_after}
+
+-- only the page lists were changed
+module _ (old new : Parts) (rest : new ≡ record old { pages = new.pages }) where
+  reading-pages : (f : ℕ → ℕ → Option ℕ) → ((n lba : ℕ) → page_in_lists new.pages.items n lba ≡ f n lba) → reading_of new ≡ record (reading_of old) { pages = f }
+  unfolding reading_of
+  reading-pages f said = ap reading_of rest ∙ ap (λ (p : ℕ → ℕ → Option ℕ). record (reading_of old) { pages = p }) (λ d n lba. said n lba d)
+
+  same-size : (n : ℕ) → size_in (reading_of new) n ≡ size_in (reading_of old) n
+  unfolding reading_of
+  same-size n = ap (λ (p : Parts). size_in (reading_of p) n) rest
+
+  sound-pages : IsSound old → length new.pages.items ≡ 16 → ((n : ℕ) → listed new.pages.items n ≡ listed old.pages.items n) → IsSound new
+  sound-pages h lists sizes = record {
+    spaces = ap (λ (p : Parts). length p.spaces.items) rest ∙ h.spaces;
+    lists = lists;
+    sizes = λ n. sizes n ∙ h.sizes n ∙ sym (same-size n);
+    host_events = subst (λ (n : ℕ). n ≤ 32) (sym (ap (λ (p : Parts). length p.host_events.items) rest)) h.host_events;
+    controller_events = subst (λ (n : ℕ). n ≤ 32) (sym (ap (λ (p : Parts). length p.controller_events.items) rest)) h.controller_events;
+  }
+
+  pub made-pages : (c : DriveConfig) (position : ℕ) (change : Change) → IsSound old → length new.pages.items ≡ 16 → ((n : ℕ) → listed new.pages.items n ≡ listed old.pages.items n)
+      → changed c (reading_of old) position change ≡ reading_of old → ((n lba : ℕ) → page_in_lists new.pages.items n lba ≡ pages_after c (reading_of old) change n lba)
+      → IsMade c position change old new
+  unfolding reading_of
+  made-pages c position change h lists sizes same said = record {
+    reading = reading-pages (pages_after c (reading_of old) change) said ∙ ap (λ (r : Reading). record r { pages = pages_after c (reading_of old) change }) (sym same);
+    sound = sound-pages h lists sizes;
+    index = ap (λ (p : Parts). p.index) rest ∙ ap (λ (r : Reading). r.index) (sym same);
+  }
+
+-- only the namespaces and the page lists were changed
+module _ (old new : Parts) (rest : new ≡ record old { spaces = new.spaces; pages = new.pages }) where
+  reading-spaces : (g : ℕ → Option Namespace) (f : ℕ → ℕ → Option ℕ) → ((n : ℕ) → option_map namespace_of (in_place new.spaces.items n) ≡ g n)
+      → ((n lba : ℕ) → page_in_lists new.pages.items n lba ≡ f n lba) → reading_of new ≡ record (reading_of old) { namespaces = g; pages = f }
+  unfolding reading_of
+  reading-spaces g f names said =
+      ap reading_of rest
+      ∙ ap (λ (q : ℕ → Option Namespace). record (reading_of old) { namespaces = q; pages = page_in_lists new.pages.items }) (λ d n. names n d)
+      ∙ ap (λ (p : ℕ → ℕ → Option ℕ). record (reading_of old) { namespaces = g; pages = p }) (λ d n lba. said n lba d)
+
+  sound-spaces : IsSound old → length new.spaces.items ≡ 16 → length new.pages.items ≡ 16 → ((n : ℕ) → listed new.pages.items n ≡ size_in (reading_of new) n) → IsSound new
+  sound-spaces h spaces lists sizes = record {
+    spaces = spaces;
+    lists = lists;
+    sizes = sizes;
+    host_events = subst (λ (n : ℕ). n ≤ 32) (sym (ap (λ (p : Parts). length p.host_events.items) rest)) h.host_events;
+    controller_events = subst (λ (n : ℕ). n ≤ 32) (sym (ap (λ (p : Parts). length p.controller_events.items) rest)) h.controller_events;
+  }
+
+  pub made-spaces : (c : DriveConfig) (position : ℕ) (change : Change) → IsSound old → length new.spaces.items ≡ 16 → length new.pages.items ≡ 16
+      → ((n : ℕ) → listed new.pages.items n ≡ size_in (reading_of new) n) → (g : ℕ → Option Namespace) → changed c (reading_of old) position change ≡ record (reading_of old) { namespaces = g }
+      → ((n : ℕ) → option_map namespace_of (in_place new.spaces.items n) ≡ g n)
+      → ((n lba : ℕ) → page_in_lists new.pages.items n lba ≡ pages_after c (reading_of old) change n lba)
+      → IsMade c position change old new
+  unfolding reading_of
+  made-spaces c position change h spaces lists sizes g same names said = record {
+    reading = reading-spaces g (pages_after c (reading_of old) change) names said ∙ ap (λ (r : Reading). record r { pages = pages_after c (reading_of old) change }) (sym same);
+    sound = sound-spaces h spaces lists sizes;
+    index = ap (λ (p : Parts). p.index) rest ∙ ap (λ (r : Reading). r.index) (sym same);
+  }
+
+-- placement or the masks were changed
+module _ (old new : Parts) (rest : new ≡ record old { enabled = new.enabled; index = new.index; generation = new.generation; masks = new.masks }) where
+  same-sizes : (n : ℕ) → size_in (reading_of new) n ≡ size_in (reading_of old) n
+  unfolding reading_of
+  same-sizes n = ap (λ (p : Parts). size_in (reading_of p) n) rest
+
+  sound-head : IsSound old → IsSound new
+  sound-head h = record {
+    spaces = ap (λ (p : Parts). length p.spaces.items) rest ∙ h.spaces;
+    lists = ap (λ (p : Parts). length p.pages.items) rest ∙ h.lists;
+    sizes = λ n. ap (λ (p : Parts). listed p.pages.items n) rest ∙ h.sizes n ∙ sym (same-sizes n);
+    host_events = subst (λ (n : ℕ). n ≤ 32) (sym (ap (λ (p : Parts). length p.host_events.items) rest)) h.host_events;
+    controller_events = subst (λ (n : ℕ). n ≤ 32) (sym (ap (λ (p : Parts). length p.controller_events.items) rest)) h.controller_events;
+  }
+
+  pub made-head : (c : DriveConfig) (position : ℕ) (change : Change) → IsSound old → (f : ℕ → EventKind → Bool)
+      → record (changed c (reading_of old) position change) { pages = pages_after c (reading_of old) change }
+      ≡ record (reading_of old) { enabled = new.enabled; index = new.index; generation = new.generation; reports = f }
+      → ((k : ℕ) (kind : EventKind) → reports_in new.masks k kind ≡ f k kind) → IsMade c position change old new
+  unfolding reading_of
+  made-head c position change h f same said = record {
+    reading =
+        ap reading_of rest
+        ∙ ap (λ (q : ℕ → EventKind → Bool). record (reading_of old) { enabled = new.enabled; index = new.index; generation = new.generation; reports = q }) (λ d k kind. said k kind d)
+        ∙ sym same;
+    sound = sound-head h;
+    index = sym (ap (λ (r : Reading). r.index) same);
+  }
+
+-- nothing was changed
+pub made_update : (c : DriveConfig) (position nsid closed : ℕ) (pids : List ℕ) (s : Parts) → IsSound s → IsMade c position (changes.Update nsid closed pids) s s
+unfolding reading_of
+made_update c position nsid closed pids s h = record { reading = refl; sound = h; index = refl }
+
+pub made_shut : (c : DriveConfig) (position rg ruh : ℕ) (s : Parts) → IsSound s → IsMade c position (changes.Shut rg ruh) s s
+unfolding reading_of
+made_shut c position rg ruh s h = record { reading = refl; sound = h; index = refl }
+
+-- events with those of a class behind them
+pub latest_are : (test : Event → Bool) (start old listing kept new : List Event) → new ≡ latest (start ++ filter test listing) → start ≡ old → listing ≡ kept → new ≡ latest (old ++ filter test kept)
+latest_are test start old listing kept new e from is = e ∙ ap (λ (xs : List Event). latest (xs ++ filter test listing)) from ∙ ap (λ (xs : List Event). latest (old ++ filter test xs)) is
+
+-- the totals and the events were put in place of those before
+module _ (c : DriveConfig) (old mid new : Parts) (change : Change) (totals : Totals)
+    (rest : new ≡ record mid { totals = totals; host_events = new.host_events; controller_events = new.controller_events }) (made : IsMade c totals.position change old mid) where
+  pub whole_reading : new.host_events.items ≡ latest (old.host_events.items ++ filter is_host_event (kept_of_change c (reading_of old) totals.position change))
+      → new.controller_events.items ≡ latest (old.controller_events.items ++ filter (λ (e : Event). not (is_host_event e)) (kept_of_change c (reading_of old) totals.position change))
+      → reading_of new ≡ applied c (reading_of old) (change, totals)
+  unfolding reading_of applied
+  whole_reading host controller =
+      ap reading_of rest
+      ∙ ap (λ (r : Reading). record r { totals = totals; host_events = new.host_events.items; controller_events = new.controller_events.items }) made.reading
+      ∙ ap (λ (xs : List Event). record (changed c (reading_of old) totals.position change) {
+        totals = totals;
+        pages = pages_after c (reading_of old) change;
+        host_events = xs;
+        controller_events = new.controller_events.items;
+      }) host
+      ∙ ap (λ (xs : List Event). record (changed c (reading_of old) totals.position change) {
+        totals = totals;
+        pages = pages_after c (reading_of old) change;
+        host_events = latest (old.host_events.items ++ filter is_host_event (kept_of_change c (reading_of old) totals.position change));
+        controller_events = xs;
+      }) controller
+
+  whole_sizes : (n : ℕ) → size_in (reading_of new) n ≡ size_in (reading_of mid) n
+  unfolding reading_of
+  whole_sizes n = ap (λ (p : Parts). size_in (reading_of p) n) rest
+
+  whole_sound : length new.host_events.items ≤ 32 → length new.controller_events.items ≤ 32 → IsSound new
+  whole_sound host controller = record {
+    spaces = ap (λ (p : Parts). length p.spaces.items) rest ∙ made.sound.spaces;
+    lists = ap (λ (p : Parts). length p.pages.items) rest ∙ made.sound.lists;
+    sizes = λ n. ap (λ (p : Parts). listed p.pages.items n) rest ∙ made.sound.sizes n ∙ sym (whole_sizes n);
+    host_events = host;
+    controller_events = controller;
+  }
+
+  pub whole_loaded : IsLoaded c old → names_what_is c (reading_of old) change ≡ true → length new.host_events.items ≤ 32 → length new.controller_events.items ≤ 32 → IsLoaded c new
+  unfolding reading_of
+  whole_loaded h fit host controller = record {
+    config = h.config;
+    sound = whole_sound host controller;
+    index =
+        subst (λ (k : ℕ). k < length c.fdp) (sym (ap (λ (p : Parts). p.index) rest ∙ made.index))
+        (index_after c (reading_of old) totals.position change h.index fit);
+  }

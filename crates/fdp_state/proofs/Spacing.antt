@@ -1,0 +1,131 @@
+-- A namespace is put in its place with its page list, or taken away.
+use Rattle.std.proofs.Common.{◌≡◌, ◌≢◌, ℕ, zero, suc, replicate, ◌∷◌, ◌+◌, ◌-◌, ◌≤◌, Bool, true, false, IsTrue, List, [], length, Option, None, Some, refl, ap, sym, ◌∙◌, arith, ⊎_elim}
+use Rattle.std.specs.Prelude.{◌==◌, if◌then◌else◌, is_some, option_map, slice_get}
+use Rattle.std.specs.List.{list_all}
+use Rattle.std.specs.Option.{option_and_then, option_map_or}
+use Rattle.std.proofs.lemmas.Bool.{leb-true}
+use Rattle.std.proofs.lemmas.Bool.Decides.{eqb_tells}
+use Rattle.fdp_base.specs.declared.command.Range.{Range}
+use Rattle.fdp_base.specs.declared.config.DriveConfig.{DriveConfig}
+use Rattle.fdp_base.specs.Numbers.{with_at}
+use Rattle.fdp_rules.specs.PlainState.{Namespace}
+use Rattle.fdp_records.specs.declared.change.Change.{Change}
+use Rattle.fdp_snapshot.specs.declared.space.Space.{Space}
+use Rattle.fdp_image.specs.Changed.{changed, pages_after}
+use Rattle.fdp_image.specs.Checkpoint.{in_place, namespace_of, page_in_lists}
+use Rattle.fdp_image.specs.CheckpointRows.{is_namespace_id}
+use Rattle.fdp_image.specs.Reading.{Reading, size_in}
+use Rattle.fdp_state.specs.declared.parts.Parts.{Parts}
+use Rattle.fdp_state.specs.Fits.{has_namespace, lie_within, lies_within}
+use Rattle.fdp_state.specs.Made.{IsMade}
+use Rattle.fdp_state.specs.Parts.{IsSound, listed, reading_of, row}
+use Rattle.fdp_state.proofs.Making.{made-spaces}
+use Rattle.fdp_state.proofs.Named.{left, right}
+
+-- a namespace that is there has an identifier that it may have
+pub there_good : (s : Parts) (nsid : ℕ) → has_namespace (reading_of s) nsid ≡ true → IsTrue (is_namespace_id nsid)
+unfolding reading_of
+there_good s nsid there = of_id (is_namespace_id nsid) refl there where
+  of_id : (b : Bool) → is_namespace_id nsid ≡ b
+      → is_some (option_map namespace_of (if b then option_and_then (λ (x : Option Space). x) (slice_get s.spaces.items (nsid - 1)) else None)) ≡ true → is_namespace_id nsid ≡ true
+  of_id true is h = is
+  of_id false is h = cc
+
+-- a namespace that is not there has no block
+pub absent_size : (r : Reading) (nsid : ℕ) → has_namespace r nsid ≡ false → size_in r nsid ≡ 0
+absent_size r nsid none = of_namespace (r.namespaces nsid) none where
+  of_namespace : (o : Option Namespace) → is_some o ≡ false → option_map_or (λ (x : Namespace). x.size) o 0 ≡ 0
+  of_namespace None e = refl
+  of_namespace (Some x) e = cc
+
+empty_list : (list : List (Option ℕ)) (lba : ℕ) → length list ≡ 0 → row list lba ≡ None
+empty_list [] lba e = refl
+empty_list (x ∷ xs) lba e = absurd (omega arith)
+
+-- nor a page
+pub listed_none : (lists : List (List (Option ℕ))) (nsid lba : ℕ) → listed lists nsid ≡ 0 → page_in_lists lists nsid lba ≡ None
+listed_none lists nsid lba none = of_id (is_namespace_id nsid) none where
+  of_list : (o : Option (List (Option ℕ))) → option_map_or length o 0 ≡ 0 → option_and_then (λ (x : List (Option ℕ)). row x lba) o ≡ None
+  of_list None e = refl
+  of_list (Some list) e = empty_list list lba e
+
+  of_id : (b : Bool) → (if b then option_map_or length (slice_get lists (nsid - 1)) 0 else 0) ≡ 0
+      → (if b then option_and_then (λ (x : List (Option ℕ)). row x lba) (slice_get lists (nsid - 1)) else None) ≡ None
+  of_id true e = of_list (slice_get lists (nsid - 1)) e
+  of_id false e = refl
+
+-- blocks that lie within a namespace have a place in its page list
+pub within_list : (s : Parts) (nsid slba count : ℕ) → IsSound s → lies_within (reading_of s) nsid slba count ≡ true → slba + count ≤ listed s.pages.items nsid
+within_list s nsid slba count h e =
+    let fits : slba + count ≤ size_in (reading_of s) nsid = leb-true (slba + count) (size_in (reading_of s) nsid) (right (has_namespace (reading_of s) nsid) _ e) in
+    omega (arith, fits, h.sizes nsid)
+
+all_at : {X : Type 0} (p : X → Bool) (xs : List X) (k : ℕ) (x : X) → list_all p xs ≡ true → slice_get xs k ≡ Some x → p x ≡ true
+all_at p [] k x all at = cc
+all_at p (y ∷ ys) zero x all at = let same : y ≡ x = cc in ap p (sym same) ∙ left (p y) (list_all p ys) all
+all_at p (y ∷ ys) (suc k) x all at = all_at p ys k x (right (p y) (list_all p ys) all) at
+
+pub ranges_within : (s : Parts) (nsid : ℕ) (ranges : List Range) → IsSound s → lie_within (reading_of s) nsid ranges ≡ true
+    → (x : Range) (k : ℕ) → slice_get ranges k ≡ Some x → x.slba + x.length ≤ listed s.pages.items nsid
+ranges_within s nsid ranges h all x k at =
+    within_list s nsid x.slba x.length h (all_at (λ (y : Range). lies_within (reading_of s) nsid y.slba y.length) ranges k x all at)
+
+map-if : (b : Bool) (x y : Option Space) → option_map namespace_of (if b then x else y) ≡ (if b then option_map namespace_of x else option_map namespace_of y)
+map-if true x y = refl
+map-if false x y = refl
+
+size-if : (b : Bool) (x y : Option Namespace) → option_map_or (λ (z : Namespace). z.size) (if b then x else y) 0
+    ≡ (if b then option_map_or (λ (z : Namespace). z.size) x 0 else option_map_or (λ (z : Namespace). z.size) y 0)
+size-if true x y = refl
+size-if false x y = refl
+
+pub space_size : (space : Option Space) → option_map_or (λ (x : Namespace). x.size) (option_map namespace_of space) 0 ≡ option_map_or (λ (x : Space). x.size) space 0
+space_size None = refl
+space_size (Some x) = refl
+
+module _ (old new : Parts) (rest : new ≡ record old { spaces = new.spaces; pages = new.pages }) (nsid : ℕ) (space : Option Space) (list : List (Option ℕ)) (sound : IsSound old)
+    (spaces : length new.spaces.items ≡ 16) (lists : length new.pages.items ≡ 16)
+    (there : (n : ℕ) → in_place new.spaces.items n ≡ (if n == nsid then space else in_place old.spaces.items n))
+    (pages : (n lba : ℕ) → page_in_lists new.pages.items n lba ≡ (if n == nsid then row list lba else page_in_lists old.pages.items n lba))
+    (sizes : (n : ℕ) → listed new.pages.items n ≡ (if n == nsid then length list else listed old.pages.items n))
+    (fits : length list ≡ option_map_or (λ (x : Space). x.size) space 0) (empty : (lba : ℕ) → row list lba ≡ None) where
+  names : (n : ℕ) → option_map namespace_of (in_place new.spaces.items n) ≡ with_at (reading_of old).namespaces nsid (option_map namespace_of space) n
+  unfolding reading_of
+  names n = ap (option_map namespace_of) (there n) ∙ map-if (n == nsid) space (in_place old.spaces.items n)
+
+  new_sizes : (n : ℕ) → listed new.pages.items n ≡ size_in (reading_of new) n
+  unfolding reading_of
+  new_sizes n =
+      sizes n
+      ∙ ap (λ (k : ℕ). if n == nsid then k else listed old.pages.items n) (fits ∙ sym (space_size space))
+      ∙ ap (λ (k : ℕ). if n == nsid then option_map_or (λ (x : Namespace). x.size) (option_map namespace_of space) 0 else k) (sound.sizes n)
+      ∙ sym (size-if (n == nsid) (option_map namespace_of space) ((reading_of old).namespaces n))
+      ∙ sym (ap (λ (o : Option Namespace). option_map_or (λ (x : Namespace). x.size) o 0) (names n))
+
+  pub made_place : (c : DriveConfig) (position : ℕ) (change : Change)
+      → changed c (reading_of old) position change ≡ record (reading_of old) { namespaces = with_at (reading_of old).namespaces nsid (option_map namespace_of space) }
+      → ((n lba : ℕ) → pages_after c (reading_of old) change n lba ≡ (if n == nsid then None else (reading_of old).pages n lba)) → IsMade c position change old new
+  unfolding reading_of
+  made_place c position change same after =
+      made-spaces old new rest c position change sound spaces lists new_sizes (with_at (reading_of old).namespaces nsid (option_map namespace_of space)) same names
+      (λ n lba. pages n lba ∙ ap (λ (o : Option ℕ). if n == nsid then o else page_in_lists old.pages.items n lba) (empty lba) ∙ sym (after n lba))
+
+-- a namespace that was not there has no page to lose
+pub none_before : (s : Parts) (nsid : ℕ) → IsSound s → has_namespace (reading_of s) nsid ≡ false → (n lba : ℕ)
+    → (reading_of s).pages n lba ≡ (if n == nsid then None else (reading_of s).pages n lba)
+unfolding reading_of
+none_before s nsid h absent n lba =
+    ⊎_elim
+    (λ (e : (n == nsid ≡ true) × (n ≡ nsid)).
+    let zero_size : listed s.pages.items nsid ≡ 0 = h.sizes nsid ∙ absent_size (reading_of s) nsid absent in
+    ap (λ (k : ℕ). page_in_lists s.pages.items k lba) e.1
+    ∙ listed_none s.pages.items nsid lba zero_size
+    ∙ sym (ap (λ (b : Bool). if b then None else page_in_lists s.pages.items n lba) e.0))
+    (λ (e : (n == nsid ≡ false) × (n ≢ nsid)). sym (ap (λ (b : Bool). if b then None else page_in_lists s.pages.items n lba) e.0))
+    (eqb_tells n nsid)
+
+-- a list of empty rows
+pub blank_rows : (n lba : ℕ) → ◌≡◌ {A = Option ℕ} (row (replicate n None) lba) None
+blank_rows zero lba = refl
+blank_rows (suc n) zero = refl
+blank_rows (suc n) (suc lba) = blank_rows n lba

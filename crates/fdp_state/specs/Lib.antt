@@ -1,0 +1,5 @@
+pub mod Fits
+pub mod Kinds
+pub mod Parts
+pub mod Made
+pub mod Loaded

@@ -1,0 +1,13 @@
+-- A change that was made in a loaded state.
+use Rattle.std.specs.Prelude.{◌≡◌, ℕ}
+use Rattle.fdp_base.specs.declared.config.DriveConfig.{DriveConfig}
+use Rattle.fdp_records.specs.declared.change.Change.{Change}
+use Rattle.fdp_image.specs.Changed.{changed, pages_after}
+use Rattle.fdp_state.specs.declared.parts.Parts.{Parts}
+use Rattle.fdp_state.specs.Parts.{IsSound, reading_of}
+
+-- what was said is said with the change, but for the totals and the events
+pub record IsMade (c : DriveConfig) (position : ℕ) (change : Change) (old new : Parts) : Type 0 where
+  pub reading : reading_of new ≡ record (changed c (reading_of old) position change) { pages = pages_after c (reading_of old) change }
+  pub sound : IsSound new
+  pub index : new.index ≡ (changed c (reading_of old) position change).index

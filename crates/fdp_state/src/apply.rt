@@ -1,0 +1,87 @@
+//! A change that is applied to a loaded state.
+
+ghost use Rattle.std.specs.Prelude.{◌≡◌, ◌&&◌, Err, IfOk, IsTrue, OnErr, OnOk, false, true};
+ghost use Rattle.fdp_image.specs.Applied.{applied};
+ghost use Rattle.fdp_state.specs.Fits.{are_born, fits, names_what_is};
+ghost use Rattle.fdp_state.specs.Loaded.{IsLoaded};
+ghost use Rattle.fdp_state.specs.Parts.{reading_of};
+
+use crate::events::kept_events;
+use crate::fits::are_born;
+use crate::latest::with_latest;
+use crate::make::make_change;
+use crate::names::names_what_is;
+use crate::parts::Parts;
+use fdp_base::{DriveConfig, Totals};
+use fdp_records::Change;
+use fdp_replay::Refusal;
+use std::alloc::{AllocError, Global};
+
+/// Applies a change that fits to a state.
+pub fn apply_to(
+    alloc: Global,
+    config: &DriveConfig,
+    parts: &mut Parts,
+    change: Change,
+    totals: Totals,
+) -> Result<(), Refusal>
+    requires { IsLoaded config.now parts.old }
+    ensures loaded { OnOk result (IsLoaded config.now parts.new) }
+    ensures applied { OnOk result (reading_of parts.new ≡ applied config.now (reading_of parts.old) (change, totals)) }
+    ensures fit { OnOk result (IsTrue (fits config.now (reading_of parts.old) (change, totals))) }
+    ensures unfit { result ≡ Err Refusal.Unfit → fits config.now (reading_of parts.old) (change, totals) ≡ false }
+    ensures refused { OnErr result (parts.new ≡ parts.old) }
+{
+    match fits(alloc, config, parts, &change, totals.position) {
+        Ok(true) => {}
+        Ok(false) => return Err(Refusal::Unfit),
+        Err(_) => return Err(Refusal::NoMemory),
+    }
+    match make_whole(alloc, config, parts, change, totals) {
+        Ok(()) => Ok(()),
+        Err(_) => Err(Refusal::NoMemory),
+    }
+}
+
+/// Whether a change at a position fits what is said before it.
+fn fits(
+    alloc: Global,
+    config: &DriveConfig,
+    parts: &Parts,
+    change: &Change,
+    position: u64,
+) -> Result<bool, AllocError>
+    requires { IsLoaded config.now parts.now }
+    ensures { IfOk result (λ b. b ≡ (are_born (reading_of parts.now) position && names_what_is config.now (reading_of parts.now) change.now)) }
+{
+    if are_born(parts, position) {
+        names_what_is(alloc, config, parts, change)
+    } else {
+        Ok(false)
+    }
+}
+
+/// Makes a change that fits, with its events and totals.
+fn make_whole(
+    alloc: Global,
+    config: &DriveConfig,
+    parts: &mut Parts,
+    change: Change,
+    totals: Totals,
+) -> Result<(), AllocError>
+    requires loaded { IsLoaded config.now parts.old }
+    requires fit { names_what_is config.now (reading_of parts.old) change ≡ true }
+    ensures loaded { OnOk result (IsLoaded config.now parts.new) }
+    ensures applied { OnOk result (reading_of parts.new ≡ applied config.now (reading_of parts.old) (change, totals)) }
+    ensures refused { OnErr result (parts.new ≡ parts.old) }
+{
+    let kept = kept_events(alloc, config, parts, &change, totals.position)?;
+    let kept = kept.as_slice();
+    let host = with_latest(alloc, parts.host_events.as_slice(), kept, true)?;
+    let controller = with_latest(alloc, parts.controller_events.as_slice(), kept, false)?;
+    make_change(alloc, config, parts, totals.position, change)?;
+    parts.totals = totals;
+    parts.host_events = host;
+    parts.controller_events = controller;
+    Ok(())
+}

@@ -1,0 +1,21 @@
+//! The state of a drive in memory, as the journal behind its checkpoint is applied to it.
+#![tactic(auto)]
+
+mod apply;
+mod events;
+mod fits;
+mod latest;
+mod lists;
+mod loaded;
+mod make;
+mod masks;
+mod moved_events;
+mod moves;
+mod names;
+mod parts;
+mod rows;
+#[cfg(test)]
+mod tests;
+mod update_events;
+
+pub use loaded::LoadedState;

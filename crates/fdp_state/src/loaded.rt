@@ -1,0 +1,76 @@
+ghost use Rattle.std.specs.Prelude.{◌≡◌, ◌<◌, length};
+ghost use Rattle.fdp_base.specs.Config.{IsInRange};
+ghost use Rattle.fdp_image.specs.Checkpoint.{reading_of_state};
+
+use crate::apply::apply_to;
+use crate::parts::{Parts, parts_of, state_of};
+use fdp_base::{DriveConfig, Totals};
+use fdp_records::Change;
+use fdp_replay::{Refusal, Replayed};
+use fdp_snapshot::State;
+use std::alloc::Global;
+use std::marker::Model;
+
+/// The state of a drive as it is read from an image.
+#[derive(Drop)]
+pub struct LoadedState<'a> {
+    config: &'a DriveConfig,
+    parts: Parts,
+}
+
+impl<'a> Model for LoadedState<'a> {
+    ghost use Rattle.fdp_state.specs.Loaded.{IsLoaded, Loaded};
+
+    ghost Value = { Loaded };
+
+    ghost view = { λ s. record { config = s.config.now; parts = s.parts } };
+
+    ghost invariant = { λ s. IsLoaded s.config.now s.parts };
+}
+
+impl<'a> LoadedState<'a> {
+    ghost use Rattle.fdp_state.specs.Loaded.{IsLoadable, said_by};
+
+    /// The state that a checkpoint says.
+    #[tactic(auto, unfolding(crate::specs::Parts::reading_of, fdp_image::specs::Checkpoint::reading_of_state))]
+    pub fn new(config: &'a DriveConfig, state: State) -> LoadedState<'a>
+        requires config { IsInRange config.now }
+        requires loadable { IsLoadable state }
+        requires index { state.summary.index < length config.now.fdp }
+        ensures config { result.config ≡ config.now }
+        ensures said { said_by result ≡ reading_of_state state }
+    {
+        LoadedState {
+            config,
+            parts: parts_of(state),
+        }
+    }
+
+    /// The state, as a checkpoint says it.
+    #[tactic(auto, unfolding(crate::specs::Parts::reading_of, fdp_image::specs::Checkpoint::reading_of_state))]
+    pub fn into_state(self) -> State
+        ensures said { reading_of_state result ≡ said_by self.entry }
+        ensures loadable { IsLoadable result }
+    {
+        let LoadedState { config: _, parts } = self;
+        state_of(parts)
+    }
+}
+
+impl<'a> Replayed for LoadedState<'a> {
+    ghost use Rattle.fdp_state.specs.Fits.{fits};
+    ghost use Rattle.fdp_state.specs.Loaded.{said_by};
+
+    ghost config = { λ s. s.config };
+
+    ghost reading = { said_by };
+
+    ghost fits = { fits };
+
+    fn apply(&mut self, alloc: Global, change: Change, totals: Totals) -> Result<(), Refusal> {
+        match apply_to(alloc, self.config, &mut self.parts, change, totals) {
+            Ok(()) => Ok(()),
+            Err(refusal) => Err(refusal),
+        }
+    }
+}

@@ -1,0 +1,184 @@
+//! What a saved change makes of a loaded state.
+
+ghost use Rattle.std.specs.Prelude.{◌≡◌, ◌<◌, ℕ, Bool, List, IsTrue, IfSome, OnErr, OnOk, false, true, length};
+ghost use Rattle.fdp_base.specs.Config.{IsInRange};
+ghost use Rattle.fdp_base.specs.Geometry.{data_units};
+ghost use Rattle.fdp_base.specs.Placement.{geometry_of};
+ghost use Rattle.fdp_image.specs.CheckpointRows.{is_namespace_id};
+ghost use Rattle.fdp_base.specs.declared.config.DriveConfig.{DriveConfig as Config};
+ghost use Rattle.fdp_records.specs.declared.change.Change.TheVariants as changes;
+ghost use Rattle.fdp_records.specs.declared.change.UnitPages.{UnitPages as Pages};
+ghost use Rattle.fdp_state.specs.Fits.{has_namespace, lie_within, lies_within, names_what_is};
+ghost use Rattle.fdp_state.specs.Made.{IsMade};
+ghost use Rattle.fdp_state.specs.Parts.{IsSound, reading_of};
+
+use crate::lists::blank_list;
+use crate::masks::{no_reports, set_reports};
+use crate::moves::{moves_of, push_moved_lists};
+use crate::parts::Parts;
+use crate::rows::{clear_in, put_in, set_list, set_space};
+use fdp_base::{Bytes, DriveConfig, Range, Sequence};
+use fdp_records::{Change, UnitPages};
+use fdp_snapshot::Space;
+use std::alloc::{AllocError, Global};
+
+/// Makes a change in a loaded state, at a position. All stays as it was where there is no memory.
+pub fn make_change(
+    alloc: Global,
+    config: &DriveConfig,
+    parts: &mut Parts,
+    position: u64,
+    change: Change,
+) -> Result<(), AllocError>
+    requires config { IsInRange config.now }
+    requires sound { IsSound parts.old }
+    requires index { parts.old.index < length config.now.fdp }
+    requires fit { names_what_is config.now (reading_of parts.old) change ≡ true }
+    ensures made { OnOk result (IsMade config.now position change parts.old parts.new) }
+    ensures refused { OnErr result (parts.new ≡ parts.old) }
+{
+    match change {
+        Change::Write {
+            nsid,
+            slba,
+            pid: _,
+            pid_invalid: _,
+            pages,
+        } => {
+            put_write(alloc, parts, nsid, slba, pages.as_slice());
+            Ok(())
+        }
+        Change::Clear { nsid, ranges } => {
+            clear(alloc, parts, nsid, ranges.as_slice());
+            Ok(())
+        }
+        Change::Update {
+            nsid: _,
+            closed: _,
+            pids: _,
+        } => Ok(()),
+        Change::Create {
+            nsid,
+            size,
+            given,
+            handles,
+        } => create(alloc, parts, position, nsid, size, given, handles),
+        Change::Delete { nsid } => {
+            delete(alloc, parts, nsid);
+            Ok(())
+        }
+        Change::SetFdp {
+            enabled,
+            index,
+            generation,
+        } => {
+            set_placement(parts, enabled, index, generation);
+            Ok(())
+        }
+        Change::SetEvents { ruh, on, mask } => {
+            set_events(parts, ruh, on, mask);
+            Ok(())
+        }
+        Change::Moved {
+            victim,
+            first,
+            second,
+            handles: _,
+        } => move_pages(alloc, config, parts, &victim, &first, &second),
+        Change::Shut { rg: _, ruh: _ } => Ok(()),
+    }
+}
+
+fn put_write(alloc: Global, parts: &mut Parts, nsid: u32, slba: u64, pages: &[u32])
+    requires sound { IsSound parts.old }
+    requires within { lies_within (reading_of parts.old) nsid slba (length pages.now) ≡ true }
+    ensures made { (c : Config) (position pid : ℕ) (invalid : Bool) → IsMade c position (changes.Write nsid slba pid invalid pages.now) parts.old parts.new }
+{
+    put_in(alloc, &mut parts.pages, nsid, slba, pages);
+}
+
+fn clear(alloc: Global, parts: &mut Parts, nsid: u32, ranges: &[Range])
+    requires sound { IsSound parts.old }
+    requires there { has_namespace (reading_of parts.old) nsid ≡ true }
+    requires within { lie_within (reading_of parts.old) nsid ranges.now ≡ true }
+    ensures made { (c : Config) (position : ℕ) → IsMade c position (changes.Clear nsid ranges.now) parts.old parts.new }
+{
+    clear_in(alloc, &mut parts.pages, nsid, ranges);
+}
+
+fn create(
+    alloc: Global,
+    parts: &mut Parts,
+    position: u64,
+    nsid: u32,
+    size: u64,
+    given: bool,
+    handles: Bytes,
+) -> Result<(), AllocError>
+    requires sound { IsSound parts.old }
+    requires id { IsTrue (is_namespace_id nsid) }
+    requires free { has_namespace (reading_of parts.old) nsid ≡ false }
+    ensures made { (c : Config) → OnOk result (IsMade c position (changes.Create nsid size given handles) parts.old parts.new) }
+    ensures refused { OnErr result (parts.new ≡ parts.old) }
+{
+    let list = blank_list(alloc, size)?;
+    let space = Space {
+        size,
+        birth: position,
+        given,
+        handles,
+    };
+    set_space(&mut parts.spaces, nsid, Some(space));
+    set_list(&mut parts.pages, nsid, Sequence::from_vec(list));
+    Ok(())
+}
+
+fn delete(alloc: Global, parts: &mut Parts, nsid: u32)
+    requires sound { IsSound parts.old }
+    requires there { has_namespace (reading_of parts.old) nsid ≡ true }
+    ensures made { (c : Config) (position : ℕ) → IsMade c position (changes.Delete nsid) parts.old parts.new }
+{
+    set_space(&mut parts.spaces, nsid, None);
+    set_list(&mut parts.pages, nsid, Sequence::new(alloc));
+}
+
+fn set_placement(parts: &mut Parts, enabled: bool, index: u8, generation: u32)
+    requires sound { IsSound parts.old }
+    ensures made { (c : Config) (position : ℕ) → IsMade c position (changes.SetFdp enabled index generation) parts.old parts.new }
+{
+    parts.enabled = enabled;
+    parts.index = index;
+    parts.generation = generation;
+    parts.masks = no_reports();
+}
+
+fn set_events(parts: &mut Parts, ruh: u8, on: bool, mask: u8)
+    requires sound { IsSound parts.old }
+    requires ruh { ruh < 16 }
+    ensures made { (c : Config) (position : ℕ) → IsMade c position (changes.SetEvents ruh on mask) parts.old parts.new }
+{
+    set_reports(&mut parts.masks, ruh, on, mask);
+}
+
+fn move_pages(
+    alloc: Global,
+    config: &DriveConfig,
+    parts: &mut Parts,
+    victim: &UnitPages,
+    first: &UnitPages,
+    second: &Option<UnitPages>,
+) -> Result<(), AllocError>
+    requires config { IsInRange config.now }
+    requires sound { IsSound parts.old }
+    requires victim { victim.now.unit < data_units (geometry_of config.now) }
+    requires first { first.now.unit < data_units (geometry_of config.now) }
+    requires second { IfSome second.now (λ (t : Pages). t.unit < data_units (geometry_of config.now)) }
+    ensures made { (position : ℕ) (handles : List ℕ) → OnOk result (IsMade config.now position (changes.Moved victim.now first.now second.now handles) parts.old parts.new) }
+    ensures refused { OnErr result (parts.new ≡ parts.old) }
+{
+    let moves = moves_of(alloc, config, victim, first, second)?;
+    let mut moved = Vec::new(alloc);
+    push_moved_lists(alloc, &mut moved, parts.pages.as_slice(), moves.as_slice())?;
+    parts.pages = moved;
+    Ok(())
+}

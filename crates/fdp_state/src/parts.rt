@@ -1,0 +1,87 @@
+ghost use Rattle.std.specs.Prelude.{◌≡◌};
+
+use fdp_base::{Event, Sequence, Totals};
+use fdp_snapshot::{Keys, PageList, Space, State, Summary};
+
+/// What a drive is, while the journal behind its checkpoint is applied.
+#[derive(Drop)]
+pub struct Parts {
+    pub keys: Keys,
+    pub totals: Totals,
+    pub enabled: bool,
+    pub index: u8,
+    pub generation: u32,
+    pub masks: [u8; 16],
+    /// By identifier, sixteen from 1 on.
+    pub spaces: Vec<Option<Space>>,
+    /// The pages of the blocks of each namespace, by identifier and address.
+    pub pages: Vec<PageList>,
+    pub host_events: Vec<Event>,
+    pub controller_events: Vec<Event>,
+}
+
+/// Takes a state apart.
+pub fn parts_of(state: State) -> Parts
+    ensures rest { result ≡ record { keys = state.summary.keys; totals = state.summary.totals; enabled = state.summary.enabled; index = state.summary.index; generation = state.summary.generation; masks = state.summary.masks; spaces = result.spaces; pages = result.pages; host_events = result.host_events; controller_events = result.controller_events } }
+    ensures spaces { result.spaces.items ≡ state.summary.spaces }
+    ensures pages { result.pages.items ≡ state.pages }
+    ensures host_events { result.host_events.items ≡ state.summary.host_events }
+    ensures controller_events { result.controller_events.items ≡ state.summary.controller_events }
+{
+    let State { summary, pages } = state;
+    let Summary {
+        keys,
+        totals,
+        enabled,
+        index,
+        generation,
+        masks,
+        spaces,
+        host_events,
+        controller_events,
+    } = summary;
+    Parts {
+        keys,
+        totals,
+        enabled,
+        index,
+        generation,
+        masks,
+        spaces: spaces.into_vec(),
+        pages: pages.into_vec(),
+        host_events: host_events.into_vec(),
+        controller_events: controller_events.into_vec(),
+    }
+}
+
+/// Puts the parts of a state together.
+pub fn state_of(parts: Parts) -> State
+    ensures { result ≡ record { summary = record { keys = parts.keys; totals = parts.totals; enabled = parts.enabled; index = parts.index; generation = parts.generation; masks = parts.masks; spaces = parts.spaces.items; host_events = parts.host_events.items; controller_events = parts.controller_events.items }; pages = parts.pages.items } }
+{
+    let Parts {
+        keys,
+        totals,
+        enabled,
+        index,
+        generation,
+        masks,
+        spaces,
+        pages,
+        host_events,
+        controller_events,
+    } = parts;
+    State {
+        summary: Summary {
+            keys,
+            totals,
+            enabled,
+            index,
+            generation,
+            masks,
+            spaces: Sequence::from_vec(spaces),
+            host_events: Sequence::from_vec(host_events),
+            controller_events: Sequence::from_vec(controller_events),
+        },
+        pages: Sequence::from_vec(pages),
+    }
+}

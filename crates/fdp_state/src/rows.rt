@@ -1,0 +1,127 @@
+//! The places of namespaces, and of their page lists, by identifier.
+
+ghost use Rattle.std.specs.Prelude.{◌≡◌, ℕ, ◌==◌, ◌+◌, ◌-◌, ◌≤◌, ◌&&◌, [], None, Some, IsTrue, if◌then◌else◌, length, slice_get, slice_set};
+ghost use Rattle.std.specs.Option.{option_copied};
+ghost use Rattle.fdp_base.specs.declared.command.Range.{Range as Stretch};
+ghost use Rattle.fdp_base.specs.Numbers.{is_among};
+ghost use Rattle.fdp_rules.specs.Effect.{is_in_ranges};
+ghost use Rattle.fdp_image.specs.Checkpoint.{in_place, page_in_lists};
+ghost use Rattle.fdp_image.specs.CheckpointRows.{is_namespace_id};
+ghost use Rattle.fdp_state.specs.Parts.{IsSound, handles_at, listed, reading_of, row};
+
+use crate::lists::{clear_ranges, put_pages};
+use crate::parts::Parts;
+use fdp_base::{Range, Sequence};
+use fdp_snapshot::{PageList, Space};
+use std::alloc::Global;
+use std::mem;
+
+/// The namespace in the place of an identifier.
+pub fn space_at(spaces: &[Option<Space>], nsid: u32) -> Option<&Space>
+    requires { length spaces.now ≡ 16 }
+    ensures { option_copied result ≡ in_place spaces.now nsid }
+{
+    if nsid == 0 || nsid > 16 {
+        return None;
+    }
+    spaces[nsid as usize - 1].as_ref()
+}
+
+/// The page list of an identifier.
+pub fn list_at(lists: &[PageList], nsid: u32) -> &[Option<u32>]
+    requires { length lists.now ≡ 16 }
+    ensures rows { (lba : ℕ) → row result.now lba ≡ page_in_lists lists.now nsid lba }
+    ensures size { length result.now ≡ listed lists.now nsid }
+{
+    if nsid == 0 || nsid > 16 {
+        return &[];
+    }
+    lists[nsid as usize - 1].as_slice()
+}
+
+/// The page of a block, if it has one.
+#[tactic(auto, unfolding(crate::specs::Parts::reading_of))]
+pub fn page_at(parts: &Parts, nsid: u32, lba: u64) -> Option<u32>
+    requires { IsSound parts.now }
+    ensures { result ≡ (reading_of parts.now).pages nsid lba }
+{
+    match list_at(parts.pages.as_slice(), nsid).get(lba as usize) {
+        Some(page) => *page,
+        None => None,
+    }
+}
+
+/// Takes the page list out of the place of an identifier.
+#[tactic(auto, using(crate::proofs::Places::id_is))]
+fn take_list(alloc: Global, lists: &mut Vec<PageList>, nsid: u32) -> Vec<Option<u32>>
+    requires id { IsTrue (is_namespace_id nsid) }
+    requires rows { length lists.old.items ≡ 16 }
+    ensures pages { (lba : ℕ) → row result.items lba ≡ page_in_lists lists.old.items nsid lba }
+    ensures size { length result.items ≡ listed lists.old.items nsid }
+    ensures after { lists.new.items ≡ slice_set lists.old.items (nsid - 1) [] }
+{
+    mem::replace(&mut lists[nsid as usize - 1], Sequence::new(alloc)).into_vec()
+}
+
+/// The handles of a namespace, none where it is not there.
+#[tactic(auto, unfolding(crate::specs::Parts::reading_of))]
+pub fn handles_at(parts: &Parts, nsid: u32) -> &[u8]
+    requires { IsSound parts.now }
+    ensures { result.now ≡ handles_at (reading_of parts.now) nsid }
+{
+    match space_at(parts.spaces.as_slice(), nsid) {
+        Some(space) => space.handles.as_slice(),
+        None => &[],
+    }
+}
+
+/// Puts a namespace, or none, in the place of an identifier.
+#[tactic(auto, using(crate::proofs::Places::id_is))]
+pub fn set_space(spaces: &mut Vec<Option<Space>>, nsid: u32, space: Option<Space>)
+    requires id { IsTrue (is_namespace_id nsid) }
+    requires rows { length spaces.old.items ≡ 16 }
+    ensures place { (n : ℕ) → in_place spaces.new.items n ≡ (if n == nsid then space else in_place spaces.old.items n) }
+    ensures rows { length spaces.new.items ≡ 16 }
+{
+    spaces[nsid as usize - 1] = space;
+}
+
+/// Puts a page list in the place of an identifier.
+#[tactic(auto, using(crate::proofs::Places::id_is))]
+pub fn set_list(lists: &mut Vec<PageList>, nsid: u32, list: PageList)
+    requires id { IsTrue (is_namespace_id nsid) }
+    requires rows { length lists.old.items ≡ 16 }
+    ensures pages { (n lba : ℕ) → page_in_lists lists.new.items n lba ≡ (if n == nsid then row list lba else page_in_lists lists.old.items n lba) }
+    ensures sizes { (n : ℕ) → listed lists.new.items n ≡ (if n == nsid then length list else listed lists.old.items n) }
+    ensures rows { length lists.new.items ≡ 16 }
+{
+    lists[nsid as usize - 1] = list;
+}
+
+/// Puts pages at the addresses of a namespace from `slba` on.
+pub fn put_in(alloc: Global, lists: &mut Vec<PageList>, nsid: u32, slba: u64, pages: &[u32])
+    requires id { IsTrue (is_namespace_id nsid) }
+    requires rows { length lists.old.items ≡ 16 }
+    requires within { slba + length pages.now ≤ listed lists.old.items nsid }
+    ensures pages { (n lba : ℕ) → page_in_lists lists.new.items n lba ≡ (if n == nsid && is_among slba (length pages.now) lba then slice_get pages.now (lba - slba) else page_in_lists lists.old.items n lba) }
+    ensures sizes { (n : ℕ) → listed lists.new.items n ≡ listed lists.old.items n }
+    ensures rows { length lists.new.items ≡ 16 }
+{
+    let mut list = take_list(alloc, lists, nsid);
+    put_pages(list.as_mut_slice(), slba, pages);
+    set_list(lists, nsid, Sequence::from_vec(list));
+}
+
+/// Takes the pages away from the addresses of some ranges of a namespace.
+pub fn clear_in(alloc: Global, lists: &mut Vec<PageList>, nsid: u32, ranges: &[Range])
+    requires id { IsTrue (is_namespace_id nsid) }
+    requires rows { length lists.old.items ≡ 16 }
+    requires within { (x : Stretch) (k : ℕ) → slice_get ranges.now k ≡ Some x → x.slba + x.length ≤ listed lists.old.items nsid }
+    ensures pages { (n lba : ℕ) → page_in_lists lists.new.items n lba ≡ (if n == nsid && is_in_ranges ranges.now lba then None else page_in_lists lists.old.items n lba) }
+    ensures sizes { (n : ℕ) → listed lists.new.items n ≡ listed lists.old.items n }
+    ensures rows { length lists.new.items ≡ 16 }
+{
+    let mut list = take_list(alloc, lists, nsid);
+    clear_ranges(list.as_mut_slice(), ranges);
+    set_list(lists, nsid, Sequence::from_vec(list));
+}
