@@ -1,7 +1,10 @@
 ghost use Rattle.std.specs.Prelude.{◌≡◌, ◌*◌, Decides, length};
 ghost use Rattle.fdp_base.specs.CommandKinds.{IsPayloadOf, IsWellFormed};
 
-use fdp_base::{Command, DriveConfig, Payload};
+use fdp_base::{
+    Command, DriveConfig, MOST_ENTRY_BLOCKS, MOST_ENTRY_EVENT_TYPES, MOST_ENTRY_PIDS,
+    MOST_ENTRY_RANGES, Payload,
+};
 
 /// Whether a queue entry can hold a command.
 pub fn is_well_formed(config: &DriveConfig, command: &Command) -> bool
@@ -10,24 +13,25 @@ pub fn is_well_formed(config: &DriveConfig, command: &Command) -> bool
     match command {
         Command::Write(write) => {
             1 <= write.count
-                && write.count <= 65536
+                && write.count <= MOST_ENTRY_BLOCKS
                 && is_payload_of(config, write.count, &write.payload)
         }
-        Command::Read(read) => 1 <= read.count && read.count <= 65536,
-        Command::Zero(zero) => 1 <= zero.count && zero.count <= 65536,
+        Command::Read(read) => 1 <= read.count && read.count <= MOST_ENTRY_BLOCKS,
+        Command::Zero(zero) => 1 <= zero.count && zero.count <= MOST_ENTRY_BLOCKS,
         Command::Dealloc(dealloc) => {
-            1 <= dealloc.ranges.as_slice().len() && dealloc.ranges.as_slice().len() <= 256
+            1 <= dealloc.ranges.as_slice().len()
+                && dealloc.ranges.as_slice().len() <= MOST_ENTRY_RANGES
         }
         Command::Flush(_) => true,
         Command::Delete(_) => true,
         Command::Status(status) => 1 <= status.dwords,
         Command::Update(update) => {
-            1 <= update.pids.as_slice().len() && update.pids.as_slice().len() <= 65536
+            1 <= update.pids.as_slice().len() && update.pids.as_slice().len() <= MOST_ENTRY_PIDS
         }
         Command::Log(log) => 1 <= log.dwords,
         Command::SetFdp(_) => true,
         Command::GetFdp(_) => true,
-        Command::SetEvents(set) => set.types.as_slice().len() <= 255,
+        Command::SetEvents(set) => set.types.as_slice().len() <= MOST_ENTRY_EVENT_TYPES,
         Command::Create(create) => create.given || create.list.as_slice().is_empty(),
         Command::Other(_) => true,
     }

@@ -7,12 +7,14 @@ use Rattle.std.specs.Option.{option_or, option_map_or}
 use Rattle.fdp_base.specs.declared.config.Class.{Class}
 use Rattle.fdp_base.specs.declared.config.Class.TheVariants.{Initial, Persistent}
 use Rattle.fdp_base.specs.declared.config.DriveConfig.{DriveConfig}
+use Rattle.fdp_base.specs.declared.limits.TheConstants.{MOST_HANDLES, MOST_NAMESPACES, MOST_PAGES}
 use Rattle.fdp_base.specs.Geometry.{all_pages}
 use Rattle.fdp_base.specs.Numbers.{has_repeat}
 use Rattle.fdp_base.specs.Placement.{geometry_of}
 use Rattle.toml.specs.Data.{Data, Members, get, as_str}
 use Rattle.fdp_config.specs.declared.key.Key.{Key}
 use Rattle.fdp_config.specs.declared.key.Key.TheVariants.{Block, UnitPages, Groups, Units, AreaUnits, Queues, BlocksPerCommand, Fdp, Enabled, Index, Namespaces as NamespacesKey, QueueDepth, Collectors, Turns}
+use Rattle.fdp_config.specs.declared.limits.TheConstants.{MOST_CONFIGURATIONS}
 use Rattle.fdp_config.specs.declared.key.Shape.{Shape}
 use Rattle.fdp_config.specs.declared.key.Shape.TheVariants.{Number, Truth, Configurations, Namespaces}
 use Rattle.fdp_config.specs.Document.{value_at, elements, elements_of, number_of, natural, amount_of, amount_at}
@@ -54,11 +56,11 @@ class_fault place d = if is_some (class_of d) then None else Some place
 
 -- an FDP configuration has one to sixteen handles
 abbrev pub classes_fault : ℕ → Data → Option ℕ
-classes_fault place d = if is_within 1 16 (length (elements d)) then first_of class_fault 0 (elements d) else Some place
+classes_fault place d = if is_within 1 MOST_HANDLES (length (elements d)) then first_of class_fault 0 (elements d) else Some place
 
 -- there are one to four FDP configurations
 abbrev pub configurations_fault : List Data → Option ℕ
-configurations_fault ds = if is_within 1 4 (length ds) then first_of classes_fault 0 ds else Some 0
+configurations_fault ds = if is_within 1 MOST_CONFIGURATIONS (length ds) then first_of classes_fault 0 ds else Some 0
 
 -- a namespace has at least one block
 abbrev pub blocks_fault : ℕ → ℤ → Option ℕ
@@ -72,7 +74,7 @@ is_handle count d = option_map_or (λ ruh. nat_lt ruh count) (natural (number_of
 -- a list of handles that a namespace may have: at most sixteen, each known, none twice
 abbrev pub is_handle_list : ℕ → List Data → Bool
 is_handle_list count ds =
-    nat_le (length ds) 16 && list_all (is_handle count) ds && not (has_repeat (map (λ d. amount_of (Some d)) ds))
+    nat_le (length ds) MOST_HANDLES && list_all (is_handle count) ds && not (has_repeat (map (λ d. amount_of (Some d)) ds))
 
 -- a list of handles that the entry at this place may not have
 abbrev pub handles_fault : ℕ → ℕ → List Data → Option ℕ
@@ -85,7 +87,7 @@ namespace_fault count place d =
 
 -- there are at most sixteen namespaces
 abbrev pub namespaces_fault : ℕ → List Data → Option ℕ
-namespaces_fault count ds = if nat_le (length ds) 16 then first_of (namespace_fault count) 0 ds else Some 0
+namespaces_fault count ds = if nat_le (length ds) MOST_NAMESPACES then first_of (namespace_fault count) 0 ds else Some 0
 
 -- how many handles a namespace can list: none while placement is disabled
 abbrev pub listable : DriveConfig → ℕ
@@ -104,7 +106,7 @@ abbrev pub further_fault : Members → DriveConfig → Key → Option ℕ
 further_fault doc c Block = if amount_at doc Block == 512 || amount_at doc Block == 4096 then None else Some (amount_at doc Block)
 further_fault doc c UnitPages = None
 further_fault doc c Groups = None
-further_fault doc c Units = above 262144 (all_pages (geometry_of (record c { units = amount_at doc Units; area_units = amount_at doc AreaUnits })))
+further_fault doc c Units = above MOST_PAGES (all_pages (geometry_of (record c { units = amount_at doc Units; area_units = amount_at doc AreaUnits })))
 further_fault doc c AreaUnits = None
 further_fault doc c Queues = None
 further_fault doc c BlocksPerCommand = above c.unit_pages (amount_at doc BlocksPerCommand)

@@ -12,7 +12,8 @@ ghost use Rattle.fdp_config.specs.Reader.Config.{classes_in};
 use crate::document::{elements_of, value_at};
 use crate::fault::ConfigFault;
 use crate::key::Key;
-use fdp_base::{Class, Classes, Sequence};
+use crate::limits::MOST_CONFIGURATIONS;
+use fdp_base::{Class, Classes, MOST_HANDLES, Sequence};
 use std::alloc::Global;
 use toml::{Table, Value};
 
@@ -20,11 +21,11 @@ use toml::{Table, Value};
 pub fn configurations(alloc: Global, table: &Table) -> Result<Sequence<Classes>, ConfigFault>
     ensures value { let arrays = elements_of (value_at (table_view table.now) Key.Fdp)
         in Gives result (checked Key.Fdp (map classes_in arrays) (configurations_fault arrays)) }
-    ensures few { IfOk result (λ fdp. IsWithin 1 4 (length fdp)) }
-    ensures each { IfOk result (All (λ classes. IsWithin 1 16 (length classes))) }
+    ensures few { IfOk result (λ fdp. IsWithin 1 MOST_CONFIGURATIONS (length fdp)) }
+    ensures each { IfOk result (All (λ classes. IsWithin 1 MOST_HANDLES (length classes))) }
 {
     let arrays = elements_of(value_at(table, Key::Fdp));
-    if arrays.is_empty() || arrays.len() > 4 {
+    if arrays.is_empty() || arrays.len() > MOST_CONFIGURATIONS {
         return Err(out_of_range(0));
     }
     let mut configurations = Vec::with_capacity(alloc, arrays.len())?;
@@ -39,7 +40,7 @@ fn classes(alloc: Global, place: usize, array: &Value) -> Result<Classes, Config
     ensures { Gives result (checked Key.Fdp (classes_in (view array.now)) (classes_fault place (view array.now))) }
 {
     let words = elements_of(Some(array));
-    if words.is_empty() || words.len() > 16 {
+    if words.is_empty() || words.len() > MOST_HANDLES {
         return Err(out_of_range(place));
     }
     let mut classes = Vec::with_capacity(alloc, words.len())?;

@@ -1,5 +1,11 @@
 ghost use Rattle.std.specs.Prelude.{◌≡◌};
 
+use crate::limits::{
+    MOST_AREA_UNITS, MOST_COLLECTORS, MOST_CONFIGURATIONS, MOST_GROUPS, MOST_QUEUES,
+    MOST_UNIT_PAGES, MOST_UNITS,
+};
+use fdp_base::{MOST_COMMAND_BLOCKS, MOST_QUEUE_DEPTH};
+
 /// The keys of a configuration text, in the order in which their faults are told.
 #[derive(Clone, Copy, Debug, PartialEq, Eq)]
 pub enum Key {
@@ -83,24 +89,45 @@ impl Key {
                 low: 512,
                 high: 4096,
             },
-            Key::UnitPages => Shape::Number { low: 2, high: 256 },
-            Key::Groups => Shape::Number { low: 1, high: 16 },
+            Key::UnitPages => Shape::Number {
+                low: 2,
+                high: MOST_UNIT_PAGES,
+            },
+            Key::Groups => Shape::Number {
+                low: 1,
+                high: MOST_GROUPS,
+            },
             Key::Units => Shape::Number {
                 low: 1,
-                high: 131_072,
+                high: MOST_UNITS,
             },
             Key::AreaUnits => Shape::Number {
                 low: 1,
-                high: 65_536,
+                high: MOST_AREA_UNITS,
             },
-            Key::Queues => Shape::Number { low: 1, high: 16 },
-            Key::BlocksPerCommand => Shape::Number { low: 1, high: 64 },
+            Key::Queues => Shape::Number {
+                low: 1,
+                high: MOST_QUEUES,
+            },
+            Key::BlocksPerCommand => Shape::Number {
+                low: 1,
+                high: MOST_COMMAND_BLOCKS as u32,
+            },
             Key::Fdp => Shape::Configurations,
             Key::Enabled => Shape::Truth,
-            Key::Index => Shape::Number { low: 0, high: 3 },
+            Key::Index => Shape::Number {
+                low: 0,
+                high: MOST_CONFIGURATIONS as u32 - 1,
+            },
             Key::Namespaces => Shape::Namespaces,
-            Key::QueueDepth => Shape::Number { low: 2, high: 1024 },
-            Key::Collectors => Shape::Number { low: 0, high: 8 },
+            Key::QueueDepth => Shape::Number {
+                low: 2,
+                high: MOST_QUEUE_DEPTH as u32,
+            },
+            Key::Collectors => Shape::Number {
+                low: 0,
+                high: MOST_COLLECTORS,
+            },
             Key::Turns => Shape::Number {
                 low: 0,
                 high: u32::MAX,

@@ -6,6 +6,7 @@ mod document;
 mod fault;
 mod key;
 mod kinds;
+mod limits;
 mod namespaces;
 mod numbers;
 mod read;
@@ -13,4 +14,8 @@ mod room;
 
 pub use fault::{ConfigFault, NoConfig, Word};
 pub use key::{Key, Shape};
+pub use limits::{
+    MOST_AREA_UNITS, MOST_COLLECTORS, MOST_CONFIGURATIONS, MOST_GROUPS, MOST_QUEUES,
+    MOST_UNIT_PAGES, MOST_UNITS,
+};
 pub use read::read_config;

@@ -11,7 +11,7 @@ ghost use Rattle.fdp_config.specs.Reader.Config.{given, namespace_in};
 use crate::document::{elements_of, natural, number_of, value_at};
 use crate::fault::ConfigFault;
 use crate::key::Key;
-use fdp_base::{HandleList, NamespaceConfig, Sequence, has_repeat};
+use fdp_base::{HandleList, MOST_HANDLES, MOST_NAMESPACES, NamespaceConfig, Sequence, has_repeat};
 use std::alloc::Global;
 use toml::{Table, Value};
 
@@ -21,12 +21,12 @@ pub fn namespaces(
     table: &Table,
     listable: usize,
 ) -> Result<Sequence<NamespaceConfig>, ConfigFault>
-    requires { listable ≤ 16 }
+    requires { listable ≤ MOST_HANDLES }
     ensures { let entries = elements_of (value_at (table_view table.now) Key.Namespaces)
         in Gives result (checked Key.Namespaces (map namespace_in entries) (namespaces_fault listable entries)) }
 {
     let entries = elements_of(value_at(table, Key::Namespaces));
-    if entries.len() > 16 {
+    if entries.len() > MOST_NAMESPACES as usize {
         return Err(out_of_range(0));
     }
     let mut namespaces = Vec::with_capacity(alloc, entries.len())?;
@@ -43,7 +43,7 @@ fn namespace(
     place: usize,
     entry: &Value,
 ) -> Result<NamespaceConfig, ConfigFault>
-    requires { listable ≤ 16 }
+    requires { listable ≤ MOST_HANDLES }
     ensures { Gives result (checked Key.Namespaces (namespace_in (view entry.now)) (namespace_fault listable place (view entry.now))) }
 {
     let blocks = blocks(place, entry.get("blocks"))?;
@@ -71,11 +71,11 @@ fn handles(
     place: usize,
     values: &[Value],
 ) -> Result<Option<HandleList>, ConfigFault>
-    requires { listable ≤ 16 }
+    requires { listable ≤ MOST_HANDLES }
     ensures { let numbers = map view values.now
         in Gives result (checked Key.Namespaces (given (map (λ d. amount_of (Some d)) numbers)) (handles_fault listable place numbers)) }
 {
-    if values.len() > 16 {
+    if values.len() > MOST_HANDLES {
         return Err(out_of_range(place));
     }
     let mut list = Vec::with_capacity(alloc, values.len())?;
@@ -96,7 +96,7 @@ fn handles(
 
 /// The number of a handle below `listable`.
 fn handle(listable: usize, value: &Value) -> Option<u16>
-    requires { listable ≤ 16 }
+    requires { listable ≤ MOST_HANDLES }
     ensures { result ≡ (if is_handle listable (view value.now) then Some (amount_of (Some (view value.now))) else None) }
 {
     match natural(number_of(Some(value))) {

@@ -9,6 +9,8 @@ ghost use Rattle.fdp_config.specs.Reader.Config.{config_in};
 use crate::document::{amount_at, natural, number_of, value_at};
 use crate::fault::ConfigFault;
 use crate::key::{Key, Shape};
+use crate::limits::{MOST_GROUPS, MOST_UNIT_PAGES};
+use fdp_base::MOST_PAGES;
 use toml::Table;
 
 /// The number at a key, in the range of its row.
@@ -58,19 +60,19 @@ pub fn block(table: &Table) -> Result<u32, ConfigFault>
     }
 }
 
-/// The data units of a group, so many that there are at most 262,144 pages in all.
+/// The data units of a group, so many that the flash has no more pages than it may have.
 pub fn units(table: &Table, unit_pages: u32, groups: u32) -> Result<u32, ConfigFault>
     requires unit_pages { unit_pages ≡ amount_at (table_view table.now) Key.UnitPages }
     requires groups { groups ≡ amount_at (table_view table.now) Key.Groups }
-    requires few_pages { unit_pages ≤ 256 }
-    requires few_groups { groups ≤ 16 }
+    requires few_pages { unit_pages ≤ MOST_UNIT_PAGES }
+    requires few_groups { groups ≤ MOST_GROUPS }
     ensures { result ≡ checked Key.Units (amount_at (table_view table.now) Key.Units) (read_fault (table_view table.now) Key.Units) }
 {
     let units = number_in_row(table, Key::Units)?;
     let area_units = amount_at(table, Key::AreaUnits);
     let all_units = u128::from(groups) * u128::from(units) + 2 * u128::from(area_units);
     let pages = u128::from(unit_pages) * all_units;
-    if pages <= 262_144 {
+    if pages <= MOST_PAGES as u128 {
         Ok(units)
     } else {
         Err(ConfigFault::Range {

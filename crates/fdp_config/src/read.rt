@@ -20,7 +20,7 @@ use crate::kinds::{first_missing, first_of_other_kind, first_unknown};
 use crate::namespaces::namespaces;
 use crate::numbers::{block, limited, number, units};
 use crate::room::room_fault;
-use fdp_base::{Classes, DriveConfig};
+use fdp_base::{Classes, DriveConfig, MOST_HANDLES};
 use std::alloc::Global;
 use toml::Table;
 
@@ -90,9 +90,9 @@ fn ranged_config(alloc: Global, table: &Table) -> Result<DriveConfig, ConfigFaul
 /// How many handles a namespace can list.
 fn listable(fdp: &[Classes], enabled: bool, index: usize) -> usize
     requires index { index < length fdp.now }
-    requires few { All (λ classes. IsWithin 1 16 (length classes)) fdp.now }
+    requires few { All (λ classes. IsWithin 1 MOST_HANDLES (length classes)) fdp.now }
     ensures value { result ≡ (if enabled then length (slice_index_or fdp.now index []) else 0) }
-    ensures bound { result ≤ 16 }
+    ensures bound { result ≤ MOST_HANDLES }
 {
     if enabled {
         fdp[index].as_slice().len()

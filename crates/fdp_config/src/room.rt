@@ -4,7 +4,7 @@ ghost use Rattle.fdp_base.specs.Config.{IsInRange};
 ghost use Rattle.fdp_config.specs.Reader.First.{room_fault};
 
 use crate::fault::ConfigFault;
-use fdp_base::{DriveConfig, NamespaceConfig};
+use fdp_base::{DriveConfig, MOST_NAMESPACES, NamespaceConfig};
 
 /// The fault where the namespaces have more blocks than the budgets, or a system area has too few pages.
 pub fn room_fault(config: &DriveConfig) -> Option<ConfigFault>
@@ -30,7 +30,7 @@ pub fn room_fault(config: &DriveConfig) -> Option<ConfigFault>
 
 /// The blocks of some namespaces.
 fn blocks_of(namespaces: &[NamespaceConfig]) -> u128
-    requires { length namespaces.now ≤ 16 }
+    requires { length namespaces.now ≤ MOST_NAMESPACES }
     ensures { result ≡ sum_by (λ n. n.blocks) namespaces.now }
 {
     let mut blocks = 0u128;

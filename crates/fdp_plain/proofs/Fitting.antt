@@ -8,9 +8,9 @@ use Rattle.fdp_base.specs.declared.entry.Entry.{Entry}
 use Rattle.fdp_base.specs.declared.entry.Entry.TheVariants as entries
 use Rattle.fdp_rules.specs.Step.{Follows, IsDataUnit}
 use Rattle.fdp_tables.specs.declared.state.Kept.{Kept}
-use Rattle.fdp_plain_effects.specs.Counted.{HasCountRoom}
+use Rattle.fdp_plain_trail.specs.Counted.{HasCountRoom}
 use Rattle.fdp_plain_answers.specs.Keeping.{HasEvents}
-use Rattle.fdp_plain_effects.specs.Places.{HasCopyRoom, HasGroup, HasGroupOf, HasPage, HasPlaces}
+use Rattle.fdp_plain_trail.specs.Places.{HasCopyRoom, HasGroup, HasGroupOf, HasPage, HasPlaces}
 use Rattle.fdp_tables.specs.Sound.{IsSound}
 use Rattle.fdp_tables.specs.State.{point_kept}
 use Rattle.fdp_plain.specs.Reserved.{HasCopyGroup, HasCopySpare}

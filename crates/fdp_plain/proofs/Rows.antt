@@ -10,7 +10,7 @@ use Rattle.fdp_base.specs.CommandKinds.{blocks_written, is_write}
 use Rattle.fdp_base.specs.Numbers.{with_at}
 use Rattle.fdp_rules.specs.PlainState.{Going, PlainState}
 use Rattle.fdp_tables.specs.declared.state.Kept.{Kept}
-use Rattle.fdp_plain_effects.specs.Rows.{places_of}
+use Rattle.fdp_plain_trail.specs.Rows.{places_of}
 use Rattle.fdp_tables.specs.State.{plain_of}
 use Rattle.fdp_base.proofs.Entries.{by-entry}
 use Rattle.fdp_history.proofs.Others.{others-before}

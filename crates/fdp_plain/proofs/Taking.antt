@@ -18,7 +18,8 @@ use Rattle.fdp_rules.specs.Step.{Follows, IsStep}
 use Rattle.fdp_rules.specs.Totals.{erases_of, host_blocks_of, media_blocks_of}
 use Rattle.fdp_rules.proofs.Pushes.{latest-append, legal-push, point_of-push, trail_of-push}
 use Rattle.fdp_tables.specs.declared.state.Kept.{Kept}
-use Rattle.fdp_plain_effects.specs.Rows.{KeepsRows, places_of}
+use Rattle.fdp_plain_effects.specs.Rows.{KeepsRows}
+use Rattle.fdp_plain_trail.specs.Rows.{places_of}
 use Rattle.fdp_tables.specs.State.{copies_at, plain_of, point_kept, site_at}
 use Rattle.fdp_plain.specs.Longer.{IsLonger, IsTraced}
 use Rattle.fdp_plain.specs.Prepared.{pages_of}

@@ -6,7 +6,7 @@ use Rattle.fdp_rules.specs.PlainState.{PageName.written}
 use Rattle.fdp_rules.specs.Sites.{traced_by}
 use Rattle.fdp_rules.specs.Totals.{erases_of, host_blocks_of, media_blocks_of}
 use Rattle.fdp_tables.specs.declared.state.Kept.{Kept}
-use Rattle.fdp_plain_effects.specs.Rows.{places_of}
+use Rattle.fdp_plain_trail.specs.Rows.{places_of}
 use Rattle.fdp_tables.specs.State.{copies_at, point_kept, site_at}
 
 -- sites and copies are what an entry leaves of them; so many pages more have places, under the next ticket

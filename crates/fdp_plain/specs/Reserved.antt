@@ -5,7 +5,7 @@ use Rattle.std.specs.Vec.{vec_capacity, vec_items, vec_len}
 use Rattle.fdp_base.specs.declared.entry.Entry.{Entry}
 use Rattle.fdp_base.specs.declared.entry.Entry.TheVariants as entries
 use Rattle.fdp_tables.specs.declared.state.Kept.{Kept}
-use Rattle.fdp_plain_effects.specs.Places.{HasCopyRoom, HasGroupOf}
+use Rattle.fdp_plain_trail.specs.Places.{HasCopyRoom, HasGroupOf}
 
 -- the unit from which an entry copies a page
 abbrev pub copied_unit : Entry → Option ℕ

@@ -2,7 +2,7 @@
 use Rattle.std.specs.Prelude.{◌≡◌, ℕ, ◌+◌, ◌*◌, Some, length}
 use Rattle.fdp_rules.specs.PlainState.{Going}
 use Rattle.fdp_tables.specs.declared.state.Kept.{Kept}
-use Rattle.fdp_plain_effects.specs.Rows.{places_of}
+use Rattle.fdp_plain_trail.specs.Rows.{places_of}
 use Rattle.fdp_tables.specs.State.{plain_of}
 use Rattle.fdp_base.specs.CommandKinds.{blocks_written}
 

@@ -2,8 +2,8 @@ ghost use Rattle.std.specs.Prelude.{◌≡◌, ◌+◌, ◌<◌, ◌≤◌, ◌�
 ghost use Rattle.std.specs.Vec.{vec_capacity, vec_len};
 ghost use Rattle.fdp_rules.specs.Events.{kept_of_entry};
 ghost use Rattle.fdp_rules.specs.Step.{Follows};
-ghost use Rattle.fdp_plain_effects.specs.Counted.{HasCountRoom};
-ghost use Rattle.fdp_plain_effects.specs.Places.{HasPlaces};
+ghost use Rattle.fdp_plain_trail.specs.Counted.{HasCountRoom};
+ghost use Rattle.fdp_plain_trail.specs.Places.{HasPlaces};
 ghost use Rattle.fdp_tables.specs.State.{plain_of, point_kept};
 ghost use Rattle.fdp_plain.specs.Longer.{IsLonger, IsTraced};
 ghost use Rattle.fdp_plain.specs.Prepared.{IsPrepared};
@@ -12,7 +12,8 @@ ghost use Rattle.fdp_plain.specs.Telling.{TellsHistory};
 
 use crate::prepare::Prepared;
 use fdp_base::{Entry, Event, Spot};
-use fdp_plain_effects::{change, count};
+use fdp_plain_effects::change;
+use fdp_plain_trail::count;
 use fdp_tables::Kept;
 
 /// Takes an entry that may follow, with the events that it makes. All that needs memory was made, so it cannot fail.
@@ -40,7 +41,7 @@ fn trace(kept: &mut Kept, pages: Vec<Option<Spot>>, entry: &Entry)
     ensures { IsTraced kept.old kept.new entry.now (length pages.items) }
 {
     kept.sites.push_reserved(pages);
-    fdp_plain_effects::trace(kept, entry);
+    fdp_plain_trail::trace(kept, entry);
 }
 
 /// An entry more is counted, its events are kept, and it stands behind the others.

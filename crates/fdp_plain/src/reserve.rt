@@ -1,6 +1,6 @@
 ghost use Rattle.std.specs.Prelude.{◌≡◌, OnOk, map};
 ghost use Rattle.std.specs.Vec.{vec_items};
-ghost use Rattle.fdp_plain_effects.specs.Places.{HasCopyRoom, HasGroupOf};
+ghost use Rattle.fdp_plain_trail.specs.Places.{HasCopyRoom, HasGroupOf};
 ghost use Rattle.fdp_plain.specs.Reserved.{HasCopyGroup, HasCopySpare, HasSpare, IsSame};
 
 use fdp_base::Entry;

@@ -1,42 +1,10 @@
 //! A short history, its entries written one by one, and entries that are refused. The tables of whole histories are the rows of
 //! `fdp_plain_rows`.
-ghost use Rattle.std.specs.Prelude.{IfOk};
-ghost use Rattle.fdp_base.specs.Config.{IsValidConfig};
-
 use super::*;
-use fdp_base::{
-    Bytes, Class, Classes, Command, DriveConfig, Entry, HandleList, Host, NamespaceConfig, Payload,
-    Placed, Read, Reply, Sequence, Started, Status, Write,
-};
+use fdp_base::{Bytes, Command, Entry, Host, Payload, Placed, Read, Reply, Started, Status, Write};
+use fdp_drives::drive_s;
 use std::alloc::{AllocError, Global};
 use std::test::Fail;
-
-/// Drive S: one group, one handle, one namespace that is as large as the budget of 52 blocks.
-fn drive_s(alloc: Global) -> Result<DriveConfig, AllocError>
-    ensures { IfOk result IsValidConfig }
-{
-    let classes = Classes::from_vec(vec![in alloc; Class::Initial]?);
-    let namespace = NamespaceConfig {
-        blocks: 52,
-        handles: Some(HandleList::from_vec(vec![in alloc; 0]?)),
-    };
-    Ok(DriveConfig {
-        block: 512,
-        unit_pages: 8,
-        groups: 1,
-        units: 12,
-        area_units: 4,
-        queues: 1,
-        blocks_per_command: 4,
-        fdp: Sequence::from_vec(vec![in alloc; classes]?),
-        enabled: true,
-        index: 0,
-        namespaces: Sequence::from_vec(vec![in alloc; namespace]?),
-        queue_depth: 64,
-        collectors: 0,
-        turns: 0,
-    })
-}
 
 /// One block of 7s at address 0.
 fn write() -> Command {

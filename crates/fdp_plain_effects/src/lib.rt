@@ -9,12 +9,8 @@ mod entries;
 mod feature;
 mod going;
 mod make;
-mod totals;
-mod trail;
 mod update;
 mod write;
 
 pub use apply::{Made, change};
 pub use make::{make_blocks_of, make_going, make_space_of};
-pub use totals::count;
-pub use trail::trace;

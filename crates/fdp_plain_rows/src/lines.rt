@@ -10,123 +10,144 @@
 //! A command is completed in queue 1 with number 1, or in another where `qN` stands before it, with another where `nN` does. A
 //! write goes to group 0 and handle 0; behind it `to GROUP HANDLE` says another place, and `invalid` behind that that its
 //! placement identifier is invalid.
-use crate::going::{host, placed_pages, started};
-use crate::words::{no, number, number8, number16, number32, pair, words_of};
-use anyhow::Result;
-use fdp_base::{
-    Aside, BlockName, Copied, Entry, Erased, Moved, Placed, Retired, Sequence, Shut, Spot, Worn,
-};
-use std::alloc::Global;
+use crate::answers::answer_of;
+use crate::commands::command_of;
+use crate::own::own_entry;
+use crate::words::Words;
+use fdp_base::{Command, Entry, Host, Placed, Started};
+use std::alloc::{AllocError, Global};
 
-/// The entries of a line, the first of which is to have this position.
-pub fn entries_of(alloc: Global, position: u64, line: &str) -> Result<Vec<Entry>> {
+/// The entries of a line, the first of which is to have this position; nothing where the line is none of a table.
+pub fn entries_of(
+    alloc: Global,
+    position: u64,
+    line: &str,
+) -> Result<Option<Vec<Entry>>, AllocError> {
+    let mut words = Words::of(line);
     let mut entries = Vec::new(alloc);
-    match line.split_once(" -> ") {
-        Some((command, answer)) => {
-            let (command, pages) = command.split_once(" at ").unwrap_or((command, ""));
-            if !pages.is_empty() {
-                entries.push(started(alloc, command)?)?;
-                placed_pages(alloc, position, pages, &mut entries)?;
-            }
-            entries.push(host(alloc, command, answer)?)?;
-        }
-        None => match line.strip_prefix("start ") {
-            Some(command) => entries.push(started(alloc, command)?)?,
-            None => entries.push(entry_of(alloc, line)?)?,
-        },
+    if words.takes("start") {
+        entries.push(started(alloc, &mut words)?)?;
+    } else if line.contains(" -> ") {
+        completed(alloc, position, &mut words, &mut entries)?;
+    } else {
+        entries.push(own_entry(alloc, &mut words)?)?;
     }
-    Ok(entries)
-}
-
-/// An entry of the drive's own.
-fn entry_of(alloc: Global, line: &str) -> Result<Entry> {
-    let words = words_of(alloc, line)?;
-    let [name, rest @ ..] = words.as_slice() else {
-        return Err(no("entry", &[]));
-    };
-    match *name {
-        "placed" => placed(rest),
-        "copied" => copied(rest),
-        "moved" => moved(alloc, rest),
-        "reopened" => Ok(Entry::Reopened),
-        "shut" => shut(rest),
-        _ => of_one(name, rest),
-    }
-}
-
-fn placed(words: &[&str]) -> Result<Entry> {
-    let [ticket, index, unit, page] = words else {
-        return Err(no("page", words));
-    };
-    Ok(Entry::Placed(Placed {
-        ticket: number(ticket)?,
-        index: number32(index)?,
-        unit: number32(unit)?,
-        page: number32(page)?,
-    }))
-}
-
-fn copied(words: &[&str]) -> Result<Entry> {
-    let [from, to] = words else {
-        return Err(no("copy", words));
-    };
-    Ok(Entry::Copied(Copied {
-        from: spot(from)?,
-        to: spot(to)?,
-    }))
-}
-
-fn spot(word: &str) -> Result<Spot> {
-    let (unit, page) = pair(word)?;
-    Ok(Spot {
-        unit,
-        page: u32::try_from(page)?,
+    Ok(if words.is_sound() {
+        Some(entries)
+    } else {
+        None
     })
 }
 
-fn moved(alloc: Global, words: &[&str]) -> Result<Entry> {
-    let [rg, names @ ..] = words else {
-        return Err(no("move", words));
-    };
-    let mut blocks = Vec::new(alloc);
-    for name in names {
-        let (nsid, lba) = pair(name)?;
-        blocks.push(BlockName { nsid, lba })?;
+/// A command with its queue and its number, where it goes, and whether its placement identifier is valid.
+#[derive(Drop)]
+struct Asked {
+    queue: u8,
+    number: u16,
+    command: Command,
+    rg: u16,
+    ruh: u8,
+    pid_valid: bool,
+}
+
+fn asked_in(alloc: Global, words: &mut Words) -> Result<Asked, AllocError> {
+    let (queue, number) = (words.tagged("q"), words.tagged("n"));
+    let command = command_of(alloc, words)?;
+    let (rg, ruh) = place(words);
+    Ok(Asked {
+        queue: (queue % 256) as u8,
+        number,
+        command,
+        rg,
+        ruh,
+        pid_valid: !words.takes("invalid"),
+    })
+}
+
+fn place(words: &mut Words) -> (u16, u8) {
+    if words.takes("to") {
+        (words.number16(), words.number8())
+    } else {
+        (0, 0)
     }
-    Ok(Entry::Moved(Moved {
-        rg: number16(rg)?,
-        blocks: Sequence::from_vec(blocks),
+}
+
+/// The command was started.
+fn started(alloc: Global, words: &mut Words) -> Result<Entry, AllocError> {
+    let asked = asked_in(alloc, words)?;
+    start_of(&asked)
+}
+
+fn start_of(asked: &Asked) -> Result<Entry, AllocError> {
+    let command = asked.command.copied()?;
+    Ok(Entry::Started(Started {
+        queue: asked.queue,
+        number: asked.number,
+        command,
+        rg: asked.rg,
+        ruh: asked.ruh,
+        pid_valid: asked.pid_valid,
     }))
 }
 
-fn shut(words: &[&str]) -> Result<Entry> {
-    let [rg, ruh] = words else {
-        return Err(no("handle", words));
-    };
-    Ok(Entry::Shut(Shut {
-        rg: number16(rg)?,
-        ruh: number8(ruh)?,
+/// The command was completed, and was started before where its pages are told.
+fn completed(
+    alloc: Global,
+    position: u64,
+    words: &mut Words,
+    entries: &mut Vec<Entry>,
+) -> Result<(), AllocError> {
+    let asked = asked_in(alloc, words)?;
+    if words.takes("at") {
+        entries.push(start_of(&asked)?)?;
+        add_pages(position, words, entries)?;
+    }
+    if !words.takes("->") {
+        words.refuse();
+    }
+    entries.push(host(alloc, asked, words)?)?;
+    Ok(())
+}
+
+fn host(alloc: Global, asked: Asked, words: &mut Words) -> Result<Entry, AllocError> {
+    let (reply, moment) = answer_of(alloc, words)?;
+    Ok(Entry::Host(Host {
+        queue: asked.queue,
+        number: asked.number,
+        command: asked.command,
+        reply,
+        moment,
     }))
 }
 
-/// An entry of one number.
-fn of_one(name: &str, words: &[&str]) -> Result<Entry> {
-    let [word] = words else {
-        return Err(no("number", words));
+/// The pages of a write were placed, in this order.
+fn add_pages(ticket: u64, words: &mut Words, entries: &mut Vec<Entry>) -> Result<(), AllocError> {
+    let mut first = Placed {
+        ticket,
+        index: 0,
+        unit: 0,
+        page: 0,
     };
-    match name {
-        "erased" => Ok(Entry::Erased(Erased {
-            unit: number32(word)?,
-        })),
-        "retired" => Ok(Entry::Retired(Retired {
-            unit: number32(word)?,
-        })),
-        "aside" => Ok(Entry::Aside(Aside {
-            unit: number32(word)?,
-        })),
-        "worn" => Ok(Entry::Worn(Worn {
-            rg: number16(word)?,
-        })),
-        _ => Err(no("entry", &[name])),
+    for _ in 0..words.most() {
+        if words.has_more() {
+            let (unit, run) = words.halves('.');
+            let (page, last) = run.split_once('-').unwrap_or((run, run));
+            first.unit = words.number_in(unit, 0xffff_ffff) as u32;
+            first.page = words.number_in(page, 0xffff_ffff) as u32;
+            let last = words.number_in(last, 0xffff_ffff) as u32;
+            first.index = add_run(first, last, entries)?;
+        }
     }
+    Ok(())
+}
+
+/// Pages of one unit were placed, the first as told; the index behind the last.
+fn add_run(first: Placed, last: u32, entries: &mut Vec<Entry>) -> Result<u32, AllocError> {
+    let mut next = first;
+    for page in first.page..=last {
+        next.page = page;
+        entries.push(Entry::Placed(next))?;
+        next.index = next.index.wrapping_add(1);
+    }
+    Ok(next.index)
 }

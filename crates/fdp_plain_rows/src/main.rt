@@ -4,19 +4,18 @@
 //! `close-units` and `relocate TURNS`. `entries` answers how many were taken. `lines.rt` says how the other rows read.
 #![tactic(auto)]
 
+mod answers;
 mod commands;
-mod drives;
-mod features;
-mod going;
 mod lines;
+mod lists;
 mod long;
+mod own;
 mod play;
-mod replies;
 mod row;
 mod words;
 
 use anyhow::Result;
-use drives::drive_s;
+use fdp_drives::drive_s;
 use fdp_plain::Plain;
 use row::answer_row;
 

@@ -1,5 +1,6 @@
 -- A queue pair as its callers see it.
 use Rattle.std.specs.Prelude.{◌≡◌, ℕ, ◌-◌, ◌%◌, ◌*◌, ◌<◌, ◌≤◌, Bool, List}
+use Rattle.fdp_base.specs.declared.limits.TheConstants.{MOST_QUEUE_DEPTH}
 use Rattle.fdp_layouts.specs.declared.completion.Cqe.{Cqe}
 use Rattle.fdp_queues.specs.declared.work.Work.{Work}
 use Rattle.fdp_queues.specs.Phase.{phase_tag}
@@ -29,7 +30,7 @@ posted r cqe = with_phase (phase_tag r.depth r.posts) cqe
 
 pub record AreRings (depth : ℕ) (submissions completions : ℕ) (posts : ℕ) : Type 0 where
   pub shallow : 2 ≤ depth
-  pub deep : depth ≤ 1024
+  pub deep : depth ≤ MOST_QUEUE_DEPTH
   pub submitted : submissions < depth
   pub completed : completions < depth
   pub counted : posts < 2 * depth

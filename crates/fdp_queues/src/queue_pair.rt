@@ -1,6 +1,7 @@
 ghost use Rattle.std.specs.Prelude.{◌≡◌, ◌↔◌, ◌+◌, ◌-◌, ◌*◌, ◌%◌, ◌<◌, ◌≤◌, ℕ, [], ◌∷◌, ◌++◌, length, IsErr, IfOk, OnOk, OnErr, MatchOption};
 
 use crate::work::Work;
+use fdp_base::MOST_QUEUE_DEPTH;
 use fdp_layouts::Cqe;
 use std::alloc::{AllocError, Global};
 use std::collections::VecDeque;
@@ -43,7 +44,7 @@ impl QueuePair {
     /// Two empty rings of `depth` slots each, in all the memory that they will ever take.
     pub fn new(alloc: Global, depth: u16) -> Result<Self, AllocError>
         requires shallow { 2 ≤ depth }
-        requires deep { depth ≤ 1024 }
+        requires deep { depth ≤ MOST_QUEUE_DEPTH }
         ensures empty { IfOk result (λ q. q ≡ record { depth = depth; submissions = []; completions = []; posts = 0 }) }
         ensures none_posted { IfOk result (λ q. HasPosted q 0) }
     {

@@ -8,6 +8,7 @@ use Rattle.fdp_base.specs.declared.command.Command.{Command}
 use Rattle.fdp_base.specs.declared.command.Command.TheVariants as commands
 use Rattle.fdp_base.specs.declared.command.Range.{Range}
 use Rattle.fdp_base.specs.declared.payload.Payload.TheVariants.{Pattern}
+use Rattle.fdp_trace.specs.declared.limits.TheConstants.{MOST_AMOUNT}
 use Rattle.fdp_trace.specs.declared.command_word.CommandWord.{CommandWord}
 use Rattle.fdp_trace.specs.declared.command_word.CommandWord.TheVariants as words
 use Rattle.fdp_trace.specs.Reader.Shapes.{word_named, accepts}
@@ -173,29 +174,29 @@ in_word false rest = refl
 pub value_is : (line : List Part) (c : Command) → IsLine line c → (texts : List (List ℕ)) → AllZip IsNumberFor (drop 1 line) texts → spelled (kind_of c) texts ≡ ranged (list_all in_range (drop 1 line)) c
 unfolding write_of directive read_of zero_of dealloc_of flush_of delete_of status_of update_of class_of log_of set_fdp_of set_events_of create_of
 value_is line c (write nsid slba count seed) texts h =
-    field_then 0 4294967295 nsid (bits 64 slba ∷ amount count ∷ bits 32 seed ∷ []) texts _ (commands.Write (record { nsid = nsid; slba = slba; count = count; dtype = 0; dspec = 0; payload = Pattern seed })) h (λ t1 h1. field_then 0 18446744073709551615 slba (amount count ∷ bits 32 seed ∷ []) t1 _ (commands.Write (record { nsid = nsid; slba = slba; count = count; dtype = 0; dspec = 0; payload = Pattern seed })) h1 (λ t2 h2. field_then 1 65536 count (bits 32 seed ∷ []) t2 _ (commands.Write (record { nsid = nsid; slba = slba; count = count; dtype = 0; dspec = 0; payload = Pattern seed })) h2 (λ t3 h3. field_then 0 4294967295 seed ([]) t3 _ (commands.Write (record { nsid = nsid; slba = slba; count = count; dtype = 0; dspec = 0; payload = Pattern seed })) h3 (λ t4 h4. end_then t4 (λ t. directive t >>= λ place. Ok (commands.Write (record { nsid = nsid; slba = slba; count = count; dtype = place.0; dspec = place.1; payload = Pattern seed }))) (Ok (commands.Write (record { nsid = nsid; slba = slba; count = count; dtype = 0; dspec = 0; payload = Pattern seed }))) h4 refl))))
+    field_then 0 4294967295 nsid (bits 64 slba ∷ amount count ∷ bits 32 seed ∷ []) texts _ (commands.Write (record { nsid = nsid; slba = slba; count = count; dtype = 0; dspec = 0; payload = Pattern seed })) h (λ t1 h1. field_then 0 18446744073709551615 slba (amount count ∷ bits 32 seed ∷ []) t1 _ (commands.Write (record { nsid = nsid; slba = slba; count = count; dtype = 0; dspec = 0; payload = Pattern seed })) h1 (λ t2 h2. field_then 1 MOST_AMOUNT count (bits 32 seed ∷ []) t2 _ (commands.Write (record { nsid = nsid; slba = slba; count = count; dtype = 0; dspec = 0; payload = Pattern seed })) h2 (λ t3 h3. field_then 0 4294967295 seed ([]) t3 _ (commands.Write (record { nsid = nsid; slba = slba; count = count; dtype = 0; dspec = 0; payload = Pattern seed })) h3 (λ t4 h4. end_then t4 (λ t. directive t >>= λ place. Ok (commands.Write (record { nsid = nsid; slba = slba; count = count; dtype = place.0; dspec = place.1; payload = Pattern seed }))) (Ok (commands.Write (record { nsid = nsid; slba = slba; count = count; dtype = 0; dspec = 0; payload = Pattern seed }))) h4 refl))))
 value_is line c (write_placed nsid slba count seed pid) texts h =
-    field_then 0 4294967295 nsid (bits 64 slba ∷ amount count ∷ bits 32 seed ∷ Fixed (codes "pid") ∷ bits 16 pid ∷ []) texts _ (commands.Write (record { nsid = nsid; slba = slba; count = count; dtype = 2; dspec = pid; payload = Pattern seed })) h (λ t1 h1. field_then 0 18446744073709551615 slba (amount count ∷ bits 32 seed ∷ Fixed (codes "pid") ∷ bits 16 pid ∷ []) t1 _ (commands.Write (record { nsid = nsid; slba = slba; count = count; dtype = 2; dspec = pid; payload = Pattern seed })) h1 (λ t2 h2. field_then 1 65536 count (bits 32 seed ∷ Fixed (codes "pid") ∷ bits 16 pid ∷ []) t2 _ (commands.Write (record { nsid = nsid; slba = slba; count = count; dtype = 2; dspec = pid; payload = Pattern seed })) h2 (λ t3 h3. field_then 0 4294967295 seed (Fixed (codes "pid") ∷ bits 16 pid ∷ []) t3 _ (commands.Write (record { nsid = nsid; slba = slba; count = count; dtype = 2; dspec = pid; payload = Pattern seed })) h3 (λ t4 h4.
+    field_then 0 4294967295 nsid (bits 64 slba ∷ amount count ∷ bits 32 seed ∷ Fixed (codes "pid") ∷ bits 16 pid ∷ []) texts _ (commands.Write (record { nsid = nsid; slba = slba; count = count; dtype = 2; dspec = pid; payload = Pattern seed })) h (λ t1 h1. field_then 0 18446744073709551615 slba (amount count ∷ bits 32 seed ∷ Fixed (codes "pid") ∷ bits 16 pid ∷ []) t1 _ (commands.Write (record { nsid = nsid; slba = slba; count = count; dtype = 2; dspec = pid; payload = Pattern seed })) h1 (λ t2 h2. field_then 1 MOST_AMOUNT count (bits 32 seed ∷ Fixed (codes "pid") ∷ bits 16 pid ∷ []) t2 _ (commands.Write (record { nsid = nsid; slba = slba; count = count; dtype = 2; dspec = pid; payload = Pattern seed })) h2 (λ t3 h3. field_then 0 4294967295 seed (Fixed (codes "pid") ∷ bits 16 pid ∷ []) t3 _ (commands.Write (record { nsid = nsid; slba = slba; count = count; dtype = 2; dspec = pid; payload = Pattern seed })) h3 (λ t4 h4.
     word_then (codes "pid") (bits 16 pid ∷ []) t4 (λ t. directive t >>= λ place. Ok (commands.Write (record { nsid = nsid; slba = slba; count = count; dtype = place.0; dspec = place.1; payload = Pattern seed }))) (ranged (list_all in_range (bits 16 pid ∷ [])) (commands.Write (record { nsid = nsid; slba = slba; count = count; dtype = 2; dspec = pid; payload = Pattern seed }))) h4 (λ t5 h5.
     ranged_then (λ (place : ℕ × ℕ). commands.Write (record { nsid = nsid; slba = slba; count = count; dtype = place.0; dspec = place.1; payload = Pattern seed })) (directive (codes "pid" ∷ t5)) (list_all in_range (bits 16 pid ∷ [])) (2, pid) (field_then 0 65535 pid [] t5 (λ n. Ok (2, n.0)) (2, pid) h5 (λ t6 h6. refl)))))))
 value_is line c (read nsid slba count) texts h =
-    field_then 0 4294967295 nsid (bits 64 slba ∷ amount count ∷ []) texts _ (commands.Read (record { nsid = nsid; slba = slba; count = count })) h (λ t1 h1. field_then 0 18446744073709551615 slba (amount count ∷ []) t1 _ (commands.Read (record { nsid = nsid; slba = slba; count = count })) h1 (λ t2 h2. field_then 1 65536 count ([]) t2 _ (commands.Read (record { nsid = nsid; slba = slba; count = count })) h2 (λ t3 h3. refl)))
+    field_then 0 4294967295 nsid (bits 64 slba ∷ amount count ∷ []) texts _ (commands.Read (record { nsid = nsid; slba = slba; count = count })) h (λ t1 h1. field_then 0 18446744073709551615 slba (amount count ∷ []) t1 _ (commands.Read (record { nsid = nsid; slba = slba; count = count })) h1 (λ t2 h2. field_then 1 MOST_AMOUNT count ([]) t2 _ (commands.Read (record { nsid = nsid; slba = slba; count = count })) h2 (λ t3 h3. refl)))
 value_is line c (zeroes nsid slba count) texts h =
-    field_then 0 4294967295 nsid (bits 64 slba ∷ amount count ∷ []) texts _ (commands.Zero (record { nsid = nsid; slba = slba; count = count })) h (λ t1 h1. field_then 0 18446744073709551615 slba (amount count ∷ []) t1 _ (commands.Zero (record { nsid = nsid; slba = slba; count = count })) h1 (λ t2 h2. field_then 1 65536 count ([]) t2 _ (commands.Zero (record { nsid = nsid; slba = slba; count = count })) h2 (λ t3 h3. refl)))
+    field_then 0 4294967295 nsid (bits 64 slba ∷ amount count ∷ []) texts _ (commands.Zero (record { nsid = nsid; slba = slba; count = count })) h (λ t1 h1. field_then 0 18446744073709551615 slba (amount count ∷ []) t1 _ (commands.Zero (record { nsid = nsid; slba = slba; count = count })) h1 (λ t2 h2. field_then 1 MOST_AMOUNT count ([]) t2 _ (commands.Zero (record { nsid = nsid; slba = slba; count = count })) h2 (λ t3 h3. refl)))
 value_is line c (dealloc nsid ranges some few) texts h =
     field_then 0 4294967295 nsid (flat_map range_parts ranges) texts _ (commands.Dealloc (record { nsid = nsid; deallocate = true; ranges = ranges })) h (λ t1 h1. ranged_then (λ rs. commands.Dealloc (record { nsid = nsid; deallocate = true; ranges = rs })) (ranges_of t1) (list_all in_range (flat_map range_parts ranges)) ranges (ranges_ranged ranges t1 h1))
 value_is line c (flush nsid) texts h =
     field_then 0 4294967295 nsid ([]) texts _ (commands.Flush (record { nsid = nsid })) h (λ t1 h1. refl)
 value_is line c (status nsid dwords) texts h =
-    field_then 0 4294967295 nsid (amount dwords ∷ []) texts _ (commands.Status (record { nsid = nsid; mo = 1; dwords = dwords })) h (λ t1 h1. field_then 1 65536 dwords ([]) t1 _ (commands.Status (record { nsid = nsid; mo = 1; dwords = dwords })) h1 (λ t2 h2. refl))
+    field_then 0 4294967295 nsid (amount dwords ∷ []) texts _ (commands.Status (record { nsid = nsid; mo = 1; dwords = dwords })) h (λ t1 h1. field_then 1 MOST_AMOUNT dwords ([]) t1 _ (commands.Status (record { nsid = nsid; mo = 1; dwords = dwords })) h1 (λ t2 h2. refl))
 value_is line c (update nsid pids some few) texts h =
     field_then 0 4294967295 nsid (map (bits 16) pids) texts _ (commands.Update (record { nsid = nsid; mo = 1; pids = pids })) h (λ t1 h1. ranged_then (λ ns. commands.Update (record { nsid = nsid; mo = 1; pids = ns })) (numbers_of 65535 t1) (list_all in_range (map (bits 16) pids)) pids (numbers_ranged 65535 pids t1 h1))
 value_is line c (log lid offset dwords) texts h =
-    field_then 0 255 lid (bits 64 offset ∷ amount dwords ∷ []) texts _ (commands.Log (record { lid = lid; lsp = 0; group = 1; offset = offset; dwords = dwords })) h (λ t1 h1. field_then 0 18446744073709551615 offset (amount dwords ∷ []) t1 _ (commands.Log (record { lid = lid; lsp = 0; group = 1; offset = offset; dwords = dwords })) h1 (λ t2 h2. field_then 1 65536 dwords ([]) t2 _ (commands.Log (record { lid = lid; lsp = 0; group = 1; offset = offset; dwords = dwords })) h2 (λ t3 h3. end_then t3 (λ t. class_of t >>= λ lsp. Ok (commands.Log (record { lid = lid; lsp = lsp; group = 1; offset = offset; dwords = dwords }))) (Ok (commands.Log (record { lid = lid; lsp = 0; group = 1; offset = offset; dwords = dwords }))) h3 refl)))
+    field_then 0 255 lid (bits 64 offset ∷ amount dwords ∷ []) texts _ (commands.Log (record { lid = lid; lsp = 0; group = 1; offset = offset; dwords = dwords })) h (λ t1 h1. field_then 0 18446744073709551615 offset (amount dwords ∷ []) t1 _ (commands.Log (record { lid = lid; lsp = 0; group = 1; offset = offset; dwords = dwords })) h1 (λ t2 h2. field_then 1 MOST_AMOUNT dwords ([]) t2 _ (commands.Log (record { lid = lid; lsp = 0; group = 1; offset = offset; dwords = dwords })) h2 (λ t3 h3. end_then t3 (λ t. class_of t >>= λ lsp. Ok (commands.Log (record { lid = lid; lsp = lsp; group = 1; offset = offset; dwords = dwords }))) (Ok (commands.Log (record { lid = lid; lsp = 0; group = 1; offset = offset; dwords = dwords }))) h3 refl)))
 value_is line c (log_ctrl lid offset dwords) texts h =
-    field_then 0 255 lid (bits 64 offset ∷ amount dwords ∷ Fixed (codes "ctrl") ∷ []) texts _ (commands.Log (record { lid = lid; lsp = 0; group = 1; offset = offset; dwords = dwords })) h (λ t1 h1. field_then 0 18446744073709551615 offset (amount dwords ∷ Fixed (codes "ctrl") ∷ []) t1 _ (commands.Log (record { lid = lid; lsp = 0; group = 1; offset = offset; dwords = dwords })) h1 (λ t2 h2. field_then 1 65536 dwords (Fixed (codes "ctrl") ∷ []) t2 _ (commands.Log (record { lid = lid; lsp = 0; group = 1; offset = offset; dwords = dwords })) h2 (λ t3 h3. word_then (codes "ctrl") [] t3 (λ t. class_of t >>= λ lsp. Ok (commands.Log (record { lid = lid; lsp = lsp; group = 1; offset = offset; dwords = dwords }))) (Ok (commands.Log (record { lid = lid; lsp = 0; group = 1; offset = offset; dwords = dwords }))) h3 (λ t4 h4. refl))))
+    field_then 0 255 lid (bits 64 offset ∷ amount dwords ∷ Fixed (codes "ctrl") ∷ []) texts _ (commands.Log (record { lid = lid; lsp = 0; group = 1; offset = offset; dwords = dwords })) h (λ t1 h1. field_then 0 18446744073709551615 offset (amount dwords ∷ Fixed (codes "ctrl") ∷ []) t1 _ (commands.Log (record { lid = lid; lsp = 0; group = 1; offset = offset; dwords = dwords })) h1 (λ t2 h2. field_then 1 MOST_AMOUNT dwords (Fixed (codes "ctrl") ∷ []) t2 _ (commands.Log (record { lid = lid; lsp = 0; group = 1; offset = offset; dwords = dwords })) h2 (λ t3 h3. word_then (codes "ctrl") [] t3 (λ t. class_of t >>= λ lsp. Ok (commands.Log (record { lid = lid; lsp = lsp; group = 1; offset = offset; dwords = dwords }))) (Ok (commands.Log (record { lid = lid; lsp = 0; group = 1; offset = offset; dwords = dwords }))) h3 (λ t4 h4. refl))))
 value_is line c (log_host lid offset dwords) texts h =
-    field_then 0 255 lid (bits 64 offset ∷ amount dwords ∷ Fixed (codes "host") ∷ []) texts _ (commands.Log (record { lid = lid; lsp = 1; group = 1; offset = offset; dwords = dwords })) h (λ t1 h1. field_then 0 18446744073709551615 offset (amount dwords ∷ Fixed (codes "host") ∷ []) t1 _ (commands.Log (record { lid = lid; lsp = 1; group = 1; offset = offset; dwords = dwords })) h1 (λ t2 h2. field_then 1 65536 dwords (Fixed (codes "host") ∷ []) t2 _ (commands.Log (record { lid = lid; lsp = 1; group = 1; offset = offset; dwords = dwords })) h2 (λ t3 h3. word_then (codes "host") [] t3 (λ t. class_of t >>= λ lsp. Ok (commands.Log (record { lid = lid; lsp = lsp; group = 1; offset = offset; dwords = dwords }))) (Ok (commands.Log (record { lid = lid; lsp = 1; group = 1; offset = offset; dwords = dwords }))) h3 (λ t4 h4. refl))))
+    field_then 0 255 lid (bits 64 offset ∷ amount dwords ∷ Fixed (codes "host") ∷ []) texts _ (commands.Log (record { lid = lid; lsp = 1; group = 1; offset = offset; dwords = dwords })) h (λ t1 h1. field_then 0 18446744073709551615 offset (amount dwords ∷ Fixed (codes "host") ∷ []) t1 _ (commands.Log (record { lid = lid; lsp = 1; group = 1; offset = offset; dwords = dwords })) h1 (λ t2 h2. field_then 1 MOST_AMOUNT dwords (Fixed (codes "host") ∷ []) t2 _ (commands.Log (record { lid = lid; lsp = 1; group = 1; offset = offset; dwords = dwords })) h2 (λ t3 h3. word_then (codes "host") [] t3 (λ t. class_of t >>= λ lsp. Ok (commands.Log (record { lid = lid; lsp = lsp; group = 1; offset = offset; dwords = dwords }))) (Ok (commands.Log (record { lid = lid; lsp = 1; group = 1; offset = offset; dwords = dwords }))) h3 (λ t4 h4. refl))))
 value_is line c (set_fdp enable index) texts h =
     word_then (on_word enable) (bits 8 index ∷ []) texts (λ t. choice (codes "on") t >>= λ on. field 0 255 on.1 >>= λ i. Ok (commands.SetFdp (record { group = 1; enable = on.0; index = i.0 }))) (ranged (list_all in_range (bits 8 index ∷ [])) (commands.SetFdp (record { group = 1; enable = enable; index = index }))) h (λ t1 h1.
     rw (in_word enable t1) (field_then 0 255 index [] t1 (λ i. Ok (commands.SetFdp (record { group = 1; enable = enable; index = i.0 }))) (commands.SetFdp (record { group = 1; enable = enable; index = index })) h1 (λ t2 h2. refl)))

@@ -9,6 +9,7 @@ use Rattle.fdp_base.specs.declared.codes.ReceiveOperation.TheVariants as receive
 use Rattle.fdp_base.specs.declared.codes.SendOperation.TheVariants as sends
 use Rattle.fdp_base.specs.declared.payload.Payload.TheVariants.{Pattern}
 use Rattle.fdp_trace.specs.CommandText.{on_word}
+use Rattle.fdp_trace.specs.declared.limits.TheConstants.{MOST_AMOUNT}
 
 -- a word of a line: one that is fixed, or a number with its least and its greatest value
 pub data Part : Type 0 where
@@ -19,9 +20,9 @@ pub data Part : Type 0 where
 abbrev pub bits : ℕ → ℕ → Part
 bits k n = Number 0 (2 ^ k - 1) n
 
--- a number of blocks or dwords, 1 to 65536
+-- a number of blocks or dwords
 abbrev pub amount : ℕ → Part
-amount n = Number 1 65536 n
+amount n = Number 1 MOST_AMOUNT n
 
 -- a range in two words
 abbrev pub range_parts : Range → List Part

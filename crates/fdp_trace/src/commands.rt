@@ -7,6 +7,7 @@ ghost use Rattle.fdp_trace.specs.Reader.Commands.{field_8, field_16, field_32, f
 
 use crate::command_word::{CommandWord, is_text};
 use crate::fault::{FaultKind, LineError};
+use crate::limits::MOST_AMOUNT;
 use crate::lists::{event_types, identifiers, ranges};
 use crate::number::within;
 use crate::words::next_word;
@@ -61,7 +62,7 @@ pub fn field_64(line: &[u8]) -> Result<(u64, &[u8]), LineError>
 fn field_count(line: &[u8]) -> Result<(u32, &[u8]), LineError>
     ensures { Gives (λ x. (x.0, words_of x.1.now)) result (field_count (words_of line.now)) }
 {
-    let (number, rest) = field(line, 1, 65536)?;
+    let (number, rest) = field(line, 1, MOST_AMOUNT)?;
     Ok((number as u32, rest))
 }
 

@@ -8,6 +8,7 @@ use Rattle.fdp_base.specs.declared.codes.Directive.TheVariants as directives
 use Rattle.fdp_base.specs.declared.codes.ReceiveOperation.TheVariants as receives
 use Rattle.fdp_base.specs.declared.codes.SendOperation.TheVariants as sends
 use Rattle.fdp_base.specs.declared.payload.Payload.TheVariants.{Pattern}
+use Rattle.fdp_trace.specs.declared.limits.TheConstants.{MOST_AMOUNT}
 use Rattle.fdp_trace.specs.declared.fault.FaultKind.{FaultKind}
 use Rattle.fdp_trace.specs.declared.fault.FaultKind.TheVariants as kinds
 use Rattle.fdp_trace.specs.declared.command_word.CommandWord.{CommandWord}
@@ -29,7 +30,7 @@ field_64 texts = field 0 18446744073709551615 texts
 
 -- a number of blocks or dwords
 abbrev pub field_count : List (List ℕ) → Result (ℕ × List (List ℕ)) FaultKind
-field_count texts = field 1 65536 texts
+field_count texts = field 1 MOST_AMOUNT texts
 
 -- on or off, or whatever else is asked for
 unfoldable pub choice : List ℕ → List (List ℕ) → Result (Bool × List (List ℕ)) FaultKind

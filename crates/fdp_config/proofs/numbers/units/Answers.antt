@@ -14,16 +14,16 @@ returns-in_err-units c =
     let p = err_from_is_err_and c.from_residual.result c.from_residual.ensures.1 in
     rw (p.1, p.2) (checked_err Units _ _ _ _ _ c.in_err-units.ensures.value)
 
-pub returns-then-pages-le262144 : goal.returns-then-pages-le262144
+pub returns-then-pages : goal.returns-then-pages
 unfolding range_fault
-returns-then-pages-le262144 c =
+returns-then-pages c =
     let same = checked_value Units _ _ _ c.in_ok-units.ensures.value in
     let free : further_fault (table_view c.args.table.now) (config_in (table_view c.args.table.now)) Units ≡ None = grind (arith, nat_tests) in
     checked_both Units _ _ _ _ c.in_ok-units.ensures.value free
 
-pub returns-else-pages-le262144 : goal.returns-else-pages-le262144
+pub returns-else-pages : goal.returns-else-pages
 unfolding range_fault
-returns-else-pages-le262144 c =
+returns-else-pages c =
     let same = checked_value Units _ _ _ c.in_ok-units.ensures.value in
     let told : further_fault (table_view c.args.table.now) (config_in (table_view c.args.table.now)) Units ≡ Some (c.from-4.result * (c.from.result * c.from-2.result + 2 * c.from-3.result)) = grind (arith, nat_tests) in
     checked_further Units _ _ _ _ _ c.in_ok-units.ensures.value told

@@ -1,0 +1,28 @@
+use Rattle.std.proofs.Common.{refl, map, ap, sym, ◌∙◌, ◌≡◌, length, slice_get, get_or, Some, []}
+use Rattle.std.specs.Option.{option_map_or, option_map}
+use Rattle.std.specs.Vec.{vec_items}
+use Rattle.std.proofs.lemmas.Option.{slice_get_read}
+use Rattle.fdp_rules.specs.PlainState.PageName.{written}
+use Rattle.fdp_rules.specs.Sites.{last_run, moved_by}
+use Rattle.fdp_tables.specs.State.{copies_at, copy_of, site_at}
+use Rattle.fdp_plain_trail.proofs.Placing.{count_of_rows}
+use Rattle.fdp_tables.proofs.Walks.{row_of_rows}
+use Rattle.fdp_plain_trail.proofs.trail.move_sites.Goals as goal
+
+pub returns-clause-sites : goal.returns-clause-sites
+returns-clause-sites c =
+    let k = c.args.kept.now in
+    let v = c.index.result.now in
+    let at : v ≡ get_or k.copies.items c.args.rg v = cc in
+    let before : slice_get k.copies.items c.args.rg ≡ Some v = slice_get_read k.copies.items (length k.copies.items) c.args.rg v refl c.requires at in
+    let pass : map copy_of c.last_run-pass.result.now ≡ last_run (copies_at k c.args.rg) =
+    c.last_run-pass.ensures
+    ∙ ap (λ xs. last_run (map copy_of xs)) c.as_slice.ensures.value
+    ∙ ap (λ o. last_run (option_map_or (λ u. map copy_of (vec_items u)) o [])) (sym before) in
+    λ t i.
+    row_of_rows vec_items (option_map (moved_by (map copy_of c.last_run-pass.result.now))) k.sites.items c.move_all.new.sites.items t i refl c.move_all.ensures.pages
+    ∙ ap (λ p. option_map (moved_by p) (site_at k (written t i))) pass
+
+pub returns-clause-places : goal.returns-clause-places
+returns-clause-places c =
+    λ t. count_of_rows vec_items (option_map (moved_by (map copy_of c.last_run-pass.result.now))) c.args.kept.now.sites.items c.move_all.new.sites.items t c.move_all.ensures.pages
