@@ -17,17 +17,17 @@ use Rattle.fdp_image.specs.Reads.{is_checkpoint_of}
 use Rattle.fdp_image.specs.Replacing.{IsCheckpointOf}
 use Rattle.fdp_checkpoint.specs.Pages.{IsBadIn, IsOverlong}
 
-less_true : (a b : ℕ) → a < b → nat_lt a b ≡ true
+pub less_true : (a b : ℕ) → a < b → nat_lt a b ≡ true
 less_true a b h = grind (arith, nat_tests)
 
-less_false : (a b : ℕ) → b ≤ a → nat_lt a b ≡ false
+pub less_false : (a b : ℕ) → b ≤ a → nat_lt a b ≡ false
 less_false a b h = grind (arith, nat_tests)
 
-not_true : (b : Bool) → (b ≡ true → ⊥) → b ≡ false
+pub not_true : (b : Bool) → (b ≡ true → ⊥) → b ≡ false
 not_true true h = absurd (h refl)
 not_true false h = refl
 
-keys_told : (s : State) (bytes : List ℕ) → s ≡ state_in bytes → keys_in bytes ≡ s.summary.keys
+pub keys_told : (s : State) (bytes : List ℕ) → s ≡ state_in bytes → keys_in bytes ≡ s.summary.keys
 unfolding state_in summary_in
 keys_told s bytes told = sym (ap (λ (x : State). x.summary.keys) told)
 
@@ -49,7 +49,7 @@ pub reads_found : (block : ℕ) (z : Sealed) (s : State) → IsCheckpointOf z.st
 unfolding said_by_checkpoint
 reads_found block z s h = ap reading_of_state (sym h.state)
 
-bad_is_none : (version : ℕ) (bytes : List ℕ) (at : ℕ) → IsBadAt version bytes at → IsTrue (is_checkpoint version bytes) → ⊥
+pub bad_is_none : (version : ℕ) (bytes : List ℕ) (at : ℕ) → IsBadAt version bytes at → IsTrue (is_checkpoint version bytes) → ⊥
 bad_is_none version bytes at (inl short) is = short_is_none version bytes short.short is
 bad_is_none version bytes at (inr (inl differs)) is = differing_is_none version bytes at differs is
 bad_is_none version bytes at (inr (inr (inl cut))) is = cut_is_none version bytes cut.short is

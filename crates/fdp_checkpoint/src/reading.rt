@@ -1,4 +1,4 @@
-ghost use Rattle.std.specs.Prelude.{◌≡◌, ◌≢◌, ◌+◌, ◌*◌, ◌^◌, ◌≤◌, ◌<◌, ◌/◌, ℕ, true, false, Err, IsTrue, Some, length};
+ghost use Rattle.std.specs.Prelude.{◌≡◌, ◌≢◌, ◌+◌, ◌*◌, ◌^◌, ◌≤◌, ◌<◌, ◌/◌, ℕ, true, false, Err, IfOk, IsTrue, Some, length};
 ghost use Rattle.fdp_areas.specs.Seals.{IsSealed};
 ghost use Rattle.fdp_base.specs.Geometry.{IsValidGeometry, area_pages};
 ghost use Rattle.fdp_checkpoint.specs.Ends.{EndsContent, EndsRead};
@@ -6,7 +6,7 @@ ghost use Rattle.fdp_checkpoint.specs.Pages.{TellsArea, TellsBytes, TellsContent
 ghost use Rattle.fdp_flash.specs.Layout.{first_page};
 ghost use Rattle.fdp_flash.specs.OnlyReads.{ReadsOnly};
 ghost use Rattle.fdp_image.specs.Areas.{Sealed, area_of, area_unit, sealed_in};
-ghost use Rattle.fdp_snapshot.specs.Checkpoint.{checkpoint_size};
+ghost use Rattle.fdp_snapshot.specs.Checkpoint.{IsState, checkpoint_size};
 
 use crate::collect::collect;
 use crate::fault::{CheckpointFault, CollectFault, ContentFault, FoundCheckpoint};
@@ -64,6 +64,8 @@ pub fn read_content<F: Flash>(
     ensures reads { ReadsOnly seal.now.checkpoint (F.state flash.old) (F.state flash.new) }
     ensures told { IsTrue (F.state flash.old).told → (z : Sealed) → sealed_in (area_of (F.state flash.old).geometry area (F.state flash.old).cells) ≡ Some z → TellsContent (F.state flash.old).geometry area z result }
     ensures ends { EndsContent (F.state flash.old) (F.state flash.new) result }
+    ensures writable { IfOk result IsState }
+    ensures holds { IfOk result (λ s. checkpoint_size s.summary ≤ seal.now.checkpoint * (F.state flash.old).geometry.block) }
 {
     let geometry = flash.geometry();
     match collect(alloc, flash, &geometry, area, seal, page) {
@@ -87,6 +89,8 @@ fn tell(
     requires size { length bytes.now ≡ seal.now.checkpoint * geometry.block }
     ensures told { TellsBytes geometry area seal.now.stamp.version bytes.now result }
     ensures not_failed { (moment : ℕ) → result ≢ Err (ContentFault.Failed moment) }
+    ensures writable { IfOk result IsState }
+    ensures holds { IfOk result (λ s. checkpoint_size s.summary ≤ length bytes.now) }
 {
     let block = geometry.block as usize;
     let state = match decode(alloc, seal.stamp.version, bytes) {

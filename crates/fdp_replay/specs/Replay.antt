@@ -1,7 +1,10 @@
 -- A journal that is read page by page.
-use Rattle.std.specs.Prelude.{◌≡◌, ℕ, IsTrue, List, fold, length, Some, None, Result, Ok, Err, slice_get, take}
+use Rattle.std.specs.Prelude.{◌≡◌, ℕ, suc, ◌+◌, ◌<◌, IsTrue, List, fold, length, Some, None, Result, Ok, Err, slice_get, take}
 use Rattle.fdp_base.specs.declared.config.DriveConfig.{DriveConfig}
+use Rattle.fdp_base.specs.declared.config.Geometry.{Geometry}
 use Rattle.fdp_base.specs.declared.entry.Totals.{Totals}
+use Rattle.fdp_base.specs.Geometry.{area_pages}
+use Rattle.fdp_areas.specs.declared.seal.Current.{Current}
 use Rattle.fdp_flash.specs.FlashState.{FlashState}
 use Rattle.fdp_records.specs.declared.change.Change.{Change}
 use Rattle.fdp_records.specs.Reading.{decoded}
@@ -48,3 +51,11 @@ EndsReplay old new (Err (faults.Bad number)) = new.faults ≡ old.faults
 EndsReplay old new (Err (faults.Unfit number)) = new.faults ≡ old.faults
 EndsReplay old new (Err (faults.Failed moment)) = FailsLast old new moment
 EndsReplay old new (Err faults.NoMemory) = new.faults ≡ old.faults
+
+-- a page that is named stands in the area, behind the seal
+abbrev pub NamesWithin : Geometry → Current → Result ℕ ReplayFault → Type 0
+NamesWithin g x (Ok count) = Unit {0}
+NamesWithin g x (Err (faults.Bad number)) = suc x.seal.checkpoint + number < area_pages g
+NamesWithin g x (Err (faults.Unfit number)) = suc x.seal.checkpoint + number < area_pages g
+NamesWithin g x (Err (faults.Failed moment)) = Unit {0}
+NamesWithin g x (Err faults.NoMemory) = Unit {0}

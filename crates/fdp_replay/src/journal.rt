@@ -2,7 +2,7 @@ ghost use Rattle.std.specs.Prelude.{◌≡◌, IsTrue, Some, length};
 ghost use Rattle.fdp_base.specs.Geometry.{area_pages};
 ghost use Rattle.fdp_flash.specs.OnlyReads.{ReadsOnly};
 ghost use Rattle.fdp_areas.specs.Seals.{IsCurrentSeal, LiesIn};
-ghost use Rattle.fdp_replay.specs.Replay.{EndsReplay, TellsJournal};
+ghost use Rattle.fdp_replay.specs.Replay.{EndsReplay, NamesWithin, TellsJournal};
 ghost use Rattle.fdp_image.specs.Areas.{Sealed, current_area};
 
 use crate::record::{RecordFault, take_record};
@@ -29,6 +29,7 @@ pub fn replay<F: Flash, R: Replayed>(
     ensures config { R.config state.new ≡ R.config state.old }
     ensures told { IsTrue (F.state flash.old).told → (area : Sealed) → current_area (F.state flash.old).geometry (F.state flash.old).cells ≡ Some (current.now.area, area) → TellsJournal R.fits (R.config state.old) area.journal (R.reading state.old) (R.reading state.new) result }
     ensures ends { EndsReplay (F.state flash.old) (F.state flash.new) result }
+    ensures within { NamesWithin (F.state flash.old).geometry current.now result }
 {
     let geometry = flash.geometry();
     let first = 1 + current.seal.checkpoint;

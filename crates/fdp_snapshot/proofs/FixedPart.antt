@@ -46,7 +46,7 @@ fixed_long version s is masks = length-laid 0 5120 (fixed_pieces version s) (zer
 
 -- ---- what is read is a summary
 
-all_read : {X : Type 0} (w : ℕ) (read : List ℕ → X) (P : X → Type 0) → ((bytes : List ℕ) → length bytes ≤ w → P (read bytes)) → (n : ℕ) (bytes : List ℕ) → All P (items w read n bytes)
+pub all_read : {X : Type 0} (w : ℕ) (read : List ℕ → X) (P : X → Type 0) → ((bytes : List ℕ) → length bytes ≤ w → P (read bytes)) → (n : ℕ) (bytes : List ℕ) → All P (items w read n bytes)
 unfolding items
 all_read w read P each zero bytes = All-nil P
 all_read w read P each (suc n) bytes =

@@ -5,3 +5,4 @@ pub mod Judging
 pub mod RowsBack
 pub mod RoundTrip
 pub mod Words
+pub mod StateRead

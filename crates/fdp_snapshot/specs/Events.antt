@@ -1,5 +1,5 @@
 -- Events in the 64 bytes of log page 23h.
-use Rattle.std.specs.Prelude.{◌≡◌, ◌⊎◌, ℕ, ◌/◌, ◌%◌, List, ◌==◌, find, slice_index, unwrap_or}
+use Rattle.std.specs.Prelude.{◌≡◌, ◌⊎◌, ℕ, ◌/◌, ◌%◌, List, ◌==◌, if◌then◌else◌, find, slice_index, unwrap_or}
 use Rattle.fdp_base.specs.declared.event.Event.{Event}
 use Rattle.fdp_base.specs.declared.event.EventFlags.{EventFlags}
 use Rattle.fdp_base.specs.declared.event.EventKind.{EventKind}
@@ -15,6 +15,10 @@ kind_or_first code = unwrap_or (find (λ kind. kind_code kind == code) event_kin
 abbrev pub flags_at : ℕ → EventFlags
 flags_at n = record { pid_valid = n % 2 == 1; nsid_valid = n / 2 % 2 == 1; location_valid = n / 4 % 2 == 1 }
 
+-- the number in a field that only an event of moved blocks has
+abbrev pub if_moved : ℕ → ℕ → ℕ
+if_moved code n = if code == 0x80 then n else 0
+
 -- the fields of an event
 abbrev pub event_at : List ℕ → Event
 event_at bytes = record {
@@ -23,8 +27,8 @@ event_at bytes = record {
   pid = value (2 ⊕ 2) bytes;
   position = value (4 ⊕ 8) bytes;
   nsid = value (12 ⊕ 4) bytes;
-  moved = value (18 ⊕ 2) bytes;
-  lba = value (20 ⊕ 8) bytes;
+  moved = if_moved (slice_index bytes 0) (value (18 ⊕ 2) bytes);
+  lba = if_moved (slice_index bytes 0) (value (20 ⊕ 8) bytes);
   rg = value (32 ⊕ 2) bytes;
   ruh = slice_index bytes 34;
 }

@@ -1,9 +1,10 @@
 //! An event as it stands in log page 23h, 64 bytes.
 
-ghost use Rattle.std.specs.Prelude.{◌≡◌, ◌≤◌, ◌+◌, length, IfOk};
+ghost use Rattle.std.specs.Prelude.{◌≡◌, ◌≤◌, ◌+◌, length, slice_index, IfOk};
+ghost use Rattle.fdp_records.specs.Bytes.{◌⊕◌, value};
 ghost use Rattle.fdp_rules.specs.LogPages.{event_bytes};
 ghost use Rattle.fdp_snapshot.specs.Lengths.{event_long};
-ghost use Rattle.fdp_snapshot.specs.Events.{event_at, flags_at, kind_or_first};
+ghost use Rattle.fdp_snapshot.specs.Events.{event_at, flags_at, if_moved, kind_or_first};
 ghost use Rattle.fdp_snapshot.specs.Sizes.{AnyEvent, EventFits};
 
 use crate::row::Row;
@@ -47,11 +48,35 @@ impl Row for Event {
             pid: read_u16(bytes, 2),
             position: read_u64(bytes, 4),
             nsid: read_u32(bytes, 12),
-            moved: read_u16(bytes, 18),
-            lba: read_u64(bytes, 20),
+            moved: moved_at(bytes),
+            lba: lba_at(bytes),
             rg: read_u16(bytes, 32),
             ruh: bytes[34],
         })
+    }
+}
+
+/// How many blocks were moved, which only an event of moved blocks says.
+fn moved_at(bytes: &[u8]) -> u16
+    requires { length bytes.now ≡ 64 }
+    ensures { result ≡ if_moved (slice_index bytes.now 0) (value (18 ⊕ 2) bytes.now) }
+{
+    if bytes[0] == 0x80 {
+        read_u16(bytes, 18)
+    } else {
+        0
+    }
+}
+
+/// Where the first of them stands.
+fn lba_at(bytes: &[u8]) -> u64
+    requires { length bytes.now ≡ 64 }
+    ensures { result ≡ if_moved (slice_index bytes.now 0) (value (20 ⊕ 8) bytes.now) }
+{
+    if bytes[0] == 0x80 {
+        read_u64(bytes, 20)
+    } else {
+        0
     }
 }
 

@@ -2,7 +2,7 @@
 
 ghost use Rattle.std.specs.Prelude.{◌≡◌, ◌⊎◌, ◌+◌, ◌*◌, ◌≤◌, ◌<◌, ℕ, Err, Ok, Some, None, IfOk, IfSome, IsTrue, drop, length, map};
 ghost use Rattle.fdp_records.specs.Bytes.{◌⊕◌, part};
-ghost use Rattle.fdp_snapshot.specs.Checkpoint.{IsBadAt, is_checkpoint};
+ghost use Rattle.fdp_snapshot.specs.Checkpoint.{IsBadAt, IsState, is_checkpoint};
 ghost use Rattle.fdp_snapshot.specs.Fixed.{IsSummary, fixed_of, fixed_size};
 ghost use Rattle.fdp_snapshot.specs.Reading.{blocks_in, keys_in, page_lists, size_of_row, state_in, summary_in, totals_in};
 ghost use Rattle.fdp_snapshot.specs.Scanning.{IsFirstDifference, IsFirstNumber};
@@ -30,7 +30,7 @@ pub enum BadCheckpoint {
 pub fn decode(alloc: Global, version: u8, bytes: &[u8]) -> Result<State, BadCheckpoint>
     ensures told { IfOk result (λ s. s ≡ state_in bytes.now) }
     ensures is { IfOk result (λ s. IsTrue (is_checkpoint version bytes.now)) }
-    ensures writable { IfOk result (λ s. IsSummary s.summary) }
+    ensures writable { IfOk result IsState }
     ensures exact { IsTrue (is_checkpoint version bytes.now) → (result ≡ Ok (state_in bytes.now)) ⊎ (result ≡ Err BadCheckpoint.NoMemory) }
     ensures bad { (at : ℕ) → result ≡ Err (BadCheckpoint.At at) → IsBadAt version bytes.now at }
 {

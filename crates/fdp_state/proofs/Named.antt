@@ -26,7 +26,7 @@ pub right : (a b : Bool) → (a && b) ≡ true → b ≡ true
 right true b e = e
 right false b e = cc
 
-not-true : (a : Bool) → not a ≡ true → a ≡ false
+pub not-true : (a : Bool) → not a ≡ true → a ≡ false
 not-true true e = cc
 not-true false e = refl
 
@@ -68,7 +68,7 @@ module _ (c : DriveConfig) (r : Reading) where
 
   pub events_handle : (ruh mask : ℕ) (on : Bool) → names_what_is c r (changes.SetEvents ruh on mask) ≡ true → ruh < handles_in c r
   unfolding names_what_is
-  events_handle ruh mask on h = ltb-true ruh (handles_in c r) h
+  events_handle ruh mask on h = ltb-true ruh (handles_in c r) (left (nat_lt ruh (handles_in c r)) (nat_lt mask 64) h)
 
   pub events_few : (ruh mask : ℕ) (on : Bool) → IsInRange c → r.index < length c.fdp → names_what_is c r (changes.SetEvents ruh on mask) ≡ true → ruh < 16
   events_few ruh mask on ranges index h =

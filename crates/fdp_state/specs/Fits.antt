@@ -78,7 +78,7 @@ abbrev pub are_unit_pages : DriveConfig → UnitPages → UnitPages → Option U
 are_unit_pages c victim first second = are_of_data_unit c victim && are_of_data_unit c first && option_map_or (are_of_data_unit c) second true
 
 -- a change names only what there is: namespaces and blocks of theirs, handles in force, data pages; it creates no namespace in the
--- place of another, with other handles or beyond the room, and sets placement only while there is none
+-- place of another, with other handles or beyond the room, sets placement only while there is none, and events of the six kinds
 unfoldable pub names_what_is : DriveConfig → Reading → Change → Bool
 names_what_is c r (changes.Write nsid slba pid pid_invalid pages) = lies_within r nsid slba (length pages) && are_data_pages c pages
 names_what_is c r (changes.Clear nsid ranges) = has_namespace r nsid && lie_within r nsid ranges
@@ -86,7 +86,7 @@ names_what_is c r (changes.Update nsid closed pids) = has_namespace r nsid
 names_what_is c r (changes.Create nsid size given handles) = may_create c r nsid size handles
 names_what_is c r (changes.Delete nsid) = has_namespace r nsid
 names_what_is c r (changes.SetFdp enabled index generation) = not (list_any (has_namespace r) namespace_ids) && nat_lt index (length c.fdp)
-names_what_is c r (changes.SetEvents ruh on mask) = nat_lt ruh (handles_in c r)
+names_what_is c r (changes.SetEvents ruh on mask) = nat_lt ruh (handles_in c r) && nat_lt mask 64
 names_what_is c r (changes.Moved victim first second handles) = are_unit_pages c victim first second
 names_what_is c r (changes.Shut rg ruh) = nat_lt rg c.groups && nat_lt ruh (handles_in c r)
 

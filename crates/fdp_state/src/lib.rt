@@ -18,4 +18,7 @@ mod rows;
 mod tests;
 mod update_events;
 
+pub use fits::is_handle_list;
 pub use loaded::LoadedState;
+pub use names::full_budget;
+pub use rows::{list_at, space_at};

@@ -51,6 +51,7 @@ impl<'a> LoadedState<'a> {
     pub fn into_state(self) -> State
         ensures said { reading_of_state result ≡ said_by self.entry }
         ensures loadable { IsLoadable result }
+        ensures index { result.summary.index < length self.entry.config.fdp }
     {
         let LoadedState { config: _, parts } = self;
         state_of(parts)

@@ -62,11 +62,9 @@ pub fn names_what_is(
             index,
             generation: _,
         } => Ok(!has_any(parts) && usize::from(*index) < config.fdp.as_slice().len()),
-        Change::SetEvents {
-            ruh,
-            on: _,
-            mask: _,
-        } => Ok(*ruh < handles_in(config, parts)),
+        Change::SetEvents { ruh, on: _, mask } => {
+            Ok(*ruh < handles_in(config, parts) && *mask < 64)
+        }
         Change::Moved {
             victim,
             first,
@@ -126,7 +124,7 @@ fn has_room(config: &DriveConfig, parts: &Parts, size: u64) -> bool
 }
 
 /// How many blocks all groups may store while nothing is lost.
-fn full_budget(config: &DriveConfig, handles: u8) -> u32
+pub fn full_budget(config: &DriveConfig, handles: u8) -> u32
     requires config { IsInRange config.now }
     requires handles { handles ≤ 16 }
     ensures { result ≡ full_budget config.now handles }

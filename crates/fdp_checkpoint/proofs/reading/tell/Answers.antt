@@ -51,3 +51,6 @@ returns-clause-told c =
       state = c.in-Ok.ensures.told;
       filled = subst (λ (s : Summary). length bytes < checkpoint_size s + c.args.geometry.block) (summary_told c.in-Ok.state bytes c.in-Ok.ensures.told) (c.is_overlong.ensures.short c.if-is_overlong.false);
     }
+
+pub returns-clause-holds : goal.returns-clause-holds
+returns-clause-holds c = state_fits c.args.seal.now.stamp.version c.in-Ok.state c.args.bytes.now c.in-Ok.ensures.told c.in-Ok.ensures.is

@@ -6,6 +6,7 @@ use Rattle.fdp_snapshot.specs.Fixed.{IsSummary}
 use Rattle.fdp_snapshot.specs.Reading.{page_lists, size_of_row, state_in}
 use Rattle.fdp_snapshot.proofs.FixedPart.{summary_is}
 use Rattle.fdp_snapshot.proofs.Judging.{cut_is_none, end_is, found_one, differing_is_none, differs, filled_is_none, one_is, same_fixed, short_is_none}
+use Rattle.fdp_snapshot.proofs.StateRead.{read_is_state}
 use Rattle.fdp_snapshot.proofs.reading.decode.Goals as goal
 
 pub returns-then-bytes-lt-FIXED_SIZE-clause-exact : goal.returns-then-bytes-lt-FIXED_SIZE-clause-exact
@@ -88,4 +89,8 @@ returns-in-Ok-read_pages-clause-exact c is =
     inl (λ i. Ok (record { summary = c.in-Ok.ensures i; pages = pages i }))
 
 pub returns-in-Ok-read_pages-clause-writable : goal.returns-in-Ok-read_pages-clause-writable
-returns-in-Ok-read_pages-clause-writable c = subst IsSummary (sym c.in-Ok.ensures) (summary_is c.args.bytes.now)
+returns-in-Ok-read_pages-clause-writable c =
+    let bytes = c.args.bytes.now in
+    let spaces = c.as_slice-2.ensures ∙ ap (λ (s : Summary). s.spaces) c.in-Ok.ensures in
+    let pages = c.in-Ok-read_pages.ensures ∙ ap (λ (xs : List (Option Space)). page_lists (map size_of_row xs) (drop 5120 bytes)) spaces in
+    read_is_state bytes _ _ c.in-Ok.ensures pages (record { below = λ k. omega (arith, c.type_inv.bytes k) })

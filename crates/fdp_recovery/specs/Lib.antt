@@ -1,0 +1,9 @@
+pub mod Keys
+pub mod Fields
+pub mod Blocks
+pub mod Walking
+pub mod Sound
+pub mod Bad
+pub mod Ready
+pub mod Opened
+pub mod Reading

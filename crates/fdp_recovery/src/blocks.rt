@@ -1,0 +1,217 @@
+//! The pages of the blocks that a state names.
+
+ghost use Rattle.std.specs.Prelude.{◌≡◌, IsTrue, IfOk, false, length};
+ghost use Rattle.std.specs.Option.{option_map_or};
+ghost use Rattle.fdp_areas.specs.Looking.{Ends};
+ghost use Rattle.fdp_base.specs.Config.{IsInRange};
+ghost use Rattle.fdp_base.specs.Geometry.{IsValidGeometry};
+ghost use Rattle.fdp_base.specs.Placement.{geometry_of};
+ghost use Rattle.fdp_flash.specs.OnlyReads.{ReadsOnly};
+ghost use Rattle.fdp_image.specs.Checkpoint.{reading_of_state};
+ghost use Rattle.fdp_image.specs.Valid.{is_named};
+ghost use Rattle.fdp_recovery.specs.Blocks.{TellsBlocks, is_kept, is_one_of, names_block};
+ghost use Rattle.fdp_recovery.specs.Walking.{OnlyLooks, TellsEntry, TellsList};
+ghost use Rattle.fdp_records.specs.Spares.{said_by_data};
+ghost use Rattle.fdp_state.specs.Loaded.{IsLoadable};
+ghost use Rattle.fdp_state.specs.Parts.{handles_at, row};
+
+use fdp_areas::{LookFailed, look_at_data};
+use fdp_base::{DataSpare, DriveConfig, Geometry};
+use fdp_flash::{Flash, Seen};
+use fdp_records::decode_data_spare;
+use fdp_snapshot::State;
+use fdp_state::{list_at, space_at};
+
+/// Looks at the page of each block, by namespace and address: the page of the first block that is not kept on its page, if there is one.
+pub fn find_unkept<F: Flash>(
+    flash: &mut F,
+    config: &DriveConfig,
+    state: &State,
+    page: &mut [u8],
+) -> Result<Option<u32>, LookFailed>
+    requires config { IsInRange config.now }
+    requires cut { (F.state flash.old).geometry ≡ geometry_of config.now }
+    requires state { IsLoadable state.now }
+    requires room { length page.old ≡ (F.state flash.old).geometry.block }
+    ensures looks { OnlyLooks (F.state flash.old) (F.state flash.new) }
+    ensures told { IsTrue (F.state flash.old).told → IfOk result (TellsBlocks config.now (F.state flash.old).cells (reading_of_state state.now)) }
+    ensures ends { Ends (F.state flash.old) (F.state flash.new) result }
+{
+    let geometry = flash.geometry();
+    for nsid in 1..17 {
+        match find_unkept_in(flash, config, &geometry, state, nsid, page) {
+            Ok(None) => {}
+            Ok(Some(number)) => return Ok(Some(number)),
+            Err(failed) => return Err(failed),
+        }
+    }
+    Ok(None)
+}
+
+/// Looks at the page of each block of a namespace, up to the first that is not kept on its page.
+fn find_unkept_in<F: Flash>(
+    flash: &mut F,
+    config: &DriveConfig,
+    geometry: &Geometry,
+    state: &State,
+    nsid: u32,
+    page: &mut [u8],
+) -> Result<Option<u32>, LookFailed>
+    requires config { IsInRange config.now }
+    requires geometry { geometry.now ≡ (F.state flash.old).geometry }
+    requires cut { geometry.now ≡ geometry_of config.now }
+    requires valid { IsValidGeometry geometry.now }
+    requires state { IsLoadable state.now }
+    requires room { length page.old ≡ geometry.now.block }
+    ensures looks { OnlyLooks (F.state flash.old) (F.state flash.new) }
+    ensures told { IsTrue (F.state flash.old).told → IfOk result (TellsList config.now (F.state flash.old).cells (reading_of_state state.now) nsid) }
+    ensures ends { Ends (F.state flash.old) (F.state flash.new) result }
+{
+    let list = list_at(state.pages.as_slice(), nsid);
+    for lba in 0..list.len() {
+        let entry = entry_at(list, lba);
+        match check_entry(
+            flash, config, geometry, state, nsid, lba as u64, entry, page,
+        ) {
+            Ok(None) => {}
+            Ok(Some(number)) => return Ok(Some(number)),
+            Err(failed) => return Err(failed),
+        }
+    }
+    Ok(None)
+}
+
+/// The page of a block, if it has one.
+fn entry_at(list: &[Option<u32>], lba: usize) -> Option<u32>
+    ensures { result ≡ row list.now lba }
+{
+    match list.get(lba) {
+        Some(entry) => *entry,
+        None => None,
+    }
+}
+
+/// The page of a block, if it has one on which it is not kept.
+fn check_entry<F: Flash>(
+    flash: &mut F,
+    config: &DriveConfig,
+    geometry: &Geometry,
+    state: &State,
+    nsid: u32,
+    lba: u64,
+    entry: Option<u32>,
+    page: &mut [u8],
+) -> Result<Option<u32>, LookFailed>
+    requires config { IsInRange config.now }
+    requires geometry { geometry.now ≡ (F.state flash.old).geometry }
+    requires cut { geometry.now ≡ geometry_of config.now }
+    requires valid { IsValidGeometry geometry.now }
+    requires state { IsLoadable state.now }
+    requires room { length page.old ≡ geometry.now.block }
+    ensures looks { ReadsOnly 1 (F.state flash.old) (F.state flash.new) }
+    ensures told { IsTrue (F.state flash.old).told → IfOk result (TellsEntry config.now (F.state flash.old).cells (reading_of_state state.now) nsid lba entry) }
+    ensures ends { Ends (F.state flash.old) (F.state flash.new) result }
+{
+    match entry {
+        None => Ok(None),
+        Some(number) => match is_kept(flash, config, geometry, state, nsid, lba, number, page) {
+            Ok(true) => Ok(None),
+            Ok(false) => Ok(Some(number)),
+            Err(failed) => Err(failed),
+        },
+    }
+}
+
+/// Whether a block is kept on a page: looks at it, if it is a data page.
+fn is_kept<F: Flash>(
+    flash: &mut F,
+    config: &DriveConfig,
+    geometry: &Geometry,
+    state: &State,
+    nsid: u32,
+    lba: u64,
+    number: u32,
+    page: &mut [u8],
+) -> Result<bool, LookFailed>
+    requires config { IsInRange config.now }
+    requires geometry { geometry.now ≡ (F.state flash.old).geometry }
+    requires cut { geometry.now ≡ geometry_of config.now }
+    requires valid { IsValidGeometry geometry.now }
+    requires state { IsLoadable state.now }
+    requires room { length page.old ≡ geometry.now.block }
+    ensures looks { ReadsOnly 1 (F.state flash.old) (F.state flash.new) }
+    ensures told { IsTrue (F.state flash.old).told → IfOk result (λ kept. kept ≡ is_kept config.now (F.state flash.old).cells (reading_of_state state.now) nsid lba number) }
+    ensures ends { Ends (F.state flash.old) (F.state flash.new) result }
+{
+    if number >= geometry.data_units() * geometry.unit_pages {
+        return Ok(false);
+    }
+    let mut spare = [0; 32];
+    match look_at_data(flash, geometry, number, &mut spare, page) {
+        Seen::Whole => Ok(names_block(config, state, nsid, lba, number, &spare)),
+        Seen::Blank => Ok(false),
+        Seen::Torn => Ok(false),
+        Seen::Failed => Err(LookFailed {
+            moment: flash.moment(),
+        }),
+    }
+}
+
+/// Whether the spare bytes of a page name a block, the group of its unit, the generation in force and one of the handles of its namespace.
+fn names_block(
+    config: &DriveConfig,
+    state: &State,
+    nsid: u32,
+    lba: u64,
+    number: u32,
+    spare: &[u8; 32],
+) -> bool
+    requires config { IsInRange config.now }
+    requires state { IsLoadable state.now }
+    ensures { result ≡ option_map_or (names_block config.now (reading_of_state state.now) nsid lba number) (said_by_data spare.now) false }
+{
+    match decode_data_spare(spare) {
+        Some(said) => {
+            is_named(config, state, nsid, lba, number, &said)
+                && is_one_of(handles_of(state, nsid), said.ruh)
+        }
+        None => false,
+    }
+}
+
+/// Whether a spare names a block, the group of its unit and the generation in force.
+#[tactic(auto, unfolding(fdp_image::specs::Checkpoint::reading_of_state))]
+fn is_named(
+    config: &DriveConfig,
+    state: &State,
+    nsid: u32,
+    lba: u64,
+    number: u32,
+    said: &DataSpare,
+) -> bool
+    requires { IsInRange config.now }
+    ensures { result ≡ is_named config.now (reading_of_state state.now) nsid lba number said.now }
+{
+    said.nsid == nsid
+        && said.lba == lba
+        && u32::from(said.rg) == number / config.unit_pages / config.units
+        && said.generation == state.summary.generation
+}
+
+fn is_one_of(handles: &[u8], ruh: u8) -> bool
+    ensures { result ≡ is_one_of handles.now ruh }
+{
+    handles.iter().any(|handle| *handle == ruh)
+}
+
+/// The handles of a namespace, none where it is not there.
+#[tactic(auto, unfolding(fdp_image::specs::Checkpoint::reading_of_state))]
+fn handles_of(state: &State, nsid: u32) -> &[u8]
+    requires { IsLoadable state.now }
+    ensures { result.now ≡ handles_at (reading_of_state state.now) nsid }
+{
+    match space_at(state.summary.spaces.as_slice(), nsid) {
+        Some(space) => space.handles.as_slice(),
+        None => &[],
+    }
+}
