@@ -111,6 +111,13 @@ impl Handles {
         self.rows[place_of(rg, ruh)] = HandleReference::blank(self.unit_pages);
     }
 
+    /// What each handle promises of the data that it places.
+    pub fn classes(&self) -> &[Class]
+        ensures { result.now ≡ self.now.classes }
+    {
+        &self.classes
+    }
+
     /// What a handle promises of the data that it places.
     pub fn class(&self, ruh: u8) -> Class
         requires handle { ruh < length self.now.classes }

@@ -2,8 +2,8 @@
 use Rattle.std.proofs.Common.{◌≡◌, ◌≢◌, ℕ, zero, suc, ◌+◌, ◌*◌, ◌/◌, ◌%◌, ◌<◌, ◌≤◌, Bool, false, List, [], ◌∷◌, refl, ap, sym, ◌∙◌, arith, cond, set, length, get_or, replicate, subst, ⊎_elim, eq-eqb, ne_eqb, get_or-set_other, get_or-set_same}
 use Rattle.std.specs.Prelude.{count_by, sum_by, if◌then◌else◌}
 use Rattle.std.proofs.Math.Nat.{div-lt_iff_lt-mul, mod-lt, mul-le-mul_right}
-use Rattle.std.proofs.lemmas.Bool.{cases_eq}
-use Rattle.std.proofs.lemmas.List.{get_or_default, get_or-replicate, length-replicate, length-set}
+use Rattle.std.proofs.lemmas.Bool.{cases_eq, cases_lt}
+use Rattle.std.proofs.lemmas.List.{get_or_default, get_or_past, get_or-replicate, length-replicate, length-set}
 use Rattle.std.proofs.lemmas.List.Sums.{sum_by-cons}
 use Rattle.std.proofs.lemmas.Nat.{div-add-mod', div-mul-add, mod-mul-add}
 use Rattle.fdp_base.specs.declared.config.DriveConfig.{DriveConfig}
@@ -72,6 +72,17 @@ fresh-unit pages count number groups all unit there =
     ap (λ (xs : List GroupTable). unit_at (record { unit_pages = pages; group_units = count; groups = xs }) unit) all
     ∙ ap (λ (g : GroupTable). get_or g.units (unit % count) no_unit) (get_or-replicate number (unit / count) (free_group pages count) no_group low)
     ∙ get_or-replicate count (unit % count) free_unit no_unit place
+
+-- none of their pages was used, nor one of a unit that is not there
+pub fresh-unused : (pages count number : ℕ) (groups : List GroupTable) → groups ≡ replicate number (free_group pages count) → (unit : ℕ) → (unit_at (record { unit_pages = pages; group_units = count; groups = groups }) unit).next ≡ 0
+fresh-unused pages count number groups all unit =
+    ap (λ (xs : List GroupTable). (unit_at (record { unit_pages = pages; group_units = count; groups = xs }) unit).next) all ∙ ⊎_elim
+    (λ (low : unit / count < number). ap (λ (g : GroupTable). (get_or g.units (unit % count) no_unit).next) (get_or-replicate number (unit / count) (free_group pages count) no_group low) ∙ ⊎_elim
+    (λ (few : unit % count < count). ap (λ (x : DataUnit). x.next) (get_or-replicate count (unit % count) free_unit no_unit few))
+    (λ (many : count ≤ unit % count). ap (λ (x : DataUnit). x.next) (get_or_past (replicate count free_unit) (unit % count) no_unit (subst (λ (n : ℕ). n ≤ unit % count) (sym (length-replicate count free_unit)) many)))
+    (cases_lt (unit % count) count))
+    (λ (high : number ≤ unit / count). ap (λ (g : GroupTable). (get_or g.units (unit % count) no_unit).next) (get_or_past (replicate number (free_group pages count)) (unit / count) no_group (subst (λ (n : ℕ). n ≤ unit / count) (sym (length-replicate number (free_group pages count))) high)))
+    (cases_lt (unit / count) number)
 
 -- ---- sums over a group
 

@@ -39,6 +39,7 @@ impl Units {
     pub fn new(alloc: Global, geometry: Geometry) -> Result<Units, AllocError>
         requires { IsValidGeometry geometry }
         ensures units { IfOk result (λ units. (unit : ℕ) → unit < data_units geometry → unit_at units unit ≡ free_unit) }
+        ensures unused { IfOk result (λ units. (unit : ℕ) → (unit_at units unit).next ≡ 0) }
         ensures worn { IfOk result (λ units. (rg : ℕ) → is_worn_at units rg ≡ false) }
         ensures cut { IfOk result (λ units. cut_of units ≡ record { unit_pages = geometry.unit_pages; group_units = geometry.units; groups = geometry.groups }) }
     {

@@ -1,0 +1,4 @@
+pub mod PageTables
+pub mod Joined
+pub mod Steps
+pub mod Filling

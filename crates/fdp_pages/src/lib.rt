@@ -1,0 +1,11 @@
+//! The pages of data of a drive: whose they are, which unit each handle fills, and what relocation does with them.
+#![tactic(auto)]
+
+mod laws;
+mod pages;
+mod taking;
+#[cfg(test)]
+mod tests;
+
+pub use laws::{live_pages_follow_owners, live_pages_follow_units, open_units_are_held};
+pub use pages::Pages;

@@ -1,0 +1,12 @@
+pub mod Runs
+pub mod Following
+pub mod Joining
+pub mod Moving
+pub mod Listing
+pub mod Crowding
+pub mod Hits
+pub mod Counting
+pub mod Gaining
+pub mod Holding
+pub mod Grouping
+pub mod Recounting

@@ -1,0 +1,4 @@
+pub mod Followed
+pub mod Moves
+pub mod Crowded
+pub mod Toil
