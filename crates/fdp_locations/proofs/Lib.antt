@@ -1,0 +1,12 @@
+pub mod Histories
+pub mod Kept
+pub mod Taken
+pub mod Units
+pub mod Placed
+pub mod Relocated
+pub mod Ended
+pub mod Owned
+pub mod Others
+pub mod Copying
+pub mod Ending
+pub mod Storing

@@ -1,0 +1,4 @@
+pub mod Written
+pub mod Located
+pub mod Stored
+pub mod Taken

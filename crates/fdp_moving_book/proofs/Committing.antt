@@ -1,0 +1,3 @@
+pub mod Points
+pub mod PutPages
+pub mod Verdicts

@@ -1,0 +1,11 @@
+pub mod Sums
+pub mod Next
+pub mod Fresh
+pub mod Started
+pub mod Ended
+pub mod Placed
+pub mod Shut
+pub mod Committed
+pub mod Worked
+pub mod Relocated
+pub mod Moved

@@ -1,0 +1,173 @@
+-- What the end of a command whose change is not made leaves of the tables.
+use Rattle.std.proofs.Common.{◌≡◌, ◌≢◌, ℕ, ◌+◌, ◌≤◌, ◌<◌, Bool, true, false, List, [], ◌∷◌, ◌++◌, length, Option, Some, None, slice_set, refl, sym, ◌∙◌, ap, subst, arith, cond, inl}
+use Rattle.std.specs.Prelude.{IsFalse, IsTrue, if◌then◌else◌}
+use Rattle.std.proofs.Math.ListN.{length-set}
+use Rattle.fdp_base.specs.declared.command.Command.{Command}
+use Rattle.fdp_base.specs.declared.config.DriveConfig.{DriveConfig}
+use Rattle.fdp_base.specs.declared.entry.Entry.{Entry}
+use Rattle.fdp_base.specs.declared.entry.Entry.TheVariants as entries
+use Rattle.fdp_base.specs.declared.entry.Reply.{Reply}
+use Rattle.fdp_base.specs.declared.entry.Spot.{Spot}
+use Rattle.fdp_base.specs.CommandKinds.{is_write}
+use Rattle.fdp_base.specs.Numbers.{with_at}
+use Rattle.fdp_moving_book.specs.declared.flight.Flight.{Flight}
+use Rattle.fdp_moving_book.specs.declared.tables.Sums.{Sums}
+use Rattle.fdp_moving_book.specs.declared.tables.Tables.{Tables}
+use Rattle.fdp_moving_book.specs.Forgetting.{Forgets}
+use Rattle.fdp_moving_book.specs.Held.{AreFlightsOf, AreSpacesOf, AreSumsOf, IsHeld, IsMapOf, IsSettingOf, flight_in, going_of, lead_in}
+use Rattle.fdp_moving_book.proofs.Flights.Rows.{flown-set, going-set}
+use Rattle.fdp_moving_book.proofs.Held.Next.{held-next}
+use Rattle.fdp_moving_book.proofs.Held.Started.{copies-same}
+use Rattle.fdp_moving_book.proofs.Held.Sums.{are_sums-push}
+use Rattle.fdp_moving_book.proofs.Kept.{IsAlike, flight-alike, flights-alike, map-alike, setting-alike, spaces-alike}
+use Rattle.fdp_moving_book.proofs.Leading.{its-pages, leads-same, leads-without, live-known, live_of}
+use Rattle.fdp_locations.specs.Located.{LeadsTo}
+use Rattle.fdp_locations.specs.Written.{Written, written_by}
+use Rattle.fdp_locations.proofs.Ended.{ends-as, host, led-answered, led-ended, owners-released}
+use Rattle.fdp_locations.proofs.Units.{HasSameUnits, alike-self, owners-alike, owners-next, units-same}
+use Rattle.fdp_owners.specs.OwnerTable.{owner_at}
+use Rattle.fdp_pages.specs.PageTables.{PageTables, passes_at}
+use Rattle.fdp_pages.specs.Steps.{ChangesOwners, without}
+use Rattle.fdp_passes.specs.GroupPasses.{GroupPasses}
+use Rattle.fdp_pointers.specs.Contents.{ended_by, renamed_by}
+use Rattle.fdp_pointers.specs.Pointers.{Behind, Pointer, is_of_another, only, renamed}
+use Rattle.fdp_rules.specs.Change.{after, changed_by, is_media_error}
+use Rattle.fdp_rules.specs.Effect.{effect_of}
+use Rattle.fdp_rules.specs.History.{Found, point_of}
+use Rattle.fdp_rules.specs.Next.{next}
+use Rattle.fdp_rules.specs.PlainState.{Going, PlainState}
+use Rattle.fdp_rules.specs.Point.{Point}
+use Rattle.fdp_rules.specs.Sites.{is_there}
+use Rattle.fdp_rules.specs.Step.{Follows, IsOnTarget, IsQueue}
+use Rattle.fdp_rules.specs.Totals.{host_blocks_of}
+use Rattle.fdp_trails.specs.Followed.{IsPassOf}
+use Rattle.fdp_trails.proofs.Grouping.{all-renamed}
+
+-- the state after the end of a command whose change is not made
+abbrev ended_state : PlainState → ℕ → Command → Reply → ℕ → PlainState
+ended_state s queue command reply moment = record s {
+  position = s.position + 1;
+  going = if is_write command then with_at s.going queue None else s.going;
+  media = if is_media_error reply.status then moment ∷ s.media else s.media;
+}
+
+ended-after : (c : DriveConfig) (s : PlainState) (queue number : ℕ) (command : Command) (reply : Reply) (moment : ℕ) → IsFalse reply.applied → after c s (host queue number command reply moment) ≡ ended_state s queue command reply moment
+unfolding after changed_by
+ended-after c s queue number command reply moment unmade =
+    ap (λ (b : Bool). record (cond b (effect_of c s queue command) s) {
+      position = s.position + 1;
+      going = if is_write command then with_at s.going queue None else s.going;
+      media = if is_media_error reply.status then moment ∷ s.media else s.media;
+    }) unmade
+
+ended-state : (c : DriveConfig) (p : Point) (queue number : ℕ) (command : Command) (reply : Reply) (moment : ℕ) → IsFalse reply.applied → (next c p (host queue number command reply moment)).state ≡ ended_state p.state queue command reply moment
+unfolding next
+ended-state c p queue number command reply moment unmade = ended-after c p.state queue number command reply moment unmade
+
+-- what a state keeps whose position, going writes and media errors alone change
+pub record IsKept (s n : PlainState) : Type 0 where
+  pub alike : IsAlike s n
+  pub units : HasSameUnits s n
+  pub blocks : n.blocks ≡ s.blocks
+
+ended-kept : (c : DriveConfig) (p : Point) (queue number : ℕ) (command : Command) (reply : Reply) (moment : ℕ) → IsFalse reply.applied → IsKept p.state (next c p (host queue number command reply moment)).state
+ended-kept c p queue number command reply moment unmade =
+    let e = ended-state c p queue number command reply moment unmade in
+    subst (λ (n : PlainState). IsKept p.state n) (sym e) (record {
+      alike = record { enabled = refl; index = refl; generation = refl; namespaces = refl };
+      units = record { enabled = refl; index = refl; references = refl; is_lost = refl; is_worn = refl };
+      blocks = refl;
+    })
+
+ended-going : (c : DriveConfig) (p : Point) (queue number : ℕ) (command : Command) (reply : Reply) (moment : ℕ) → IsFalse reply.applied → (next c p (host queue number command reply moment)).state.going ≡ (if is_write command then with_at p.state.going queue None else p.state.going)
+ended-going c p queue number command reply moment unmade = ap (λ (s : PlainState). s.going) (ended-state c p queue number command reply moment unmade)
+
+unapplied-blocks : (queue number : ℕ) (command : Command) (reply : Reply) (moment : ℕ) → IsFalse reply.applied → host_blocks_of (host queue number command reply moment) ≡ 0
+unapplied-blocks queue number command reply moment unmade = rw unmade refl
+
+sums-ended : (found : Found) (es : List Entry) (x : Sums) (queue number : ℕ) (command : Command) (reply : Reply) (moment : ℕ) → IsFalse reply.applied → AreSumsOf found es x → AreSumsOf found (es ++ host queue number command reply moment ∷ []) x
+sums-ended found es x queue number command reply moment unmade h =
+    let none = unapplied-blocks queue number command reply moment unmade in
+    are_sums-push found es (host queue number command reply moment) x x h (omega (arith, none)) (omega arith) (omega arith) (omega (arith, none)) (omega arith) (omega arith)
+
+-- a flight less
+pub flights-less : (c : DriveConfig) (s n : PlainState) (flights new : List (Option Flight)) (queue : ℕ) → queue < length flights → IsAlike s n → n.going ≡ with_at s.going queue None → new ≡ slice_set flights queue None → AreFlightsOf c s flights → AreFlightsOf c n new
+flights-less c s n flights new queue there a going is h =
+    subst (λ (xs : List (Option Flight)). AreFlightsOf c n xs) (sym is)
+    (record {
+      rows = length-set flights queue None ∙ h.rows;
+      going = λ k. ap (λ (f : ℕ → Option Going). f k) going ∙ going-set s.going flights queue None None there refl h.going k;
+      target = flown-set (λ x. IsTrue (is_there n (going_of x)) → IsOnTarget c n (going_of x)) flights queue None there (λ x e. absurd cc) (λ k x e. flight-alike c s n x a (h.target k x e));
+    })
+
+-- the passes stay
+pub passes-same : (t now : PageTables) → now.passes ≡ t.passes → (rg : ℕ) → (passes_at now rg).pass ≡ (passes_at t rg).pass
+passes-same t now same rg = ap (λ (ps : List GroupPasses). (passes_at (record t { passes = ps }) rg).pass) same
+
+-- the end of a write: none is going in its queue any more
+pub held-ended : (told : Bool) (c : DriveConfig) (found : Found) (first : Spot → Option Written) (es : List Entry) (t now : Tables) (queue number : ℕ) (command : Command) (reply : Reply) (moment : ℕ) (old : Option Flight) →
+    IsHeld c found first es t → IsQueue c queue → IsTrue (is_write command) → IsFalse reply.applied → Follows told c (point_of c found es) (host queue number command reply moment) → Forgets t now queue old →
+    IsHeld c found first (es ++ host queue number command reply moment ∷ []) now
+held-ended told c found first es t now queue number command reply moment old h queue_is write unmade follows forgets =
+    let e : Entry = host queue number command reply moment in
+    let p : Point = point_of c found es in
+    let q : Point = next c p e in
+    let kept = ended-kept c p queue number command reply moment unmade in
+    let there : queue < length t.flights.items = omega (arith, queue_is.1, h.flights_are.rows) in
+    let pages = h.pages_are in
+    let r : Pointer → Option Pointer = only (is_of_another queue) in
+    let going : q.state.going ≡ with_at p.state.going queue None = ended-going c p queue number command reply moment unmade ∙ ap (λ (b : Bool). if b then with_at p.state.going queue None else p.state.going) write in
+    let owners : owner_at now.pages.owners ≡ without (owner_at t.pages.owners) (live_of p.state (flight_in t.flights.items queue)) =
+    forgets.owners ∙ ap (without (owner_at t.pages.owners)) (live-known p.state t.spaces (flight_in t.flights.items queue) h.spaces_are.namespaces) in
+    let is : ended_by p.state queue reply.applied command ≡ r = ends-as p.state queue reply.applied command unmade ∙ ap (λ (b : Bool). if b then r else Some) write in
+    held-next told c found first es e t now h follows
+    (record {
+      setting_is = subst (λ (x : Tables). IsSettingOf q.state x.setting) (sym forgets.rest) (setting-alike p.state q.state t.setting kept.alike h.setting_is);
+      spaces_are = subst (λ (x : Tables). AreSpacesOf c q.state x.spaces) (sym forgets.rest) (spaces-alike c p.state q.state t.spaces kept.alike h.spaces_are);
+      map_is = subst (λ (x : Tables). IsMapOf q.state x.map) (sym forgets.rest) (map-alike p.state q.state t.map kept.alike kept.blocks h.map_is);
+      flights_are = flights-less c p.state q.state t.flights.items now.flights.items queue there kept.alike going forgets.flights_are h.flights_are;
+      units_are = units-same c p.state q.state t.pages now.pages kept.units (owners-alike t.pages now.pages forgets.pages) forgets.pages.handles h.units_are;
+    })
+    (subst (λ (x : Tables). AreSumsOf found (es ++ e ∷ []) x.sums) (sym forgets.rest) (sums-ended found es t.sums queue number command reply moment unmade h.sums_are))
+    (record {
+      at = renamed r pages.at;
+      led = led-ended told c p queue number command reply moment (written_by c found first es) pages.at t.pages now.pages h.orderly.state follows write unmade
+          (owners-released (owner_at t.pages.owners) (owner_at now.pages.owners) pages.at queue (live_of p.state (flight_in t.flights.items queue)) pages.led.owned (its-pages p.state t.map t.flights.items pages.at queue pages.led.table.apart pages.leads) owners)
+          (λ unit. omega (arith, owners-next t.pages now.pages forgets.pages unit))
+          (subst (λ (k : Pointer → Option Pointer). (rg : ℕ) → rg < c.groups → IsPassOf (renamed k pages.at) q.trail rg (passes_at now.pages rg)) is
+          (all-renamed c p e pages.at c.groups (passes_at t.pages) (passes_at now.pages) refl (λ rg low. inl (passes-same t.pages now.pages forgets.pages.passes rg)) (λ rg low ends. absurd cc) pages.led.passes))
+          (copies-same t.pages now.pages forgets.pages.passes)
+          pages.led;
+      leads = subst (λ (x : Tables). LeadsTo (lead_in q.state x.map now.flights.items) (renamed r pages.at)) (sym forgets.rest)
+          (leads-without p.state q.state t.map t.flights.items now.flights.items queue None pages.at kept.alike.namespaces there forgets.flights_are (λ x none. absurd cc) pages.leads);
+    })
+
+-- the answer to another command: all stays
+pub held-answered : (told : Bool) (c : DriveConfig) (found : Found) (first : Spot → Option Written) (es : List Entry) (t : Tables) (queue number : ℕ) (command : Command) (reply : Reply) (moment : ℕ) →
+    IsHeld c found first es t → IsFalse (is_write command) → IsFalse reply.applied → Follows told c (point_of c found es) (host queue number command reply moment) →
+    IsHeld c found first (es ++ host queue number command reply moment ∷ []) t
+held-answered told c found first es t queue number command reply moment h other unmade follows =
+    let e : Entry = host queue number command reply moment in
+    let p : Point = point_of c found es in
+    let q : Point = next c p e in
+    let kept = ended-kept c p queue number command reply moment unmade in
+    let pages = h.pages_are in
+    let going : q.state.going ≡ p.state.going = ended-going c p queue number command reply moment unmade ∙ ap (λ (b : Bool). if b then with_at p.state.going queue None else p.state.going) other in
+    let is : ended_by p.state queue reply.applied command ≡ Some = ends-as p.state queue reply.applied command unmade ∙ ap (λ (b : Bool). if b then only (is_of_another queue) else Some) other in
+    held-next told c found first es e t t h follows
+    (record {
+      setting_is = setting-alike p.state q.state t.setting kept.alike h.setting_is;
+      spaces_are = spaces-alike c p.state q.state t.spaces kept.alike h.spaces_are;
+      map_is = map-alike p.state q.state t.map kept.alike kept.blocks h.map_is;
+      flights_are = flights-alike c p.state q.state t.flights.items kept.alike going h.flights_are;
+      units_are = units-same c p.state q.state t.pages t.pages kept.units (alike-self t.pages.units) refl h.units_are;
+    })
+    (sums-ended found es t.sums queue number command reply moment unmade h.sums_are)
+    (record {
+      at = pages.at;
+      led = led-answered told c p queue number command reply moment (written_by c found first es) pages.at t.pages h.orderly.state follows other unmade
+          (subst (λ (k : Pointer → Option Pointer). (rg : ℕ) → rg < c.groups → IsPassOf (renamed k pages.at) q.trail rg (passes_at t.pages rg)) is
+          (all-renamed c p e pages.at c.groups (passes_at t.pages) (passes_at t.pages) refl (λ rg low. inl refl) (λ rg low ends. absurd cc) pages.led.passes))
+          pages.led;
+      leads = leads-same p.state q.state t.map t.flights.items pages.at kept.alike.namespaces pages.leads;
+    })

@@ -1,0 +1,13 @@
+pub mod Kept
+pub mod Leading
+pub mod Flights
+pub mod Placing
+pub mod Committing
+pub mod Held
+pub mod Reading
+pub mod Forgetting
+pub mod Ending
+pub mod Shutting
+pub mod Histories
+pub mod Space
+pub mod Relocating

@@ -1,0 +1,4 @@
+pub mod Fresh
+pub mod Free
+pub mod Nexts
+pub mod Steps

@@ -1,0 +1,5 @@
+pub mod Steps
+pub mod Cells
+pub mod Placing
+pub mod Leads
+pub mod Moves

@@ -1,0 +1,30 @@
+use Rattle.std.proofs.Common.{sym, subst, ◌∙◌, List}
+use Rattle.fdp_base.specs.declared.entry.Entry.{Entry}
+use Rattle.fdp_rules.specs.Step.{IsQueue}
+use Rattle.fdp_rules.specs.History.{fresh}
+use Rattle.fdp_moving_book.specs.Book.{BookSeen}
+use Rattle.fdp_moving_book.specs.Configured.{no_pages}
+use Rattle.fdp_moving_book.specs.Held.{IsHeld, book_of}
+use Rattle.fdp_moving_book.specs.Steps.{MayAnswer}
+use Rattle.fdp_moving_book.proofs.Ending.{held-completed}
+use Rattle.fdp_moving_book.proofs.Forgetting.{may-forget}
+use Rattle.fdp_moving_book.proofs.book.Book.complete.Goals as goal
+
+pub end_in-requires : goal.end_in-requires
+end_in-requires c =
+    let old = c.self.inside in
+    may-forget old.config (fresh old.config) no_pages old.log.entries old.tables c.args.queue c.self.invariant.held (subst (λ (b : BookSeen). IsQueue b.config c.args.queue) (sym c.self.view_is) c.requires.queue)
+
+pub invariant_of-self : goal.invariant_of-self
+invariant_of-self c =
+    let old = c.self.inside in
+    let b : BookSeen = book_of old.config (fresh old.config) old.log old.tables in
+    let queue_is : IsQueue old.config c.args.queue = subst (λ (y : BookSeen). IsQueue y.config c.args.queue) (sym c.self.view_is) c.requires.queue in
+    let may : MayAnswer b c.args.queue c.args.number c.args.command c.args.replies.history c.args.moment = subst (λ (y : BookSeen). MayAnswer y c.args.queue c.args.number c.args.command c.args.replies.history c.args.moment) (sym c.self.view_is) c.requires.may in
+    record {
+      held = subst (λ (es : List Entry). IsHeld old.config (fresh old.config) no_pages es c.end_in.new.tables) (sym c.push_host.ensures.log.entries_are)
+          (held-completed may.0 old.config (fresh old.config) no_pages old.log.entries old.tables c.end_in.new.tables c.args.queue c.args.number c.args.command c.args.replies.history c.args.moment
+          c.self.invariant.held queue_is c.requires.unapplied may.1 c.end_in.ensures.ends);
+      before_is = c.push_host.ensures.log.before_is ∙ c.self.invariant.before_is;
+      names_are = c.push_host.ensures.log.names_are ∙ c.self.invariant.names_are;
+    }

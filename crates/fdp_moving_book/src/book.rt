@@ -1,0 +1,137 @@
+ghost use Rattle.std.specs.Prelude.{◌≡◌, ◌+◌, ◌*◌, ◌^◌, ◌≤◌, false, length, true, ◌-◌, ◌<◌, OnErr, OnOk};
+ghost use Rattle.fdp_base.specs.Config.{IsValidConfig};
+ghost use Rattle.fdp_rules.specs.History.{totals_of};
+
+use crate::log::Log;
+use crate::tables::Tables;
+use fdp_base::{DriveConfig, Entry, Totals};
+use fdp_pages::Pages;
+use std::alloc::AllocError;
+use std::marker::Model;
+
+mod commit;
+mod complete;
+mod end;
+mod forget;
+mod fresh;
+mod judging;
+mod lookups;
+mod move_pass;
+mod place;
+mod reading;
+mod relocate;
+mod stage;
+mod start;
+
+pub use reading::Page;
+
+/// The history of a drive, with the tables that follow it.
+#[derive(Drop)]
+pub struct Book {
+    config: DriveConfig,
+    log: Log,
+    tables: Tables,
+}
+
+impl Model for Book {
+    ghost use Rattle.fdp_moving_book.specs.Book.{BookSeen};
+
+    ghost Value = { BookSeen };
+
+    ghost use Rattle.fdp_rules.specs.History.{fresh};
+    ghost use Rattle.fdp_moving_book.specs.Held.{IsBook, book_of};
+
+    ghost view = { λ b. book_of b.config (fresh b.config) b.log b.tables };
+
+    ghost invariant = { λ b. IsBook b.config (fresh b.config) b.log b.tables };
+}
+
+impl Book {
+    /// The configuration of the drive.
+    pub fn config(&self) -> &DriveConfig
+        ensures config { result.now ≡ self.now.config }
+        ensures valid { IsValidConfig result.now }
+    {
+        &self.config
+    }
+
+    /// The history, oldest entry first.
+    pub fn entries(&self) -> &[Entry]
+        ensures entries { result.now ≡ self.now.entries }
+        ensures few { length result.now ≤ 300 * self.now.spent }
+    {
+        self.log.entries()
+    }
+
+    /// Takes the memory for so many steps.
+    pub fn reserve(&mut self, steps: u32) -> Result<(), AllocError>
+        requires { self.old.spent + steps ≤ 2 ^ 30 }
+        ensures ok { OnOk result (steps ≤ self.new.spare) }
+        ensures kept { self.new ≡ record self.old { spare = self.new.spare } }
+        ensures err { OnErr result (self.new ≡ self.old) }
+    {
+        self.log.reserve(steps)
+    }
+
+    /// The steps for which there is memory.
+    pub fn spare_steps(&self) -> u32
+        ensures { result ≡ self.now.spare }
+    {
+        self.log.spare()
+    }
+
+    /// The steps that were made.
+    pub fn spent(&self) -> u32
+        ensures spent { result ≡ self.now.spent }
+        ensures bound { self.now.spent + self.now.spare ≤ 2 ^ 30 }
+    {
+        self.log.spent()
+    }
+
+    /// A step begins. It may add 300 entries, one of them that of a move.
+    pub fn begin(&mut self)
+        requires { 0 < self.old.spare }
+        ensures { self.new ≡ record self.old { spare = self.old.spare - 1; spent = self.old.spent + 1; room = 300; may_move = true } }
+    {
+        self.log.begin();
+    }
+
+    /// The position of the first entry of this history.
+    pub fn first(&self) -> u64
+        ensures { result ≡ self.now.found.totals.position + 1 }
+    {
+        self.log.first()
+    }
+
+    /// The position of the last entry, and the sums with those before the history.
+    pub fn totals(&self) -> Totals
+        ensures { result ≡ totals_of self.now.found self.now.entries }
+    {
+        let sums = self.tables.sums;
+        Totals {
+            position: self.log.position(),
+            host_blocks: sums.host_blocks,
+            media_blocks: sums.media_blocks,
+            erases: sums.erases,
+        }
+    }
+
+    /// What is kept of the pages of data.
+    pub fn pages(&self) -> &Pages
+        ensures { result.now ≡ self.now.pages }
+    {
+        &self.tables.pages
+    }
+
+    /// The history, for good.
+    pub fn into_entries(self) -> Vec<Entry>
+        ensures { result.items ≡ self.entries }
+    {
+        let Book {
+            config: _,
+            log,
+            tables: _,
+        } = self;
+        log.into_entries()
+    }
+}

@@ -1,0 +1,22 @@
+//! The history of a drive with the tables that follow it, without a flash: what a command comes to, step by step.
+#![tactic(auto)]
+
+mod book;
+mod extent;
+mod first_step;
+mod flight;
+mod log;
+mod next_page;
+mod room;
+mod stage;
+mod tables;
+#[cfg(test)]
+mod tests;
+mod ticket;
+
+pub use book::{Book, Page};
+pub use first_step::FirstStep;
+pub use next_page::NextPage;
+pub use room::{Replies, Room};
+pub use stage::Stage;
+pub use ticket::{Done, Ticket};

@@ -1,0 +1,49 @@
+-- A pass that is ready to be moved, and what the flash holds after the move.
+use Rattle.std.proofs.Common.{◌≡◌, ℕ, zero, suc, ◌+◌, ◌*◌, ◌<◌, Bool, List, [], ◌∷◌, ◌++◌, length, Option, Some, slice_set, true, refl, sym, ◌∙◌, ap, subst, arith}
+use Rattle.std.specs.Prelude.{slice_index_or}
+use Rattle.std.proofs.lemmas.List.{append-nil}
+use Rattle.fdp_base.specs.declared.config.Geometry.{Geometry}
+use Rattle.fdp_base.specs.declared.config.DriveConfig.{DriveConfig}
+use Rattle.fdp_base.specs.declared.entry.Entry.{Entry}
+use Rattle.fdp_base.specs.declared.entry.Entry.TheVariants as entries
+use Rattle.fdp_base.specs.declared.entry.Spot.{Spot}
+use Rattle.fdp_collector.specs.declared.step.Step.TheVariants as steps
+use Rattle.fdp_collector.specs.Ready.{IsBlankBehind, Relocation}
+use Rattle.fdp_flash.specs.declared.cell.Cell.{Cell}
+use Rattle.fdp_flash.specs.Cells.{IsBlankFrom}
+use Rattle.fdp_flash.specs.FlashState.{FlashState}
+use Rattle.fdp_locations.specs.Stored.{HoldsWritten}
+use Rattle.fdp_locations.specs.Written.{Written, written_by}
+use Rattle.fdp_locations.proofs.Histories.{written_by-push}
+use Rattle.fdp_moving_book.specs.Book.{BookSeen, point_in, written_in}
+use Rattle.fdp_moving_book.specs.Configured.{no_pages}
+use Rattle.fdp_moving_book.specs.Relocating.{MovesPass, Relocates}
+use Rattle.fdp_owners.specs.OwnerTable.{OwnerTable}
+use Rattle.fdp_pages.specs.PageTables.{PageTables, no_passes, passes_at}
+use Rattle.fdp_pages.specs.Steps.{Recounts}
+use Rattle.fdp_passes.specs.GroupPasses.{GroupPasses}
+use Rattle.fdp_rules.specs.History.{Found}
+use Rattle.fdp_rules.specs.Sites.{moved_blocks}
+use Rattle.fdp_units.specs.declared.data_unit.DataUnit.{DataUnit}
+use Rattle.fdp_units.specs.DataUnits.{is_lost}
+use Rattle.fdp_units.specs.UnitTable.{Cut, IsUnit, UnitTable, cut_of, unit_at}
+
+-- ---- what is held after a move
+
+blank-recounted : (g : Geometry) (cells : List Cell) (t now : UnitTable) (o : OwnerTable) → Recounts t now o → IsBlankBehind g cells t → IsBlankBehind g cells now
+blank-recounted g cells t now o same blank unit there kept =
+    let is = same.kept unit in
+    let lies : IsUnit t unit = subst (λ (x : Cut). unit < x.groups * x.group_units) same.cut there in
+    let lost = sym (ap (λ (x : DataUnit). is_lost x.state) is) ∙ kept in
+    subst (λ (x : DataUnit). IsBlankFrom g cells (record { unit = unit; page = x.next })) (sym is) (blank unit lies lost)
+
+pub held-moved : (g : Geometry) (cells : List Cell) (old new : BookSeen) (rg : ℕ) → MovesPass old new rg → HoldsWritten g cells (written_in old) old.pages.units → HoldsWritten g cells (written_in new) new.pages.units
+held-moved g cells old new rg moved holds =
+    let e : Entry = entries.Moved (record { rg = rg; blocks = moved_blocks (point_in old) rg }) in
+    let written : written_in new ≡ written_in old =
+    ap (λ (c : DriveConfig). written_by c new.found no_pages new.entries) moved.longer.config_is
+    ∙ ap (λ (f : Found). written_by old.config f no_pages new.entries) moved.longer.found_is
+    ∙ ap (written_by old.config old.found no_pages) moved.longer.entries_are
+    ∙ written_by-push old.config old.found no_pages old.entries e in
+    subst (λ (w : Spot → Option Written). HoldsWritten g cells w new.pages.units) (sym written)
+    (record { lie = holds.lie; whole = holds.whole; blank = blank-recounted g cells old.pages.units new.pages.units new.pages.owners moved.units holds.blank })

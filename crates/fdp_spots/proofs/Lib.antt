@@ -1,0 +1,5 @@
+pub mod Tables
+pub mod Stored
+pub mod Counted
+pub mod Emptied
+pub mod Vacant
