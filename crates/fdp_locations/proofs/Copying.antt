@@ -1,5 +1,5 @@
 -- What the copy of a page leaves, and that it may follow.
-use Rattle.std.proofs.Common.{◌≡◌, ◌≢◌, ℕ, ◌+◌, ◌<◌, Bool, true, false, List, [], ◌∷◌, ◌++◌, Option, Some, None, refl, sym, ◌∙◌, ap, subst, arith, ◌⊎◌, ⊎_elim, inl, inr}
+use Rattle.std.proofs.Common.{◌≡◌, ◌≢◌, ℕ, ◌<◌, Bool, true, false, List, [], ◌∷◌, ◌++◌, Option, Some, refl, sym, ◌∙◌, ap, subst, arith, ⊎_elim, inl, inr}
 use Rattle.std.specs.Prelude.{Contains, IsTrue, slice_get}
 use Rattle.std.specs.Option.{option_map_or}
 use Rattle.std.proofs.lemmas.Bool.{cases_eq}
@@ -7,27 +7,25 @@ use Rattle.std.proofs.lemmas.List.Elements.{Contains-push_cases}
 use Rattle.fdp_base.specs.declared.config.DriveConfig.{DriveConfig}
 use Rattle.fdp_base.specs.declared.config.Geometry.{Geometry}
 use Rattle.fdp_base.specs.declared.entry.Copied.{Copied}
-use Rattle.fdp_base.specs.declared.entry.Entry.{Entry}
 use Rattle.fdp_base.specs.declared.entry.Entry.TheVariants as entries
 use Rattle.fdp_base.specs.declared.entry.Spot.{Spot}
 use Rattle.fdp_collector.specs.Ready.{IsBlankBehind, IsReady, IsUnitOf, Relocation, lane_at}
-use Rattle.fdp_collector.specs.Step.{AddsCopy, SkipsPage}
+use Rattle.fdp_collector.specs.Step.{AddsCopy}
 use Rattle.fdp_collector.proofs.Kept.{group-kept}
 use Rattle.fdp_collector.proofs.Opening.{open-ready}
 use Rattle.fdp_collector.proofs.Readied.{HasPass, WasUnused, copy-blank, emptied-unit, open-cut, open-next, open-pass, open-unit, target-of}
 use Rattle.fdp_flash.specs.declared.cell.Cell.{Cell}
 use Rattle.fdp_flash.specs.declared.cell.Cell.TheVariants.{Blank}
 use Rattle.fdp_flash.specs.Layout.{page_number}
-use Rattle.fdp_handles.specs.HandleTable.{HandleTable}
 use Rattle.fdp_history.specs.Orderly.{IsOrderly}
 use Rattle.fdp_locations.specs.Located.{AreLed, AreUnitsOf, next_in}
 use Rattle.fdp_locations.specs.Written.{Written, written_after}
 use Rattle.fdp_locations.proofs.Others.{ChangesPasses, alike-joined, copy-next, data-unit, group-same, is-group, opened-alike, passes-other, unreferenced, used-alike}
 use Rattle.fdp_locations.proofs.Owned.{owned-written}
 use Rattle.fdp_locations.proofs.Relocated.{HasCopyMore, led-copied}
-use Rattle.fdp_locations.proofs.Units.{AreLostAlike, HasSameUnits, units-same}
+use Rattle.fdp_locations.proofs.Units.{AreLostAlike, HasSameUnits}
 use Rattle.fdp_owners.specs.declared.owner.Owner.{Owner}
-use Rattle.fdp_owners.specs.OwnerTable.{OwnerTable, owner_at}
+use Rattle.fdp_owners.specs.OwnerTable.{owner_at}
 use Rattle.fdp_owners.proofs.Tables.{owned-within}
 use Rattle.fdp_pages.specs.Joined.{AreJoined, IsRelocating}
 use Rattle.fdp_pages.specs.PageTables.{PageTables, copies_at, passes_at, relocation_at}
@@ -40,7 +38,6 @@ use Rattle.fdp_pointers.specs.Facts.{Page, with_next}
 use Rattle.fdp_pointers.specs.Pointers.{Behind}
 use Rattle.fdp_rules.specs.Change.{after, changed_by}
 use Rattle.fdp_rules.specs.Next.{next}
-use Rattle.fdp_rules.specs.PlainState.{PlainState}
 use Rattle.fdp_rules.specs.Point.{Point}
 use Rattle.fdp_rules.specs.Sites.{group_of}
 use Rattle.fdp_rules.specs.Step.{Follows, IsCopied, IsPage}
@@ -49,7 +46,7 @@ use Rattle.fdp_trails.proofs.Grouping.{all-copied, due-next}
 use Rattle.fdp_trails.proofs.Joining.{first-early}
 use Rattle.fdp_units.specs.declared.state.UnitState.TheVariants.{Closed, Referenced, Target}
 use Rattle.fdp_units.specs.DataUnits.{is_free}
-use Rattle.fdp_units.specs.UnitTable.{Cut, UnitTable, cut_of, group_in, state_at}
+use Rattle.fdp_units.specs.UnitTable.{Cut, UnitTable, cut_of, state_at}
 
 no : false ≡ true → ⊥
 no e = cc

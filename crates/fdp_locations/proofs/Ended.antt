@@ -1,8 +1,8 @@
 -- What the beginning and the end of a write leave of owners and pointers.
-use Rattle.std.proofs.Common.{◌≡◌, ◌≢◌, ℕ, ◌+◌, ◌≤◌, ◌<◌, Bool, true, false, List, Option, Some, None, refl, sym, ◌∙◌, ap, subst, arith, cond, ◌⊎◌, ⊎_elim, eq-eqb, ne_eqb}
-use Rattle.std.specs.Prelude.{◌==◌, Contains, IsFalse, IsTrue, not, if◌then◌else◌, option_and_then, slice_get}
+use Rattle.std.proofs.Common.{◌≡◌, ◌≢◌, ℕ, ◌≤◌, ◌<◌, Bool, true, false, List, Option, Some, None, refl, sym, ◌∙◌, ap, subst, arith, ⊎_elim, eq-eqb, ne_eqb}
+use Rattle.std.specs.Prelude.{Contains, IsFalse, IsTrue, not, if◌then◌else◌, option_and_then}
 use Rattle.std.specs.List.{list_any}
-use Rattle.std.proofs.lemmas.Bool.{cases_eq, eqb-true}
+use Rattle.std.proofs.lemmas.Bool.{cases_eq}
 use Rattle.fdp_base.specs.declared.command.Command.{Command}
 use Rattle.fdp_base.specs.declared.command.Command.TheVariants as commands
 use Rattle.fdp_base.specs.declared.command.Write.{Write}
@@ -12,10 +12,10 @@ use Rattle.fdp_base.specs.declared.entry.Entry.{Entry}
 use Rattle.fdp_base.specs.declared.entry.Entry.TheVariants as entries
 use Rattle.fdp_base.specs.declared.entry.Reply.{Reply}
 use Rattle.fdp_base.specs.declared.entry.Spot.{Spot}
-use Rattle.fdp_base.specs.CommandKinds.{is_write, write_of}
+use Rattle.fdp_base.specs.CommandKinds.{is_write}
 use Rattle.fdp_base.specs.Numbers.{with_at}
 use Rattle.fdp_history.specs.OrderlyState.{IsOrderlyState}
-use Rattle.fdp_locations.specs.Located.{AreAlike, AreLed, AreNamed, next_in}
+use Rattle.fdp_locations.specs.Located.{AreLed, next_in}
 use Rattle.fdp_locations.specs.Written.{Written}
 use Rattle.fdp_locations.proofs.Kept.{WasNamed, holds-same, kept_by, led-still, owners-kept}
 use Rattle.fdp_owners.specs.declared.owner.Owner.{Owner}
@@ -23,10 +23,10 @@ use Rattle.fdp_owners.specs.Owned.{AreOwners, page_of}
 use Rattle.fdp_owners.specs.OwnerTable.{owner_at, pointer_of}
 use Rattle.fdp_pages.specs.PageTables.{PageTables, copies_at, passes_at}
 use Rattle.fdp_pages.specs.Steps.{without}
-use Rattle.fdp_pointers.specs.Contents.{ended_by, renamed_by}
+use Rattle.fdp_pointers.specs.Contents.{ended_by}
 use Rattle.fdp_pointers.specs.Facts.{Page}
 use Rattle.fdp_pointers.specs.Pointers.{Behind, Pointer, Pointer.of_block, Pointer.of_flight, is_of_another, only, renamed, taken_by}
-use Rattle.fdp_rules.specs.Change.{after, changed_by, completed_in}
+use Rattle.fdp_rules.specs.Change.{after, changed_by}
 use Rattle.fdp_rules.specs.Next.{next}
 use Rattle.fdp_rules.specs.PlainState.{Going, PlainState}
 use Rattle.fdp_rules.specs.Point.{Point}

@@ -1,14 +1,13 @@
 -- What a step of relocation leaves that ends a pass or uses a page for nothing: an erase, or one that failed; a victim that is set
 -- aside; no free unit; a page that is skipped.
-use Rattle.std.proofs.Common.{◌≡◌, ◌≢◌, ℕ, ◌+◌, ◌/◌, ◌≤◌, ◌<◌, Bool, true, false, List, [], Option, Some, None, refl, sym, ◌∙◌, ap, subst, arith, cond, ◌⊎◌, ⊎_elim, inl, inr, eq-eqb, ne_eqb}
-use Rattle.std.specs.Prelude.{◌==◌, ◌&&◌, All, Contains, IfSome, IsTrue, if◌then◌else◌, length, nat_le, slice_set}
+use Rattle.std.proofs.Common.{◌≡◌, ◌≢◌, ℕ, ◌+◌, ◌/◌, ◌≤◌, ◌<◌, Bool, true, false, List, [], Option, Some, None, refl, sym, ◌∙◌, ap, subst, arith, ⊎_elim, eq-eqb, ne_eqb}
+use Rattle.std.specs.Prelude.{◌==◌, ◌&&◌, All, Contains, IfSome, if◌then◌else◌, length, nat_le, slice_set}
 use Rattle.std.specs.Option.{option_map_or}
 use Rattle.std.proofs.lemmas.Bool.{cases_eq}
 use Rattle.std.proofs.lemmas.List.Elements.{All-nil, All-weaker}
 use Rattle.std.proofs.lemmas.Option.{slice_get-get_or}
 use Rattle.fdp_base.specs.declared.config.DriveConfig.{DriveConfig}
 use Rattle.fdp_base.specs.declared.entry.Copied.{Copied}
-use Rattle.fdp_base.specs.declared.entry.Entry.{Entry}
 use Rattle.fdp_base.specs.declared.entry.Entry.TheVariants as entries
 use Rattle.fdp_base.specs.declared.entry.Spot.{Spot}
 use Rattle.fdp_base.specs.Numbers.{with_at}
@@ -16,19 +15,18 @@ use Rattle.fdp_collector.specs.Erasing.{state_after, worn_after}
 use Rattle.fdp_collector.specs.Ready.{IsUnitOf, Relocation, lane_at}
 use Rattle.fdp_collector.specs.Step.{GoesAside, SkipsPage}
 use Rattle.fdp_collector.proofs.Opening.{open-counts}
-use Rattle.fdp_collector.proofs.Readied.{emptied-unit, open-cut}
+use Rattle.fdp_collector.proofs.Readied.{emptied-unit}
 use Rattle.fdp_flash.proofs.Lists.{slice_set-same}
 use Rattle.fdp_flash.specs.declared.answer.Wrote.TheVariants as wrote
-use Rattle.fdp_handles.specs.HandleTable.{HandleTable}
 use Rattle.fdp_history.specs.Orderly.{IsOrderly}
 use Rattle.fdp_locations.specs.Located.{AreLed, AreUnitsOf, next_in}
 use Rattle.fdp_locations.specs.Written.{Written, written_after}
 use Rattle.fdp_locations.proofs.Copying.{copy-alike, copy-fresh, copy-nexts, copy-pass}
 use Rattle.fdp_locations.proofs.Others.{ChangesPasses, HasSameHandles, copies-apart, data-unit, ended-fewer, ended-left, group-same, is-group, opened-alike, passes-other, units-given, unreferenced}
-use Rattle.fdp_locations.proofs.Relocated.{ArePassedBy, IsLeft, led-aside, led-erased, led-retired, led-skipped, led-worn}
-use Rattle.fdp_locations.proofs.Units.{AreLostAlike, HasSameUnits, changed-next, units-same}
+use Rattle.fdp_locations.proofs.Relocated.{ArePassedBy, led-aside, led-erased, led-retired, led-skipped, led-worn}
+use Rattle.fdp_locations.proofs.Units.{AreLostAlike, changed-next, units-same}
 use Rattle.fdp_owners.specs.declared.owner.Owner.{Owner}
-use Rattle.fdp_owners.specs.OwnerTable.{OwnerTable, owner_at}
+use Rattle.fdp_owners.specs.OwnerTable.{owner_at}
 use Rattle.fdp_pages.specs.Joined.{AreJoined}
 use Rattle.fdp_pages.specs.PageTables.{PageTables, copies_at, no_passes, passes_at, relocation_at}
 use Rattle.fdp_passes.specs.declared.due.Due.TheVariants as due
@@ -36,7 +34,7 @@ use Rattle.fdp_passes.specs.declared.lane.Lane.{Lane}
 use Rattle.fdp_passes.specs.Due.{IsDue, copies_in}
 use Rattle.fdp_passes.specs.GroupPasses.{GroupPasses, Pass, begun}
 use Rattle.fdp_passes.specs.Room.{room_in, wanted_in}
-use Rattle.fdp_passes.specs.Targets.{OpensPage, Starves, UsesPage, goes_on, pass_in, with_target}
+use Rattle.fdp_passes.specs.Targets.{OpensPage, Starves, pass_in, with_target}
 use Rattle.fdp_pointers.specs.Facts.{IsFree, Page, with_next}
 use Rattle.fdp_pointers.specs.Pointers.{Behind}
 use Rattle.fdp_rules.specs.Change.{after, changed_by}
@@ -49,9 +47,9 @@ use Rattle.fdp_trails.specs.Followed.{FollowsPass, IsCopyOf, IsFollowed, IsPassO
 use Rattle.fdp_trails.proofs.Grouping.{all-erased, all-renamed}
 use Rattle.fdp_trails.proofs.Listing.{unit-empty, unit-erasable}
 use Rattle.fdp_units.specs.declared.data_unit.DataUnit.{DataUnit}
-use Rattle.fdp_units.specs.declared.state.UnitState.TheVariants.{Aside, Closed, Referenced, Retired}
+use Rattle.fdp_units.specs.declared.state.UnitState.TheVariants.{Closed, Referenced}
 use Rattle.fdp_units.specs.DataUnits.{is_closed, is_free, is_lost, turned}
-use Rattle.fdp_units.specs.UnitTable.{Changes, IsGroup, IsUnit, UnitTable, cut_of, group_in, is_worn_at, state_at, unit_at}
+use Rattle.fdp_units.specs.UnitTable.{Changes, IsGroup, IsUnit, UnitTable, group_in, is_worn_at, state_at, unit_at}
 
 closed-referenced : Closed ≡ Referenced → ⊥
 closed-referenced e = cc

@@ -1,7 +1,6 @@
 -- What stays of owners and pointers where some pointers lose their pages.
 use Rattle.std.proofs.Common.{◌≡◌, ℕ, ◌≤◌, ◌<◌, Bool, true, false, Option, Some, None, refl, sym, ◌∙◌, ap, subst, arith}
 use Rattle.std.specs.Prelude.{IsFalse, IsTrue, if◌then◌else◌, is_some, option_and_then}
-use Rattle.fdp_base.specs.declared.command.Write.{Write}
 use Rattle.fdp_base.specs.declared.config.DriveConfig.{DriveConfig}
 use Rattle.fdp_base.specs.declared.entry.Entry.{Entry}
 use Rattle.fdp_base.specs.declared.entry.Spot.{Spot}
@@ -11,12 +10,12 @@ use Rattle.fdp_history.specs.OrderlyState.{IsOrderlyState}
 use Rattle.fdp_locations.specs.Located.{AreAlike, AreLed, AreNamed, next_in}
 use Rattle.fdp_locations.specs.Written.{IsWritten, Written}
 use Rattle.fdp_owners.specs.declared.owner.Owner.{Owner}
-use Rattle.fdp_owners.specs.Owned.{AreOwners, IsOwned, page_of}
+use Rattle.fdp_owners.specs.Owned.{AreOwners}
 use Rattle.fdp_owners.specs.OwnerTable.{owner_at, pointer_of}
 use Rattle.fdp_pages.specs.PageTables.{PageTables, copies_at, passes_at}
 use Rattle.fdp_pointers.specs.Contents.{PageContent, content_at, leaves_pages, renamed_by, tells_placed}
-use Rattle.fdp_pointers.specs.Facts.{Carries, IsTableOf, Page}
-use Rattle.fdp_pointers.specs.Pointers.{Behind, Pointer, Pointer.of_block, Pointer.of_flight, only, renamed}
+use Rattle.fdp_pointers.specs.Facts.{Carries, Page}
+use Rattle.fdp_pointers.specs.Pointers.{Behind, Pointer, Pointer.of_flight, only, renamed}
 use Rattle.fdp_pointers.proofs.Carrying.{carries-kept, carries-renamed}
 use Rattle.fdp_pointers.proofs.Steps.{contents-renamed}
 use Rattle.fdp_pointers.proofs.Tables.{table-raised, table-renamed}

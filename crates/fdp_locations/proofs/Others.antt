@@ -1,6 +1,6 @@
 -- What a step of relocation in one group leaves of the units and of the passes of other groups.
-use Rattle.std.proofs.Common.{◌≡◌, ◌≢◌, ℕ, ◌+◌, ◌*◌, ◌/◌, ◌<◌, Bool, true, false, List, [], length, Option, Some, None, refl, sym, ◌∙◌, ap, subst, arith, ◌⊎◌, ⊎_elim, inl, inr, get_or-set_other}
-use Rattle.std.specs.Prelude.{Contains, IsTrue, nat_lt, slice_index_or, slice_set}
+use Rattle.std.proofs.Common.{◌≡◌, ◌≢◌, ℕ, ◌+◌, ◌*◌, ◌/◌, ◌<◌, Bool, List, [], Option, Some, None, refl, sym, ◌∙◌, ap, subst, arith, ⊎_elim, inl, inr, get_or-set_other}
+use Rattle.std.specs.Prelude.{Contains, nat_lt, slice_index_or, slice_set}
 use Rattle.std.specs.Option.{option_map_or}
 use Rattle.std.proofs.lemmas.Bool.{cases_eq}
 use Rattle.fdp_base.specs.declared.config.DriveConfig.{DriveConfig}
@@ -8,7 +8,7 @@ use Rattle.fdp_base.specs.declared.entry.Copied.{Copied}
 use Rattle.fdp_base.specs.declared.entry.Spot.{Spot}
 use Rattle.fdp_base.specs.Numbers.{with_at}
 use Rattle.fdp_base.specs.Placement.{classes_of}
-use Rattle.fdp_collector.specs.Ready.{IsUnitOf, Relocation}
+use Rattle.fdp_collector.specs.Ready.{Relocation}
 use Rattle.fdp_collector.proofs.Kept.{unit-kept}
 use Rattle.fdp_collector.proofs.Opening.{open-counts}
 use Rattle.fdp_collector.proofs.Readied.{IsHaving, IsTaking, unlost}
@@ -16,7 +16,6 @@ use Rattle.fdp_handles.specs.HandleTable.{HandleTable, reference_at}
 use Rattle.fdp_locations.specs.Located.{AreUnitsOf, next_in}
 use Rattle.fdp_locations.proofs.Relocated.{ArePassedBy}
 use Rattle.fdp_locations.proofs.Units.{AreLostAlike, alike-self, changed-alike, changed-next, unit-same, used-kept}
-use Rattle.fdp_owners.specs.OwnerTable.{OwnerTable}
 use Rattle.fdp_pages.specs.Joined.{AreFilled, AreJoined, IsRelocating}
 use Rattle.fdp_pages.specs.PageTables.{PageTables, copies_at, no_passes, passes_at, relocation_at}
 use Rattle.fdp_passes.specs.declared.lane.Lane.{Lane}
@@ -28,7 +27,7 @@ use Rattle.fdp_rules.specs.PlainState.{PlainState, Reference}
 use Rattle.fdp_rules.specs.Sites.{group_of}
 use Rattle.fdp_rules.specs.Step.{IsDataUnit, IsUnreferenced}
 use Rattle.fdp_trails.specs.Followed.{IsLeft}
-use Rattle.fdp_units.specs.declared.state.UnitState.TheVariants.{Closed, Referenced, Target}
+use Rattle.fdp_units.specs.declared.state.UnitState.TheVariants.{Referenced, Target}
 use Rattle.fdp_units.specs.DataUnits.{is_lost}
 use Rattle.fdp_units.specs.UnitTable.{Cut, IsGroup, IsUnit, UnitTable, cut_of, group_in, is_worn_at, state_at, unit_at}
 

@@ -1,6 +1,6 @@
 -- What a page that is placed leaves of owners and pointers.
-use Rattle.std.proofs.Common.{◌≡◌, ◌≢◌, ℕ, ◌+◌, ◌≤◌, ◌<◌, Bool, true, false, List, [], Option, Some, None, refl, sym, ◌∙◌, ap, subst, arith, cond, ◌⊎◌, ⊎_elim, eq-eqb, ne_eqb}
-use Rattle.std.specs.Prelude.{◌==◌, ◌&&◌, IsTrue, if◌then◌else◌, nat_lt, option_and_then, option_map}
+use Rattle.std.proofs.Common.{◌≡◌, ◌≢◌, ℕ, ◌+◌, ◌≤◌, ◌<◌, Bool, true, false, List, [], Option, Some, None, refl, sym, ◌∙◌, ap, subst, arith, cond, ⊎_elim, eq-eqb, ne_eqb}
+use Rattle.std.specs.Prelude.{◌==◌, if◌then◌else◌, nat_lt, option_and_then, option_map}
 use Rattle.std.specs.Option.{option_map_or}
 use Rattle.std.proofs.lemmas.Bool.{and_right, cases_eq, eqb-true, le-ltb}
 use Rattle.fdp_base.specs.declared.command.Write.{Write}
@@ -19,7 +19,7 @@ use Rattle.fdp_history.specs.Standing.{IsStanding}
 use Rattle.fdp_locations.specs.Located.{AreAlike, AreLed, AreNamed, next_in}
 use Rattle.fdp_locations.specs.Written.{IsWritten, Written, next_page, next_spare, page_of_ticket, with_written, written_after}
 use Rattle.fdp_owners.specs.declared.owner.Owner.{Owner}
-use Rattle.fdp_owners.specs.Owned.{AreOwners, is_pointer, page_of, with_pointer}
+use Rattle.fdp_owners.specs.Owned.{AreOwners, page_of, with_pointer}
 use Rattle.fdp_owners.specs.OwnerTable.{owner_at, pointer_of, with_owner}
 use Rattle.fdp_owners.proofs.Owned.{owners-put}
 use Rattle.fdp_owners.proofs.Tables.{is_spot-other, is_spot-same}

@@ -1,27 +1,24 @@
 -- What the steps of relocation leave of owners and pointers.
-use Rattle.std.proofs.Common.{◌≡◌, ◌≢◌, ℕ, ◌+◌, ◌≤◌, ◌<◌, Bool, true, false, List, [], ◌∷◌, ◌++◌, Option, Some, None, refl, sym, ◌∙◌, ap, subst, arith, ◌⊎◌, ⊎_elim, inl, inr, eq-eqb, ne_eqb}
-use Rattle.std.specs.Prelude.{◌==◌, Contains, IsTrue, if◌then◌else◌, option_map}
+use Rattle.std.proofs.Common.{◌≡◌, ◌≢◌, ℕ, ◌≤◌, ◌<◌, Bool, List, Option, Some, None, refl, sym, ◌∙◌, ap, subst, arith, ◌⊎◌, ⊎_elim, eq-eqb, ne_eqb}
+use Rattle.std.specs.Prelude.{Contains, if◌then◌else◌}
 use Rattle.std.proofs.lemmas.Bool.{cases_eq}
-use Rattle.fdp_base.specs.declared.command.Write.{Write}
 use Rattle.fdp_base.specs.declared.config.DriveConfig.{DriveConfig}
 use Rattle.fdp_base.specs.declared.entry.BlockName.{BlockName}
 use Rattle.fdp_base.specs.declared.entry.Copied.{Copied}
 use Rattle.fdp_base.specs.declared.entry.Entry.{Entry}
 use Rattle.fdp_base.specs.declared.entry.Entry.TheVariants as entries
 use Rattle.fdp_base.specs.declared.entry.Spot.{Spot}
-use Rattle.fdp_base.specs.CommandKinds.{write_of}
-use Rattle.fdp_base.specs.Numbers.{with_at}
 use Rattle.fdp_history.specs.Orderly.{IsOrderly}
 use Rattle.fdp_locations.specs.Located.{AreAlike, AreLed, AreNamed, IsAlike, next_in}
 use Rattle.fdp_locations.specs.Written.{IsWritten, Written, with_written, without_unit, written_after}
-use Rattle.fdp_locations.proofs.Kept.{HoldsStill, WasNamed, holds-same, led-still, named-kept}
+use Rattle.fdp_locations.proofs.Kept.{holds-same, led-still, named-kept}
 use Rattle.fdp_locations.proofs.Placed.{alike-written, written-below, written-kept, written-same}
 use Rattle.fdp_owners.specs.declared.owner.Owner.{Owner}
 use Rattle.fdp_owners.specs.Owned.{AreOwners}
 use Rattle.fdp_owners.specs.OwnerTable.{owner_at}
 use Rattle.fdp_pages.specs.PageTables.{PageTables, copies_at, passes_at}
-use Rattle.fdp_pointers.specs.Contents.{PageContent, content_at, renamed_by}
-use Rattle.fdp_pointers.specs.Facts.{Carries, IsFree, IsTableOf, Page, put_at, with_erased, with_next}
+use Rattle.fdp_pointers.specs.Contents.{PageContent, content_at}
+use Rattle.fdp_pointers.specs.Facts.{Carries, IsFree, Page, put_at, with_erased, with_next}
 use Rattle.fdp_pointers.specs.Pointers.{Behind, Pointer, Pointer.of_flight, moved}
 use Rattle.fdp_pointers.proofs.Carrying.{carries-kept, carries-moved}
 use Rattle.fdp_pointers.proofs.Renaming.{moved-from}

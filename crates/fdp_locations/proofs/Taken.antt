@@ -1,5 +1,5 @@
 -- What a success makes of owners and pointers: blocks get the pages of a write, one after another.
-use Rattle.std.proofs.Common.{◌≡◌, ◌≢◌, ℕ, ◌+◌, ◌-◌, ◌≤◌, ◌<◌, Bool, true, false, Option, Some, None, refl, sym, ◌∙◌, ap, subst, arith, ◌⊎◌, ⊎_elim, eq-eqb, ne_eqb}
+use Rattle.std.proofs.Common.{◌≡◌, ◌≢◌, ℕ, ◌+◌, ◌-◌, ◌≤◌, Bool, true, false, Option, Some, None, refl, sym, ◌∙◌, ap, subst, arith, ⊎_elim, eq-eqb, ne_eqb}
 use Rattle.std.specs.Prelude.{◌==◌, ◌&&◌, MatchOption, if◌then◌else◌, nat_le, nat_lt, option_and_then, option_map}
 use Rattle.std.proofs.lemmas.Bool.{and_from, and_parts, and_right, cases_eq, eqb-true, le-leb, le-ltb, leb-true, lt-ltb, ltb-false, ltb-true}
 use Rattle.fdp_base.specs.declared.entry.Spot.{Spot}

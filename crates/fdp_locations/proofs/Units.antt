@@ -1,6 +1,6 @@
 -- What each step leaves of the handles and the units.
-use Rattle.std.proofs.Common.{◌≡◌, ◌≢◌, ℕ, ◌+◌, ◌*◌, ◌<◌, Bool, true, false, Option, Some, None, refl, sym, ◌∙◌, ap, subst, ◌⊎◌, ⊎_elim, eq-eqb, ne_eqb}
-use Rattle.std.specs.Prelude.{◌==◌, IsTrue, if◌then◌else◌, nat_lt}
+use Rattle.std.proofs.Common.{◌≡◌, ◌≢◌, ℕ, ◌+◌, ◌*◌, ◌<◌, Bool, true, false, refl, sym, ◌∙◌, ap, subst, ⊎_elim, eq-eqb, ne_eqb}
+use Rattle.std.specs.Prelude.{◌==◌, if◌then◌else◌, nat_lt}
 use Rattle.std.proofs.lemmas.Bool.{cases_eq}
 use Rattle.fdp_base.specs.declared.config.DriveConfig.{DriveConfig}
 use Rattle.fdp_base.specs.declared.entry.Spot.{Spot}
@@ -11,8 +11,7 @@ use Rattle.fdp_locations.specs.Located.{AreUnitsOf, next_in}
 use Rattle.fdp_owners.specs.declared.owner.Owner.{Owner}
 use Rattle.fdp_pages.specs.PageTables.{PageTables}
 use Rattle.fdp_pages.specs.Steps.{ChangesOwners, PutsPage, ShutsUnit}
-use Rattle.fdp_rules.specs.Change.{one_less}
-use Rattle.fdp_rules.specs.Effect.{References, no_reference, with_reference}
+use Rattle.fdp_rules.specs.Effect.{References, with_reference}
 use Rattle.fdp_rules.specs.PlainState.{PlainState, Reference}
 use Rattle.fdp_units.specs.declared.data_unit.DataUnit.{DataUnit}
 use Rattle.fdp_units.specs.declared.state.UnitState.{UnitState}

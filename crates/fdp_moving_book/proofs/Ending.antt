@@ -1,6 +1,6 @@
 -- A command that ends: what the tables stand for behind it, and the step that completes it.
 use Rattle.std.proofs.Common.{◌≡◌, ℕ, ◌+◌, ◌≤◌, Bool, true, false, List, [], ◌∷◌, ◌++◌, length, Option, Some, None, refl, sym, ◌∙◌, ap, subst, arith}
-use Rattle.std.specs.Prelude.{IfSome, IsTrue, IsFalse, MatchBool, option_map}
+use Rattle.std.specs.Prelude.{IfSome, IsFalse, MatchBool, option_map}
 use Rattle.fdp_base.specs.declared.command.Command.{Command}
 use Rattle.fdp_base.specs.declared.command.Write.{Write}
 use Rattle.fdp_base.specs.declared.config.DriveConfig.{DriveConfig}

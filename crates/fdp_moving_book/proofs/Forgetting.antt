@@ -1,9 +1,8 @@
 -- The pages of a write that is forgotten have owners.
-use Rattle.std.proofs.Common.{◌≡◌, ℕ, zero, suc, ◌+◌, ◌<◌, List, [], ◌∷◌, length, Option, Some, None, refl, sym, ap, subst, arith, slice_set}
+use Rattle.std.proofs.Common.{◌≡◌, ℕ, zero, suc, List, [], ◌∷◌, Option, refl, sym, ap, subst, arith, slice_set}
 use Rattle.fdp_base.specs.declared.config.DriveConfig.{DriveConfig}
 use Rattle.fdp_base.specs.declared.entry.Entry.{Entry}
 use Rattle.fdp_base.specs.declared.entry.Spot.{Spot}
-use Rattle.fdp_moving_book.specs.declared.flight.Flight.{Flight}
 use Rattle.fdp_moving_book.specs.declared.tables.Tables.{Tables}
 use Rattle.fdp_moving_book.specs.Forgetting.{MayForget}
 use Rattle.fdp_moving_book.specs.Held.{IsHeld, flight_in}

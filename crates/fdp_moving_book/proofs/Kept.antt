@@ -1,12 +1,12 @@
 -- What stays of the tables after an entry that changes neither a setting nor a namespace.
-use Rattle.std.proofs.Common.{◌≡◌, ℕ, Bool, false, List, Option, Some, None, refl, sym, ◌∙◌, ap}
+use Rattle.std.proofs.Common.{◌≡◌, ℕ, false, List, Option, Some, None, refl, sym, ◌∙◌, ap}
 use Rattle.std.specs.Prelude.{◌==◌, IsTrue, option_map}
 use Rattle.std.specs.Option.{option_map_or}
 use Rattle.fdp_base.specs.declared.config.DriveConfig.{DriveConfig}
 use Rattle.fdp_base.specs.CommandKinds.{nsid_of, pid_of, write_of}
 use Rattle.fdp_moving_book.specs.declared.flight.Flight.{Flight}
 use Rattle.fdp_moving_book.specs.declared.tables.Setting.{Setting}
-use Rattle.fdp_moving_book.specs.Held.{AreFlightsOf, AreSpacesOf, IsMapOf, IsSettingOf, flight_in, going_of}
+use Rattle.fdp_moving_book.specs.Held.{AreFlightsOf, AreSpacesOf, IsMapOf, IsSettingOf, going_of}
 use Rattle.fdp_spots.specs.MapTable.{MapTable}
 use Rattle.fdp_rules.specs.PlainState.{Block, Going, Namespace, PlainState}
 use Rattle.fdp_rules.specs.Sites.{is_there}

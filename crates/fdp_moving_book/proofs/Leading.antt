@@ -1,6 +1,6 @@
 -- Where the pointers lead by the map and the flights.
-use Rattle.std.proofs.Common.{◌≡◌, ◌≢◌, ℕ, zero, suc, ◌+◌, ◌<◌, ◌≤◌, Bool, true, false, List, [], ◌∷◌, ◌++◌, length, Option, Some, None, refl, sym, ◌∙◌, ap, subst, arith, cond, ◌⊎◌, ⊎_elim, inl, inr, eq-eqb, ne_eqb, slice_get, slice_set}
-use Rattle.std.specs.Prelude.{◌==◌, ◌||◌, Contains, IsFalse, IsSome, IsTrue, if◌then◌else◌, is_some, not, option_and_then, option_map}
+use Rattle.std.proofs.Common.{◌≡◌, ◌≢◌, ℕ, zero, suc, ◌<◌, Bool, true, false, List, [], ◌∷◌, length, Option, Some, None, refl, sym, ◌∙◌, ap, subst, ◌⊎◌, ⊎_elim, eq-eqb, ne_eqb, slice_get, slice_set}
+use Rattle.std.specs.Prelude.{◌==◌, ◌||◌, Contains, IsSome, if◌then◌else◌, is_some, not, option_and_then, option_map}
 use Rattle.std.specs.List.{list_any}
 use Rattle.std.specs.Option.{option_map_or}
 use Rattle.std.proofs.lemmas.Bool.{cases_eq, false_from_ne_true}

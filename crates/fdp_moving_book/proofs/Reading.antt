@@ -1,9 +1,8 @@
 -- The page of a block that is read.
-use Rattle.std.proofs.Common.{◌≡◌, ℕ, zero, suc, ◌+◌, ◌*◌, ◌<◌, Bool, true, false, List, [], ◌∷◌, length, Option, Some, None, refl, sym, ◌∙◌, ap, subst, arith}
+use Rattle.std.proofs.Common.{◌≡◌, ℕ, zero, suc, ◌<◌, true, false, List, [], ◌∷◌, length, Option, Some, None, refl, sym, ◌∙◌, ap, subst, arith}
 use Rattle.std.specs.Prelude.{if◌then◌else◌, nat_lt, option_map, slice_index_or}
 use Rattle.std.proofs.lemmas.Bool.{ltb-true}
 use Rattle.fdp_base.specs.declared.entry.Spot.{Spot}
-use Rattle.fdp_base.specs.declared.spare.DataSpare.{DataSpare}
 use Rattle.fdp_base.specs.Spare.{data_spare}
 use Rattle.fdp_moving_book.specs.declared.tables.Tables.{Tables}
 use Rattle.fdp_moving_book.specs.Book.{BookSeen, point_in, state_in, written_in}
@@ -21,7 +20,6 @@ use Rattle.fdp_pointers.specs.Contents.{PageContent}
 use Rattle.fdp_pointers.specs.Facts.{Page}
 use Rattle.fdp_pointers.specs.Pointers.{Pointer.of_block}
 use Rattle.fdp_pointers.proofs.Tables.{from-block, site-at}
-use Rattle.fdp_locations.specs.Written.{Written}
 use Rattle.fdp_rules.specs.PlainState.{Block}
 use Rattle.fdp_rules.specs.Step.{IsPage}
 

@@ -17,7 +17,7 @@ use Rattle.fdp_rules.proofs.Pushes.{point_of-push}
 use Rattle.fdp_rules.specs.Change.{after, changed_by}
 use Rattle.fdp_rules.specs.History.{Found, point_of}
 use Rattle.fdp_rules.specs.Next.{next}
-use Rattle.fdp_rules.specs.PlainState.{Going, PlainState}
+use Rattle.fdp_rules.specs.PlainState.{Going}
 use Rattle.fdp_rules.specs.Point.{Point}
 use Rattle.fdp_rules.specs.Step.{Follows}
 

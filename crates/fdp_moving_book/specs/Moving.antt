@@ -1,6 +1,5 @@
 -- How the tables change while a pass is moved, copy by copy.
-use Rattle.std.specs.Prelude.{◌≡◌, ℕ, ◌<◌, ◌++◌, Contains, IfSome, IsSome, List, Option, Some, length, option_map, slice_get, slice_set}
-use Rattle.std.specs.Option.{option_map_or}
+use Rattle.std.specs.Prelude.{◌≡◌, ℕ, ◌<◌, ◌++◌, IfSome, IsSome, List, Option, Some, length, option_map, slice_get, slice_set}
 use Rattle.std.specs.Prelude.{option_to_list, take}
 use Rattle.fdp_base.specs.declared.entry.BlockName.{BlockName}
 use Rattle.fdp_base.specs.declared.entry.Copied.{Copied}
@@ -17,11 +16,11 @@ use Rattle.fdp_owners.specs.declared.owner.Holder.TheVariants as holders
 use Rattle.fdp_owners.specs.declared.owner.Owner.{Owner}
 use Rattle.fdp_owners.specs.Owned.{AreOwners}
 use Rattle.fdp_owners.specs.OwnerTable.{owner_at}
-use Rattle.fdp_pages.specs.PageTables.{PageTables, copies_at}
+use Rattle.fdp_pages.specs.PageTables.{copies_at}
 use Rattle.fdp_pages.specs.Steps.{ChangesOwners, moved}
 use Rattle.fdp_pointers.specs.Facts.{Page}
 use Rattle.fdp_pointers.specs.Pointers.{Behind}
-use Rattle.fdp_rules.specs.PlainState.{Going, PlainState}
+use Rattle.fdp_rules.specs.PlainState.{PlainState}
 use Rattle.fdp_trails.specs.Moves.{name_at, owners_moved}
 
 -- a block is at this page

@@ -1,13 +1,12 @@
 -- Where the next page of a handle may go.
-use Rattle.std.specs.Prelude.{◌≡◌, ℕ, ◌<◌, IsFalse, Option, Some, None}
+use Rattle.std.specs.Prelude.{◌≡◌, ℕ, ◌<◌, Option, Some, None}
 use Rattle.fdp_base.specs.declared.entry.Spot.{Spot}
 use Rattle.fdp_moving_book.specs.Book.{BookSeen}
 use Rattle.fdp_moving_book.specs.Tickets.{TakesUnit}
-use Rattle.fdp_locations.specs.Located.{next_in}
 use Rattle.fdp_pages.specs.PageTables.{unit_of}
 use Rattle.fdp_pages.specs.Steps.{MayPut}
-use Rattle.fdp_units.specs.DataUnits.{is_free, is_lost}
-use Rattle.fdp_units.specs.UnitTable.{IsUnit, count_in, state_at}
+use Rattle.fdp_units.specs.DataUnits.{is_free}
+use Rattle.fdp_units.specs.UnitTable.{count_in}
 
 -- the first page of the unit that a handle may take, or fewer than three units are free
 abbrev pub IsFreeSpot : BookSeen → ℕ → Option Spot → Type 0

@@ -7,7 +7,7 @@ use Rattle.fdp_moving_book.specs.declared.ticket.Done.{Done}
 use Rattle.fdp_moving_book.specs.declared.ticket.Ticket.{Ticket}
 use Rattle.fdp_base.specs.declared.entry.Reply.{Reply}
 use Rattle.fdp_moving_book.specs.Book.{BookSeen, IsLonger, point_in, state_in}
-use Rattle.fdp_moving_book.specs.Steps.{Completes, IsFlying}
+use Rattle.fdp_moving_book.specs.Steps.{Completes}
 use Rattle.fdp_moving_book.specs.Tickets.{IsNextSpot, IsTicketOf}
 use Rattle.fdp_pages.specs.PageTables.{PageTables}
 use Rattle.fdp_pages.specs.Steps.{ChangesOwners, ShutsUnit}

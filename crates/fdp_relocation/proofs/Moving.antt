@@ -1,32 +1,26 @@
 -- A pass that is ready to be moved, and what the flash holds after the move.
-use Rattle.std.proofs.Common.{◌≡◌, ℕ, zero, suc, ◌+◌, ◌*◌, ◌<◌, Bool, List, [], ◌∷◌, ◌++◌, length, Option, Some, slice_set, true, refl, sym, ◌∙◌, ap, subst, arith}
-use Rattle.std.specs.Prelude.{slice_index_or}
-use Rattle.std.proofs.lemmas.List.{append-nil}
+use Rattle.std.proofs.Common.{◌≡◌, ℕ, ◌*◌, ◌<◌, List, Option, sym, ◌∙◌, ap, subst}
 use Rattle.fdp_base.specs.declared.config.Geometry.{Geometry}
 use Rattle.fdp_base.specs.declared.config.DriveConfig.{DriveConfig}
 use Rattle.fdp_base.specs.declared.entry.Entry.{Entry}
 use Rattle.fdp_base.specs.declared.entry.Entry.TheVariants as entries
 use Rattle.fdp_base.specs.declared.entry.Spot.{Spot}
-use Rattle.fdp_collector.specs.declared.step.Step.TheVariants as steps
-use Rattle.fdp_collector.specs.Ready.{IsBlankBehind, Relocation}
+use Rattle.fdp_collector.specs.Ready.{IsBlankBehind}
 use Rattle.fdp_flash.specs.declared.cell.Cell.{Cell}
 use Rattle.fdp_flash.specs.Cells.{IsBlankFrom}
-use Rattle.fdp_flash.specs.FlashState.{FlashState}
 use Rattle.fdp_locations.specs.Stored.{HoldsWritten}
 use Rattle.fdp_locations.specs.Written.{Written, written_by}
 use Rattle.fdp_locations.proofs.Histories.{written_by-push}
 use Rattle.fdp_moving_book.specs.Book.{BookSeen, point_in, written_in}
 use Rattle.fdp_moving_book.specs.Configured.{no_pages}
-use Rattle.fdp_moving_book.specs.Relocating.{MovesPass, Relocates}
+use Rattle.fdp_moving_book.specs.Relocating.{MovesPass}
 use Rattle.fdp_owners.specs.OwnerTable.{OwnerTable}
-use Rattle.fdp_pages.specs.PageTables.{PageTables, no_passes, passes_at}
 use Rattle.fdp_pages.specs.Steps.{Recounts}
-use Rattle.fdp_passes.specs.GroupPasses.{GroupPasses}
 use Rattle.fdp_rules.specs.History.{Found}
 use Rattle.fdp_rules.specs.Sites.{moved_blocks}
 use Rattle.fdp_units.specs.declared.data_unit.DataUnit.{DataUnit}
 use Rattle.fdp_units.specs.DataUnits.{is_lost}
-use Rattle.fdp_units.specs.UnitTable.{Cut, IsUnit, UnitTable, cut_of, unit_at}
+use Rattle.fdp_units.specs.UnitTable.{Cut, IsUnit, UnitTable}
 
 -- ---- what is held after a move
 

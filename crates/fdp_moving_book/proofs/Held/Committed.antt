@@ -3,7 +3,6 @@ use Rattle.std.proofs.Common.{◌≡◌, ◌≢◌, ℕ, zero, suc, ◌+◌, ◌
 use Rattle.std.specs.Prelude.{◌==◌, ◌&&◌, IsTrue, if◌then◌else◌, nat_le, nat_lt, option_and_then, option_map}
 use Rattle.std.specs.Option.{option_map_or}
 use Rattle.std.proofs.lemmas.Bool.{and_parts, cases_eq}
-use Rattle.std.proofs.lemmas.Option.{slice_get_within}
 use Rattle.fdp_base.specs.declared.command.Command.{Command}
 use Rattle.fdp_base.specs.declared.command.Command.TheVariants as commands
 use Rattle.fdp_base.specs.declared.command.Write.{Write}
@@ -11,7 +10,7 @@ use Rattle.fdp_base.specs.declared.config.DriveConfig.{DriveConfig}
 use Rattle.fdp_base.specs.declared.entry.Entry.{Entry}
 use Rattle.fdp_base.specs.declared.entry.Spot.{Spot}
 use Rattle.fdp_base.specs.declared.status.TheConstants.Status as statuses
-use Rattle.fdp_base.specs.CommandKinds.{blocks_written, write_of}
+use Rattle.fdp_base.specs.CommandKinds.{write_of}
 use Rattle.fdp_base.specs.Numbers.{is_among, with_at}
 use Rattle.fdp_base.proofs.Writes.{write-is}
 use Rattle.fdp_moving_book.specs.declared.flight.Flight.{Flight}
@@ -19,8 +18,8 @@ use Rattle.fdp_moving_book.specs.declared.tables.Setting.{Setting}
 use Rattle.fdp_moving_book.specs.declared.tables.Sums.{Sums}
 use Rattle.fdp_moving_book.specs.declared.tables.Tables.{Tables}
 use Rattle.fdp_moving_book.specs.Flown.{place_in, with_pages}
-use Rattle.fdp_moving_book.specs.Held.{AreFlightsOf, AreSpacesOf, IsHeld, IsMapOf, IsSettingOf, flight_in, going_of, lead_in, page_in}
-use Rattle.fdp_moving_book.specs.Taking.{IsPageTo, MayTake}
+use Rattle.fdp_moving_book.specs.Held.{AreSpacesOf, IsHeld, IsMapOf, IsSettingOf, flight_in, going_of, lead_in, page_in}
+use Rattle.fdp_moving_book.specs.Taking.{MayTake}
 use Rattle.fdp_moving_book.proofs.Committing.Points.{IsCommitted, blocks-count, blocks_with, committed}
 use Rattle.fdp_moving_book.proofs.Flights.Rows.{flight_in-set}
 use Rattle.fdp_moving_book.proofs.Held.Ended.{flights-less, passes-same}
@@ -28,7 +27,7 @@ use Rattle.fdp_moving_book.proofs.Held.Next.{held-next}
 use Rattle.fdp_moving_book.proofs.Held.Started.{copies-same}
 use Rattle.fdp_moving_book.proofs.Held.Sums.{are_sums-push}
 use Rattle.fdp_moving_book.proofs.Histories.Follows.{end-follows, write-succeeds}
-use Rattle.fdp_moving_book.proofs.Kept.{IsAlike, setting-alike, spaces-alike}
+use Rattle.fdp_moving_book.proofs.Kept.{setting-alike, spaces-alike}
 use Rattle.fdp_moving_book.proofs.Leading.{live_of, page-led, pages-same}
 use Rattle.fdp_flash.proofs.Lists.{slice_get_there}
 use Rattle.fdp_locations.specs.Located.{AreLed, LeadsTo}
@@ -41,9 +40,8 @@ use Rattle.fdp_spots.specs.declared.mapped.Mapped.{Mapped}
 use Rattle.fdp_spots.specs.MapTable.{MapTable, mapped_at, size_in}
 use Rattle.fdp_owners.specs.Owned.{AreOwners}
 use Rattle.fdp_owners.specs.OwnerTable.{owner_at}
-use Rattle.fdp_pages.specs.PageTables.{PageTables, passes_at}
+use Rattle.fdp_pages.specs.PageTables.{passes_at}
 use Rattle.fdp_pages.specs.Steps.{ChangesOwners}
-use Rattle.fdp_pointers.specs.Contents.{renamed_by}
 use Rattle.fdp_pointers.specs.Facts.{Page}
 use Rattle.fdp_pointers.specs.Pointers.{Behind, Pointer, Pointer.of_block, Pointer.of_flight, renamed, taken_by}
 use Rattle.fdp_rules.specs.Answer.{bare}
@@ -55,7 +53,6 @@ use Rattle.fdp_rules.specs.Point.{Point}
 use Rattle.fdp_rules.specs.Sites.{is_there}
 use Rattle.fdp_rules.specs.Step.{Follows, MaySucceed}
 use Rattle.fdp_spaces.specs.SpaceTable.{SpaceTable}
-use Rattle.fdp_trails.specs.Followed.{IsPassOf}
 use Rattle.fdp_trails.proofs.Grouping.{all-renamed}
 
 -- ---- the map

@@ -1,11 +1,10 @@
 -- What the end of a command whose change is not made leaves of the tables.
-use Rattle.std.proofs.Common.{◌≡◌, ◌≢◌, ℕ, ◌+◌, ◌≤◌, ◌<◌, Bool, true, false, List, [], ◌∷◌, ◌++◌, length, Option, Some, None, slice_set, refl, sym, ◌∙◌, ap, subst, arith, cond, inl}
+use Rattle.std.proofs.Common.{◌≡◌, ℕ, ◌+◌, ◌<◌, Bool, List, [], ◌∷◌, ◌++◌, length, Option, Some, None, slice_set, refl, sym, ◌∙◌, ap, subst, arith, cond, inl}
 use Rattle.std.specs.Prelude.{IsFalse, IsTrue, if◌then◌else◌}
 use Rattle.std.proofs.Math.ListN.{length-set}
 use Rattle.fdp_base.specs.declared.command.Command.{Command}
 use Rattle.fdp_base.specs.declared.config.DriveConfig.{DriveConfig}
 use Rattle.fdp_base.specs.declared.entry.Entry.{Entry}
-use Rattle.fdp_base.specs.declared.entry.Entry.TheVariants as entries
 use Rattle.fdp_base.specs.declared.entry.Reply.{Reply}
 use Rattle.fdp_base.specs.declared.entry.Spot.{Spot}
 use Rattle.fdp_base.specs.CommandKinds.{is_write}
@@ -27,10 +26,10 @@ use Rattle.fdp_locations.proofs.Ended.{ends-as, host, led-answered, led-ended, o
 use Rattle.fdp_locations.proofs.Units.{HasSameUnits, alike-self, owners-alike, owners-next, units-same}
 use Rattle.fdp_owners.specs.OwnerTable.{owner_at}
 use Rattle.fdp_pages.specs.PageTables.{PageTables, passes_at}
-use Rattle.fdp_pages.specs.Steps.{ChangesOwners, without}
+use Rattle.fdp_pages.specs.Steps.{without}
 use Rattle.fdp_passes.specs.GroupPasses.{GroupPasses}
-use Rattle.fdp_pointers.specs.Contents.{ended_by, renamed_by}
-use Rattle.fdp_pointers.specs.Pointers.{Behind, Pointer, is_of_another, only, renamed}
+use Rattle.fdp_pointers.specs.Contents.{ended_by}
+use Rattle.fdp_pointers.specs.Pointers.{Pointer, is_of_another, only, renamed}
 use Rattle.fdp_rules.specs.Change.{after, changed_by, is_media_error}
 use Rattle.fdp_rules.specs.Effect.{effect_of}
 use Rattle.fdp_rules.specs.History.{Found, point_of}

@@ -1,5 +1,5 @@
 -- The tables that a drive is made with.
-use Rattle.std.proofs.Common.{◌≡◌, ℕ, zero, suc, ◌+◌, ◌*◌, ◌<◌, Bool, false, List, [], length, Option, Some, None, refl, sym, ◌∙◌, ap, subst, arith, replicate}
+use Rattle.std.proofs.Common.{◌≡◌, ℕ, zero, suc, ◌+◌, ◌*◌, ◌<◌, false, List, [], Option, Some, None, refl, sym, ◌∙◌, ap, subst, arith, replicate}
 use Rattle.std.specs.Prelude.{Contains, option_and_then, option_map, slice_index_or}
 use Rattle.std.specs.Option.{option_map_or}
 use Rattle.std.proofs.lemmas.List.{length-replicate}
@@ -19,25 +19,24 @@ use Rattle.fdp_handles.specs.HandleTable.{reference_at}
 use Rattle.fdp_locations.specs.Located.{AreUnitsOf}
 use Rattle.fdp_locations.specs.Written.{written_by, written_from}
 use Rattle.fdp_spots.specs.declared.mapped.Mapped.{Mapped}
-use Rattle.fdp_spots.specs.MapTable.{MapTable, mapped_at}
+use Rattle.fdp_spots.specs.MapTable.{MapTable}
 use Rattle.fdp_owners.specs.declared.owner.Owner.{Owner}
 use Rattle.fdp_owners.specs.Owned.{AreOwners}
 use Rattle.fdp_owners.specs.OwnerTable.{owner_at}
 use Rattle.fdp_owners.proofs.Owned.{owners-none}
 use Rattle.fdp_pages.specs.Joined.{AreJoined}
-use Rattle.fdp_pages.specs.PageTables.{PageTables, copies_at, no_passes, no_targets, passes_at}
+use Rattle.fdp_pages.specs.PageTables.{PageTables, no_passes, no_targets, passes_at}
 use Rattle.fdp_passes.specs.GroupPasses.{GroupPasses, Pass}
 use Rattle.fdp_passes.specs.Due.{copies_in}
 use Rattle.fdp_pointers.specs.Facts.{Page}
-use Rattle.fdp_pointers.specs.Pointers.{Behind, Pointer, Pointer.of_block, Pointer.of_flight}
+use Rattle.fdp_pointers.specs.Pointers.{Pointer, Pointer.of_block, Pointer.of_flight}
 use Rattle.fdp_pointers.proofs.Opening.{table-fresh}
 use Rattle.fdp_rules.specs.Effect.{no_reference}
 use Rattle.fdp_rules.specs.History.{first_state, fresh, point_of, state_of}
-use Rattle.fdp_rules.specs.PlainState.{Going}
 use Rattle.fdp_trails.proofs.Following.{pass-ended}
 use Rattle.fdp_units.specs.declared.data_unit.DataUnit.{DataUnit}
 use Rattle.fdp_units.specs.DataUnits.{free_unit, is_lost}
-use Rattle.fdp_units.specs.UnitTable.{Cut, IsUnit, cut_of, is_worn_at, unit_at}
+use Rattle.fdp_units.specs.UnitTable.{Cut, cut_of, is_worn_at, unit_at}
 
 none-some : (f : Flight) → None ≡ Some f → ⊥
 none-some f e = cc

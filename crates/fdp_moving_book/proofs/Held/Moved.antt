@@ -1,6 +1,6 @@
 -- The tables after the move of a pass.
-use Rattle.std.proofs.Common.{◌≡◌, ◌≢◌, ℕ, ◌+◌, ◌≤◌, ◌<◌, Bool, true, List, [], ◌∷◌, ◌++◌, length, Option, Some, None, refl, sym, ◌∙◌, ap, subst, arith, get_or, get_or-set_same, take, ◌⊎◌, ⊎_elim, inl, inr}
-use Rattle.std.specs.Prelude.{All, Contains, IfSome, IsTrue, option_map, slice_index_or, slice_set}
+use Rattle.std.proofs.Common.{◌≡◌, ℕ, ◌+◌, ◌<◌, Bool, true, List, [], ◌∷◌, ◌++◌, length, Option, Some, None, refl, sym, ◌∙◌, ap, subst, arith, get_or-set_same, ◌⊎◌, ⊎_elim}
+use Rattle.std.specs.Prelude.{All, Contains, IfSome, IsTrue, option_map, slice_set}
 use Rattle.std.specs.Option.{option_map_or}
 use Rattle.std.proofs.lemmas.List.{take_all}
 use Rattle.fdp_base.specs.declared.config.DriveConfig.{DriveConfig}
@@ -24,8 +24,7 @@ use Rattle.fdp_locations.specs.Written.{Written, written_by}
 use Rattle.fdp_locations.proofs.Others.{ChangesPasses, ended-fewer, ended-left}
 use Rattle.fdp_locations.proofs.Relocated.{led-moved}
 use Rattle.fdp_locations.proofs.Units.{HasSameUnits, owners-alike, owners-next, units-same}
-use Rattle.fdp_spots.specs.declared.mapped.Mapped.{Mapped}
-use Rattle.fdp_spots.specs.MapTable.{MapTable, mapped_at, size_in}
+use Rattle.fdp_spots.specs.MapTable.{MapTable, size_in}
 use Rattle.fdp_owners.specs.declared.owner.Owner.{Owner}
 use Rattle.fdp_owners.specs.Owned.{AreOwners, page_of}
 use Rattle.fdp_owners.specs.OwnerTable.{owner_at, pointer_of}
@@ -36,7 +35,7 @@ use Rattle.fdp_passes.specs.declared.due.Due.TheVariants as due
 use Rattle.fdp_passes.specs.Due.{IsDue, copies_in}
 use Rattle.fdp_passes.specs.GroupPasses.{GroupPasses, Pass, without_copies}
 use Rattle.fdp_pointers.specs.Facts.{Page, put_at}
-use Rattle.fdp_pointers.specs.Pointers.{Behind, Pointer, moved}
+use Rattle.fdp_pointers.specs.Pointers.{Pointer, moved}
 use Rattle.fdp_pointers.proofs.Renaming.{moved-from}
 use Rattle.fdp_rules.specs.Change.{after, changed_by}
 use Rattle.fdp_rules.specs.History.{Found, point_of}
@@ -49,7 +48,6 @@ use Rattle.fdp_trails.specs.Followed.{IsCopyOf, IsFollowed}
 use Rattle.fdp_trails.specs.Moves.{AreMovable, names_of, owners_moved}
 use Rattle.fdp_trails.proofs.Grouping.{all-moved}
 use Rattle.fdp_trails.proofs.Listing.{copies-movable, pass-listed, pass-owners, pass-page, pass-to_copies}
-use Rattle.fdp_units.specs.UnitTable.{IsGroup}
 
 abbrev pub moved_entry : ℕ → List BlockName → Entry
 moved_entry rg blocks = entries.Moved (record { rg = rg; blocks = blocks })

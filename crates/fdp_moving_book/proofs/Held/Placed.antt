@@ -1,6 +1,6 @@
 -- What a page that is placed leaves of the tables.
 use Rattle.std.proofs.Common.{◌≡◌, ◌≢◌, ℕ, zero, suc, ◌+◌, ◌≤◌, ◌<◌, Bool, true, false, List, [], ◌∷◌, ◌++◌, length, Option, Some, None, slice_get, slice_set, refl, sym, ◌∙◌, ap, subst, arith, ◌⊎◌, ⊎_elim, inl, eq-eqb, ne_eqb}
-use Rattle.std.specs.Prelude.{◌==◌, ◌&&◌, IfSome, IsFalse, IsTrue, if◌then◌else◌, option_and_then, option_map}
+use Rattle.std.specs.Prelude.{◌==◌, ◌&&◌, IfSome, IsTrue, if◌then◌else◌, option_and_then, option_map}
 use Rattle.std.proofs.lemmas.Bool.{cases_eq}
 use Rattle.std.proofs.Math.ListN.{length-set}
 use Rattle.fdp_base.specs.declared.command.Write.{Write}
@@ -12,10 +12,9 @@ use Rattle.fdp_base.specs.CommandKinds.{write_of}
 use Rattle.fdp_base.specs.Numbers.{with_at}
 use Rattle.fdp_moving_book.specs.declared.flight.Flight.{Flight}
 use Rattle.fdp_moving_book.specs.declared.tables.Setting.{Setting}
-use Rattle.fdp_moving_book.specs.declared.tables.Sums.{Sums}
 use Rattle.fdp_moving_book.specs.declared.tables.Tables.{Tables}
 use Rattle.fdp_moving_book.specs.Flown.{IsPageMore}
-use Rattle.fdp_moving_book.specs.Held.{AreFlightsOf, AreSpacesOf, AreSumsOf, IsHeld, IsMapOf, IsSettingOf, flight_in, going_of, lead_in, page_in}
+use Rattle.fdp_moving_book.specs.Held.{AreFlightsOf, AreSpacesOf, IsHeld, IsMapOf, IsSettingOf, flight_in, going_of, lead_in, page_in}
 use Rattle.fdp_moving_book.proofs.Flights.Rows.{flight_in-set, flown-set, going-set}
 use Rattle.fdp_moving_book.proofs.Held.Ended.{passes-same}
 use Rattle.fdp_moving_book.proofs.Held.Next.{held-next}
@@ -37,13 +36,13 @@ use Rattle.fdp_owners.specs.declared.owner.Holder.{Holder}
 use Rattle.fdp_owners.specs.declared.owner.Holder.TheVariants as holders
 use Rattle.fdp_owners.specs.declared.owner.Owner.{Owner}
 use Rattle.fdp_owners.specs.Owned.{page_of}
-use Rattle.fdp_owners.specs.OwnerTable.{owner_at, pointer_of}
+use Rattle.fdp_owners.specs.OwnerTable.{pointer_of}
 use Rattle.fdp_pages.specs.Joined.{AreJoined}
-use Rattle.fdp_pages.specs.PageTables.{PageTables, copies_at, passes_at}
+use Rattle.fdp_pages.specs.PageTables.{copies_at, passes_at}
 use Rattle.fdp_pages.specs.Steps.{PutsPage}
 use Rattle.fdp_passes.specs.GroupPasses.{GroupPasses, Pass}
-use Rattle.fdp_pointers.specs.Facts.{Page, with_next}
-use Rattle.fdp_pointers.specs.Pointers.{Behind, Pointer, Pointer.of_block, Pointer.of_flight, pointed}
+use Rattle.fdp_pointers.specs.Facts.{Page}
+use Rattle.fdp_pointers.specs.Pointers.{Behind, Pointer.of_block, Pointer.of_flight, pointed}
 use Rattle.fdp_rules.specs.Change.{after, changed_by, one_less, one_more_placed, placed_references}
 use Rattle.fdp_rules.specs.Effect.{with_reference}
 use Rattle.fdp_rules.specs.History.{Found, point_of}
@@ -54,8 +53,7 @@ use Rattle.fdp_rules.specs.Sites.{is_there}
 use Rattle.fdp_rules.specs.Step.{Follows, IsOnTarget, IsPlaced}
 use Rattle.fdp_spaces.specs.SpaceTable.{SpaceTable}
 use Rattle.fdp_trails.proofs.Grouping.{all-placed}
-use Rattle.fdp_units.specs.declared.data_unit.DataUnit.{DataUnit}
-use Rattle.fdp_units.specs.UnitTable.{Cut, IsGroup, unit_at}
+use Rattle.fdp_units.specs.UnitTable.{Cut}
 
 abbrev placed_entry : ℕ → ℕ → Spot → Entry
 placed_entry ticket index spot = entries.Placed (record { ticket = ticket; index = index; unit = spot.unit; page = spot.page })

@@ -1,12 +1,11 @@
 -- The tables after a step of relocation.
-use Rattle.std.proofs.Common.{◌≡◌, ℕ, ◌+◌, ◌≤◌, ◌<◌, Bool, true, List, [], ◌∷◌, ◌++◌, Option, Some, None, refl, sym, ◌∙◌, ap, subst, arith}
+use Rattle.std.proofs.Common.{◌≡◌, ℕ, ◌+◌, ◌<◌, Bool, true, List, [], ◌∷◌, ◌++◌, Option, refl, sym, ap, subst, arith}
 use Rattle.std.specs.Prelude.{slice_set}
 use Rattle.fdp_base.specs.declared.config.DriveConfig.{DriveConfig}
 use Rattle.fdp_base.specs.declared.entry.Copied.{Copied}
 use Rattle.fdp_base.specs.declared.entry.Entry.{Entry}
 use Rattle.fdp_base.specs.declared.entry.Entry.TheVariants as entries
 use Rattle.fdp_base.specs.declared.entry.Spot.{Spot}
-use Rattle.fdp_moving_book.specs.declared.tables.Sums.{Sums}
 use Rattle.fdp_moving_book.specs.declared.tables.Tables.{Tables}
 use Rattle.fdp_moving_book.specs.Held.{IsHeld}
 use Rattle.fdp_moving_book.specs.Relocating.{told_by}
@@ -14,26 +13,22 @@ use Rattle.fdp_moving_book.proofs.Held.Worked.{AreTold, held-rested, held-unsaid
 use Rattle.fdp_collector.specs.declared.step.Lost.TheVariants as lost
 use Rattle.fdp_collector.specs.declared.step.Step.{Step}
 use Rattle.fdp_collector.specs.declared.step.Step.TheVariants as steps
-use Rattle.fdp_collector.specs.Ready.{Relocation, lane_at}
-use Rattle.fdp_collector.specs.Step.{AddsCopy, EndsInErase, GoesAside, IsCopyStep, IsStarved, IsStep, Rests, SkipsPage}
+use Rattle.fdp_collector.specs.Ready.{lane_at}
+use Rattle.fdp_collector.specs.Step.{AddsCopy, EndsInErase, GoesAside, IsCopyStep, IsStarved, IsStep, Rests}
 use Rattle.fdp_flash.specs.declared.answer.Wrote.TheVariants as wrote
 use Rattle.fdp_flash.specs.FlashState.{FlashState}
 use Rattle.fdp_locations.specs.Written.{Written, written_by}
 use Rattle.fdp_locations.proofs.Copying.{copied-led, copied-units, copy-alike, copy-follows}
 use Rattle.fdp_locations.proofs.Ending.{aside-follows, aside-led, aside-units, erase-follows, erased-led, erased-units, rests-same, retire-follows, retired-led, retired-units, skipped-led, skipped-units, worn-follows, worn-led, worn-units}
-use Rattle.fdp_locations.proofs.Others.{ChangesPasses, is-group}
+use Rattle.fdp_locations.proofs.Others.{ChangesPasses}
 use Rattle.fdp_locations.proofs.Units.{units-same}
-use Rattle.fdp_handles.specs.HandleTable.{HandleTable}
-use Rattle.fdp_owners.specs.OwnerTable.{OwnerTable}
 use Rattle.fdp_pages.specs.Joined.{AreJoined}
 use Rattle.fdp_pages.specs.PageTables.{PageTables, passes_at, relocation_at}
 use Rattle.fdp_passes.specs.declared.due.Due.TheVariants as due
 use Rattle.fdp_passes.specs.Due.{IsDue}
-use Rattle.fdp_passes.specs.GroupPasses.{GroupPasses}
 use Rattle.fdp_rules.specs.History.{Found, point_of}
 use Rattle.fdp_rules.specs.Next.{next}
 use Rattle.fdp_rules.specs.Point.{Point}
-use Rattle.fdp_rules.specs.Step.{Follows}
 use Rattle.fdp_units.specs.UnitTable.{IsGroup}
 
 module _ (c : DriveConfig) (found : Found) (first : Spot → Option Written) (es : List Entry) (t now : Tables) (rg : ℕ) (h : IsHeld c found first es t) (joined : AreJoined t.pages) (low : rg < c.groups)

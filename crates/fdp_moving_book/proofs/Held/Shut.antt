@@ -1,15 +1,14 @@
 -- What a handle that is shut leaves of the tables.
-use Rattle.std.proofs.Common.{◌≡◌, ◌≢◌, ℕ, ◌+◌, ◌≤◌, ◌<◌, Bool, true, false, List, [], ◌∷◌, ◌++◌, Option, Some, None, refl, sym, ◌∙◌, ap, subst, arith, inl, eq-eqb, ne_eqb, ◌⊎◌, ⊎_elim}
-use Rattle.std.specs.Prelude.{◌==◌, Contains, if◌then◌else◌}
+use Rattle.std.proofs.Common.{◌≡◌, ◌≢◌, ℕ, ◌+◌, ◌≤◌, ◌<◌, Bool, true, List, [], ◌∷◌, ◌++◌, Option, refl, sym, ap, subst, arith, inl, eq-eqb, ne_eqb, ◌⊎◌, ⊎_elim}
+use Rattle.std.specs.Prelude.{if◌then◌else◌}
 use Rattle.std.proofs.lemmas.Bool.{cases_eq}
 use Rattle.fdp_base.specs.declared.config.DriveConfig.{DriveConfig}
-use Rattle.fdp_base.specs.declared.entry.Copied.{Copied}
 use Rattle.fdp_base.specs.declared.entry.Entry.{Entry}
 use Rattle.fdp_base.specs.declared.entry.Entry.TheVariants as entries
 use Rattle.fdp_base.specs.declared.entry.Spot.{Spot}
 use Rattle.fdp_base.specs.Numbers.{with_at}
 use Rattle.fdp_moving_book.specs.declared.tables.Tables.{Tables}
-use Rattle.fdp_moving_book.specs.Held.{AreSumsOf, IsHeld}
+use Rattle.fdp_moving_book.specs.Held.{IsHeld}
 use Rattle.fdp_moving_book.proofs.Held.Ended.{passes-same}
 use Rattle.fdp_moving_book.proofs.Held.Next.{held-next}
 use Rattle.fdp_moving_book.proofs.Held.Started.{copies-same}
@@ -17,10 +16,9 @@ use Rattle.fdp_moving_book.proofs.Held.Sums.{are_sums-push}
 use Rattle.fdp_moving_book.proofs.Kept.{IsAlike, flights-alike, map-alike, setting-alike, spaces-alike}
 use Rattle.fdp_moving_book.proofs.Leading.{leads-same}
 use Rattle.fdp_moving_book.proofs.Placing.Fresh.{IsFreshPage}
-use Rattle.fdp_handles.specs.HandleTable.{reference_at}
 use Rattle.fdp_locations.specs.Located.{next_in}
 use Rattle.fdp_locations.specs.Written.{Written, written_by}
-use Rattle.fdp_locations.proofs.Relocated.{IsLeft, led-shut}
+use Rattle.fdp_locations.proofs.Relocated.{led-shut}
 use Rattle.fdp_locations.proofs.Units.{changed-next, shuts-alike, units-referring}
 use Rattle.fdp_owners.specs.OwnerTable.{OwnerTable, owner_at}
 use Rattle.fdp_pages.specs.PageTables.{PageTables, passes_at}

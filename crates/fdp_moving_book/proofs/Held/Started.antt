@@ -1,5 +1,5 @@
 -- What the Started entry of a write leaves of the tables: a flight more, and the one before it forgotten.
-use Rattle.std.proofs.Common.{◌≡◌, ◌≢◌, ℕ, ◌+◌, ◌≤◌, ◌<◌, Bool, true, List, [], ◌∷◌, ◌++◌, length, Option, Some, None, slice_get, slice_set, refl, sym, ◌∙◌, ap, subst, arith, inl}
+use Rattle.std.proofs.Common.{◌≡◌, ℕ, ◌+◌, ◌<◌, Bool, true, List, [], ◌∷◌, ◌++◌, length, Option, Some, slice_set, refl, sym, ◌∙◌, ap, subst, arith, inl}
 use Rattle.std.specs.Prelude.{IsTrue, Contains}
 use Rattle.std.proofs.Math.ListN.{length-set}
 use Rattle.fdp_base.specs.declared.command.Command.{Command}
@@ -13,25 +13,23 @@ use Rattle.fdp_moving_book.specs.declared.flight.Flight.{Flight}
 use Rattle.fdp_moving_book.specs.declared.tables.Setting.{Setting}
 use Rattle.fdp_moving_book.specs.declared.tables.Sums.{Sums}
 use Rattle.fdp_moving_book.specs.declared.tables.Tables.{Tables}
-use Rattle.fdp_moving_book.specs.Forgetting.{Forgets, live_pages}
-use Rattle.fdp_moving_book.specs.Held.{AreFlightsOf, ArePagesOf, AreSpacesOf, AreSumsOf, IsHeld, IsMapOf, IsSettingOf, flight_in, going_of, lead_in}
+use Rattle.fdp_moving_book.specs.Forgetting.{Forgets}
+use Rattle.fdp_moving_book.specs.Held.{AreFlightsOf, AreSpacesOf, AreSumsOf, IsHeld, IsMapOf, IsSettingOf, flight_in, going_of, lead_in}
 use Rattle.fdp_moving_book.proofs.Flights.Rows.{flown-set, going-set}
-use Rattle.fdp_moving_book.proofs.Held.Next.{AreTablesOf, held-next}
+use Rattle.fdp_moving_book.proofs.Held.Next.{held-next}
 use Rattle.fdp_moving_book.proofs.Held.Sums.{are_sums-push}
 use Rattle.fdp_moving_book.proofs.Kept.{IsAlike, flight-alike, map-alike, setting-alike, spaces-alike}
 use Rattle.fdp_moving_book.proofs.Leading.{its-pages, leads-without, live-known, live_of}
-use Rattle.fdp_locations.specs.Located.{LeadsTo, next_in}
+use Rattle.fdp_locations.specs.Located.{LeadsTo}
 use Rattle.fdp_locations.specs.Written.{Written, written_by}
 use Rattle.fdp_locations.proofs.Ended.{led-started, owners-released}
 use Rattle.fdp_locations.proofs.Units.{HasSameUnits, owners-alike, owners-next, units-same}
 use Rattle.fdp_spots.specs.MapTable.{MapTable}
-use Rattle.fdp_owners.specs.declared.owner.Owner.{Owner}
 use Rattle.fdp_owners.specs.OwnerTable.{owner_at}
 use Rattle.fdp_pages.specs.PageTables.{PageTables, copies_at, passes_at}
 use Rattle.fdp_pages.specs.Steps.{ChangesOwners, without}
 use Rattle.fdp_passes.specs.GroupPasses.{GroupPasses}
-use Rattle.fdp_pointers.specs.Contents.{renamed_by}
-use Rattle.fdp_pointers.specs.Pointers.{Behind, Pointer, is_of_another, only, renamed}
+use Rattle.fdp_pointers.specs.Pointers.{Pointer, is_of_another, only, renamed}
 use Rattle.fdp_rules.specs.Change.{after, changed_by, started}
 use Rattle.fdp_rules.specs.History.{Found, point_of}
 use Rattle.fdp_rules.specs.Next.{next}

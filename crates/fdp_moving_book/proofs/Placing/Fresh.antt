@@ -1,18 +1,16 @@
 -- The page that a handle uses next.
-use Rattle.std.proofs.Common.{◌≡◌, ◌≢◌, ℕ, ◌+◌, ◌≤◌, ◌<◌, Bool, true, false, Option, Some, None, refl, sym, ◌∙◌, ap, subst, arith}
+use Rattle.std.proofs.Common.{◌≡◌, ◌≢◌, ℕ, ◌+◌, ◌≤◌, ◌<◌, Option, Some, None, refl, sym, ◌∙◌, ap, subst, arith}
 use Rattle.std.specs.Prelude.{IfSome, IsFalse, IsTrue, MatchOption}
 use Rattle.fdp_base.specs.declared.entry.Spot.{Spot}
-use Rattle.fdp_collector.specs.Ready.{IsReady, IsUnitOf}
-use Rattle.fdp_handles.specs.HandleTable.{reference_at}
 use Rattle.fdp_locations.specs.Located.{next_in}
 use Rattle.fdp_pages.specs.Joined.{AreJoined, Fills}
-use Rattle.fdp_pages.specs.PageTables.{PageTables, left_of, passes_at, relocation_at, unit_of}
+use Rattle.fdp_pages.specs.PageTables.{PageTables, left_of, passes_at, unit_of}
 use Rattle.fdp_pages.specs.Steps.{MayPut}
 use Rattle.fdp_passes.specs.GroupPasses.{Pass}
 use Rattle.fdp_units.specs.declared.state.UnitState.{UnitState}
 use Rattle.fdp_units.specs.declared.state.UnitState.TheVariants.{Free, Referenced, Target, Closed, Retired, Aside}
 use Rattle.fdp_units.specs.DataUnits.{is_free, is_lost}
-use Rattle.fdp_units.specs.UnitTable.{IsFreeUnit, IsGroup, IsUnit, UnitTable, group_in, state_at}
+use Rattle.fdp_units.specs.UnitTable.{IsFreeUnit, IsGroup, IsUnit, group_in, state_at}
 
 -- it is the next page of a unit of the group that is free or referenced
 pub record IsFreshPage (t : PageTables) (rg : ℕ) (spot : Spot) : Type 0 where

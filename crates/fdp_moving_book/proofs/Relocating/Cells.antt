@@ -1,5 +1,5 @@
 -- The flash holds what was written after a step of relocation.
-use Rattle.std.proofs.Common.{◌≡◌, ℕ, ◌<◌, Bool, List, [], ◌∷◌, ◌++◌, Option, Some, refl, sym, ◌∙◌, ap, subst}
+use Rattle.std.proofs.Common.{◌≡◌, ℕ, ◌<◌, Bool, List, [], ◌∷◌, ◌++◌, Option, Some, refl, sym, ap, subst}
 use Rattle.std.specs.Prelude.{IsTrue, slice_get}
 use Rattle.std.proofs.lemmas.List.{append-nil}
 use Rattle.fdp_base.specs.declared.config.DriveConfig.{DriveConfig}
@@ -17,8 +17,8 @@ use Rattle.fdp_collector.specs.declared.step.Lost.TheVariants as lost
 use Rattle.fdp_collector.specs.declared.step.Step.{Step}
 use Rattle.fdp_collector.specs.declared.step.Step.TheVariants as steps
 use Rattle.fdp_collector.specs.Copying.{IsDataPage}
-use Rattle.fdp_collector.specs.Ready.{IsBlankBehind, Relocation}
-use Rattle.fdp_collector.specs.Step.{IsCopyStep, IsStarved, IsStep}
+use Rattle.fdp_collector.specs.Ready.{IsBlankBehind}
+use Rattle.fdp_collector.specs.Step.{IsCopyStep, IsStep}
 use Rattle.fdp_flash.specs.declared.cell.Cell.TheVariants.{Blank}
 use Rattle.fdp_flash.specs.FlashState.{FlashState}
 use Rattle.fdp_flash.specs.Layout.{page_number}

@@ -1,6 +1,6 @@
 -- The map and the flights lead where the owners of the pages say, after the owner of one page got another.
-use Rattle.std.proofs.Common.{◌≡◌, ◌≢◌, ℕ, ◌<◌, Bool, true, false, List, length, slice_get, slice_set, Option, Some, None, refl, sym, ◌∙◌, ap, subst, arith, cond, eq-eqb}
-use Rattle.std.specs.Prelude.{◌==◌, ◌&&◌, Contains, IsSome, if◌then◌else◌, is_some, option_and_then, option_map}
+use Rattle.std.proofs.Common.{◌≡◌, ℕ, Bool, true, false, List, slice_get, Option, Some, None, refl, sym, ◌∙◌, ap, subst}
+use Rattle.std.specs.Prelude.{◌==◌, ◌&&◌, if◌then◌else◌, is_some, option_and_then, option_map}
 use Rattle.std.proofs.lemmas.Bool.{eqb-true}
 use Rattle.fdp_base.specs.declared.entry.Copied.{Copied}
 use Rattle.fdp_base.specs.declared.entry.Spot.{Spot}
@@ -9,7 +9,7 @@ use Rattle.fdp_base.specs.Numbers.{with_at}
 use Rattle.fdp_moving_book.specs.declared.flight.Flight.{Flight}
 use Rattle.fdp_moving_book.specs.declared.tables.Tables.{Tables}
 use Rattle.fdp_moving_book.specs.Held.{flight_in, going_of, lead_in, page_in}
-use Rattle.fdp_moving_book.specs.Moving.{HasPageIn, IsMoved, IsMovedIn, KeepsFlights, KeepsGroups, KeepsLead, LeadAsOwned, PutsBlock, moved_to}
+use Rattle.fdp_moving_book.specs.Moving.{HasPageIn, IsMoved, IsMovedIn, KeepsFlights, KeepsGroups, KeepsLead, PutsBlock, moved_to}
 use Rattle.fdp_moving_book.proofs.Relocating.Placing.{IsPut, IsShown, block-groups, flight-kept, flight-put, mapped-with, page-shown, shown-there}
 use Rattle.fdp_handles.proofs.Rows.{slice_get-set}
 use Rattle.fdp_locations.specs.Located.{LeadsTo}
@@ -18,13 +18,13 @@ use Rattle.fdp_spots.specs.MapTable.{MapTable, mapped_at}
 use Rattle.fdp_owners.specs.declared.owner.Holder.{Holder}
 use Rattle.fdp_owners.specs.declared.owner.Holder.TheVariants as holders
 use Rattle.fdp_owners.specs.declared.owner.Owner.{Owner}
-use Rattle.fdp_owners.specs.Owned.{AreOwners, is_pointer, page_of, with_pointer}
+use Rattle.fdp_owners.specs.Owned.{AreOwners, page_of, with_pointer}
 use Rattle.fdp_owners.specs.OwnerTable.{owner_at, pointer_in, pointer_of}
 use Rattle.fdp_owners.proofs.Owned.{owners-moved}
 use Rattle.fdp_pages.specs.Steps.{ChangesOwners, moved}
 use Rattle.fdp_pointers.specs.Facts.{Page}
 use Rattle.fdp_pointers.specs.Pointers.{Behind, Pointer, Pointer.of_block, Pointer.of_flight}
-use Rattle.fdp_rules.specs.PlainState.{Going, PlainState}
+use Rattle.fdp_rules.specs.PlainState.{PlainState}
 use Rattle.fdp_rules.specs.Sites.{is_there}
 use Rattle.fdp_trails.proofs.Moving.{moved-none, moved-some}
 

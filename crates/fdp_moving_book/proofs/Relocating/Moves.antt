@@ -1,6 +1,6 @@
 -- One copy after another is moved.
-use Rattle.std.proofs.Common.{◌≡◌, ℕ, zero, suc, ◌+◌, ◌≤◌, ◌<◌, List, [], ◌∷◌, ◌++◌, length, length-append, slice_get, Option, Some, None, refl, sym, ◌∙◌, ap, subst, arith, take, drop, get_or, fold}
-use Rattle.std.specs.Prelude.{Contains, IfSome, filter_map, option_and_then, option_to_list}
+use Rattle.std.proofs.Common.{◌≡◌, ℕ, zero, suc, ◌+◌, ◌≤◌, ◌<◌, List, [], ◌∷◌, ◌++◌, length, slice_get, Option, Some, None, refl, sym, ◌∙◌, ap, subst, arith, take, drop}
+use Rattle.std.specs.Prelude.{Contains, IfSome, option_and_then, option_to_list}
 use Rattle.std.specs.List.{cons_option}
 use Rattle.std.specs.Option.{option_map_or}
 use Rattle.std.proofs.lemmas.List.{drop_more, take-append-drop, take_more}
@@ -11,7 +11,7 @@ use Rattle.fdp_base.specs.declared.entry.BlockName.{BlockName}
 use Rattle.fdp_base.specs.declared.entry.Copied.{Copied}
 use Rattle.fdp_base.specs.declared.entry.Spot.{Spot}
 use Rattle.fdp_moving_book.specs.declared.tables.Tables.{Tables}
-use Rattle.fdp_moving_book.specs.Moving.{KeepsFlights, KeepsGroups, KeepsLead, MovesCopies, MovesCopy, NamesCopy}
+use Rattle.fdp_moving_book.specs.Moving.{KeepsLead, MovesCopies, MovesCopy, NamesCopy}
 use Rattle.fdp_moving_book.proofs.Committing.PutPages.{changes-joined, changes-self}
 use Rattle.fdp_flash.proofs.Lists.{slice_get_there}
 use Rattle.fdp_owners.specs.declared.owner.Owner.{Owner}

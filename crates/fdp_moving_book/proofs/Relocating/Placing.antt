@@ -1,21 +1,18 @@
 -- What an owner points to gets another page.
-use Rattle.std.proofs.Common.{◌≡◌, ◌≢◌, ℕ, zero, suc, ◌+◌, ◌<◌, Bool, true, false, List, [], ◌∷◌, ◌++◌, length, length-set, slice_get, slice_set, Option, Some, None, refl, sym, ◌∙◌, ap, subst, arith, cond, take, drop, ◌⊎◌, ⊎_elim, eq-eqb, ne_eqb}
-use Rattle.std.specs.Prelude.{◌==◌, ◌&&◌, IsSome, IsTrue, if◌then◌else◌, is_some, option_and_then, option_map, slice_index_or}
+use Rattle.std.proofs.Common.{◌≡◌, ℕ, ◌<◌, Bool, true, false, List, [], ◌∷◌, length, length-set, slice_get, slice_set, Option, Some, None, refl, sym, ◌∙◌, ap, arith}
+use Rattle.std.specs.Prelude.{◌==◌, ◌&&◌, if◌then◌else◌, option_and_then, option_map}
 use Rattle.std.specs.List.{refill}
 use Rattle.std.specs.Option.{option_flatten}
-use Rattle.std.proofs.lemmas.Bool.{cases_eq, eqb-true}
+use Rattle.std.proofs.lemmas.Bool.{eqb-true}
 use Rattle.std.proofs.lemmas.Option.{slice_get_within}
 use Rattle.fdp_base.specs.declared.entry.Spot.{Spot}
-use Rattle.fdp_base.specs.declared.spare.DataSpare.{DataSpare}
 use Rattle.fdp_base.specs.Numbers.{with_at}
 use Rattle.fdp_moving_book.specs.declared.flight.Flight.{Flight}
 use Rattle.fdp_moving_book.specs.Held.{flight_in, going_of, page_in}
-use Rattle.fdp_moving_book.specs.Moving.{HasPageAt, IsMovedIn, KeepsFlights, KeepsGroups, PutsBlock, PutsFlight, PutsPageAt, SetsPage, moved_to}
+use Rattle.fdp_moving_book.specs.Moving.{HasPageAt, KeepsFlights, KeepsGroups, PutsBlock, PutsFlight, SetsPage, moved_to}
 use Rattle.fdp_moving_book.proofs.Flights.Rows.{flight_in-set}
 use Rattle.fdp_spots.specs.declared.mapped.Mapped.{Mapped}
 use Rattle.fdp_spots.specs.MapTable.{MapTable, mapped_at, with_mapped}
-use Rattle.fdp_owners.specs.declared.owner.Holder.{Holder}
-use Rattle.fdp_owners.specs.declared.owner.Holder.TheVariants as holders
 use Rattle.fdp_rules.specs.PlainState.{Going, PlainState}
 use Rattle.fdp_rules.specs.Sites.{is_there}
 

@@ -1,5 +1,5 @@
 -- The entry that tells of a step of relocation may follow.
-use Rattle.std.proofs.Common.{◌≡◌, ℕ, ◌<◌, Bool, List, ◌∷◌, [], Option, sym, subst}
+use Rattle.std.proofs.Common.{ℕ, ◌<◌, Bool, ◌∷◌, [], Option, sym, subst}
 use Rattle.fdp_base.specs.declared.entry.Copied.{Copied}
 use Rattle.fdp_base.specs.declared.entry.Entry.TheVariants as entries
 use Rattle.fdp_base.specs.declared.entry.Spot.{Spot}
@@ -10,16 +10,14 @@ use Rattle.fdp_moving_book.specs.Relocating.{MayFollow, told_by}
 use Rattle.fdp_collector.specs.declared.step.Lost.TheVariants as lost
 use Rattle.fdp_collector.specs.declared.step.Step.{Step}
 use Rattle.fdp_collector.specs.declared.step.Step.TheVariants as steps
-use Rattle.fdp_collector.specs.Ready.{Relocation, lane_at}
-use Rattle.fdp_collector.specs.Step.{IsCopyStep, IsStarved, IsStep}
+use Rattle.fdp_collector.specs.Ready.{lane_at}
+use Rattle.fdp_collector.specs.Step.{IsCopyStep, IsStep}
 use Rattle.fdp_flash.specs.FlashState.{FlashState}
 use Rattle.fdp_locations.specs.Written.{Written}
 use Rattle.fdp_locations.proofs.Copying.{copy-follows}
 use Rattle.fdp_locations.proofs.Ending.{aside-follows, erase-follows, retire-follows, worn-follows}
 use Rattle.fdp_pages.specs.Joined.{AreJoined}
-use Rattle.fdp_pages.specs.PageTables.{PageTables, passes_at, relocation_at}
-use Rattle.fdp_passes.specs.declared.due.Due.TheVariants as due
-use Rattle.fdp_passes.specs.Due.{IsDue}
+use Rattle.fdp_pages.specs.PageTables.{PageTables, relocation_at}
 
 module _ (b : BookSeen) (first : Spot → Option Written) (t : Tables) (pages : PageTables) (rg : ℕ) (h : IsHeld b.config b.found first b.entries t) (joined : AreJoined t.pages) (low : rg < b.config.groups) (old new : FlashState) where
   follows-copy : (copy : Copied) → IsCopyStep t.pages.owners t.pages.handles.classes rg (relocation_at t.pages rg) (relocation_at pages rg) old new (steps.Copied copy) → MayFollow b (entries.Copied copy ∷ [])

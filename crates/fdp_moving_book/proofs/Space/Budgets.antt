@@ -1,20 +1,13 @@
 -- What the tables of a book tell of the room of a group.
-use Rattle.std.proofs.Common.{◌≡◌, ℕ, zero, suc, ◌+◌, ◌-◌, ◌*◌, ◌≤◌, Bool, false, List, Option, Some, None, refl, ◌∙◌, ap, cond, arith, subst}
+use Rattle.std.proofs.Common.{◌≡◌, ℕ, ◌+◌, ◌-◌, ◌≤◌, Option, Some, None, refl, ap, arith, subst}
 use Rattle.std.specs.Prelude.{◌==◌, option_map}
-use Rattle.std.proofs.lemmas.List.Sums.{sum_by-cons}
-use Rattle.fdp_base.specs.declared.config.DriveConfig.{DriveConfig}
-use Rattle.fdp_base.specs.Numbers.{numbers_from}
-use Rattle.fdp_base.specs.Placement.{budget_of}
 use Rattle.fdp_rules.specs.PlainState.{Block, PlainState}
-use Rattle.fdp_rules.specs.Point.{Point}
-use Rattle.fdp_rules.specs.Room.{budget, handles_in_force, lies_in, lost_in}
-use Rattle.fdp_flash.specs.declared.cell.Cell.{Cell}
+use Rattle.fdp_rules.specs.Room.{lies_in}
 use Rattle.fdp_spots.specs.declared.mapped.Mapped.{Mapped}
-use Rattle.fdp_spots.specs.Counting.{as_number}
 use Rattle.fdp_spots.specs.MapTable.{Agrees, MapTable, is_mapped_in, mapped_at}
 use Rattle.fdp_moving_book.specs.Configured.{no_pages}
 use Rattle.fdp_moving_book.specs.declared.tables.Tables.{Tables}
-use Rattle.fdp_moving_book.specs.Book.{BookSeen, point_in, state_in}
+use Rattle.fdp_moving_book.specs.Book.{BookSeen, state_in}
 use Rattle.fdp_moving_book.specs.Held.{IsHeld, IsMapOf}
 
 lies-mapped : (rg : ℕ) (b : Option Block) (m : Option Mapped) → option_map (λ (x : Block). x.rg) b ≡ option_map (λ (x : Mapped). x.rg) m → lies_in rg b ≡ is_mapped_in rg m

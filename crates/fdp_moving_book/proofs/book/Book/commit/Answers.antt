@@ -5,7 +5,6 @@ use Rattle.fdp_base.specs.declared.status.TheConstants.Status as statuses
 use Rattle.fdp_rules.specs.Answer.{bare}
 use Rattle.fdp_rules.specs.History.{fresh}
 use Rattle.fdp_spots.specs.MapTable.{mapped_at, size_in}
-use Rattle.fdp_moving_book.specs.Book.{BookSeen, IsLonger, state_in}
 use Rattle.fdp_moving_book.specs.Configured.{no_pages}
 use Rattle.fdp_moving_book.specs.declared.extent.Extent.{Extent}
 use Rattle.fdp_moving_book.specs.declared.flight.Flight.{Flight}
@@ -13,16 +12,13 @@ use Rattle.fdp_moving_book.specs.declared.tables.Sums.{Sums}
 use Rattle.fdp_moving_book.specs.declared.tables.Tables.{Tables}
 use Rattle.fdp_moving_book.specs.Flown.{with_pages}
 use Rattle.fdp_moving_book.specs.Held.{IsHeld, book_of}
-use Rattle.fdp_moving_book.specs.Steps.{Completes}
 use Rattle.fdp_moving_book.specs.Taking.{CanTake, MayTake}
-use Rattle.fdp_moving_book.specs.Tickets.{IsTicketOf}
-use Rattle.fdp_moving_book.proofs.Ending.{IsCommitting, committing, completed, completes-by, ended-entry}
+use Rattle.fdp_moving_book.proofs.Ending.{IsCommitting, committing, ended-entry}
 use Rattle.fdp_moving_book.proofs.Held.Committed.{held-committed, may-take}
 use Rattle.fdp_locations.proofs.Ended.{host}
 use Rattle.fdp_locations.specs.Taken.{taken_first}
 use Rattle.fdp_owners.specs.Owned.{AreOwners}
 use Rattle.fdp_owners.specs.OwnerTable.{owner_at}
-use Rattle.fdp_pages.specs.PageTables.{PageTables}
 use Rattle.fdp_pointers.specs.Facts.{Page}
 use Rattle.fdp_pointers.specs.Pointers.{Behind, renamed}
 use Rattle.fdp_moving_book.proofs.book.Book.commit.Goals as goal

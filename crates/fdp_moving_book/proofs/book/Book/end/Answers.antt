@@ -1,8 +1,7 @@
-use Rattle.std.proofs.Common.{◌≡◌, ◌∙◌, ap, false, refl, subst, sym, List, Option, Some, [], ◌∷◌, ◌++◌}
+use Rattle.std.proofs.Common.{◌≡◌, ◌∙◌, ap, false, refl, subst, sym, List, Some, [], ◌∷◌, ◌++◌}
 use Rattle.fdp_base.specs.declared.entry.Entry.{Entry}
 use Rattle.fdp_rules.specs.Answer.{bare}
 use Rattle.fdp_rules.specs.History.{fresh}
-use Rattle.fdp_rules.specs.PlainState.{Going}
 use Rattle.fdp_moving_book.specs.Book.{BookSeen, IsLonger, state_in}
 use Rattle.fdp_moving_book.specs.Configured.{no_pages}
 use Rattle.fdp_moving_book.specs.declared.flight.Flight.{Flight}

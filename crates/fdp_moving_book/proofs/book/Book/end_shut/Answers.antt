@@ -1,4 +1,4 @@
-use Rattle.std.proofs.Common.{◌≡◌, [], ◌∷◌, false, subst}
+use Rattle.std.proofs.Common.{false, subst}
 use Rattle.fdp_rules.specs.Answer.{bare}
 use Rattle.fdp_rules.specs.PlainState.{Going}
 use Rattle.fdp_moving_book.specs.Book.{BookSeen, state_in}
@@ -6,7 +6,6 @@ use Rattle.fdp_moving_book.specs.declared.flight.Flight.{Flight}
 use Rattle.fdp_moving_book.specs.Held.{going_of}
 use Rattle.fdp_moving_book.specs.Shutting.{Shuts, ShutsAndEnds}
 use Rattle.fdp_moving_book.specs.Steps.{MayAnswer}
-use Rattle.fdp_moving_book.specs.Tickets.{IsTicketOf}
 use Rattle.fdp_moving_book.proofs.Held.Shut.{shut_entry}
 use Rattle.fdp_moving_book.proofs.Placing.Nexts.{one-going}
 use Rattle.fdp_moving_book.proofs.Shutting.{answer-shut, completes-shut}

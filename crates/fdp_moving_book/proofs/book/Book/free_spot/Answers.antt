@@ -1,4 +1,4 @@
-use Rattle.std.proofs.Common.{◌≡◌, ◌∙◌, ◌<◌, ap, length, sym, subst}
+use Rattle.std.proofs.Common.{◌≡◌, ◌∙◌, ap, sym, subst}
 use Rattle.fdp_moving_book.specs.Book.{BookSeen}
 use Rattle.fdp_moving_book.proofs.Placing.Free.{free-spot}
 use Rattle.fdp_units.specs.DataUnits.{is_free}

@@ -2,7 +2,7 @@ use Rattle.std.proofs.Common.{◌≡◌, ◌∙◌, ◌<◌, ◌++◌, ◌∷◌
 use Rattle.fdp_base.specs.declared.entry.BlockName.{BlockName}
 use Rattle.fdp_base.specs.declared.entry.Entry.{Entry}
 use Rattle.fdp_moving_book.specs.declared.tables.Tables.{Tables}
-use Rattle.fdp_moving_book.specs.Book.{BookSeen, point_in}
+use Rattle.fdp_moving_book.specs.Book.{BookSeen}
 use Rattle.fdp_moving_book.specs.Configured.{no_pages}
 use Rattle.fdp_moving_book.specs.Held.{IsHeld, book_of}
 use Rattle.fdp_moving_book.specs.Logged.{Logged}

@@ -1,13 +1,11 @@
-use Rattle.std.proofs.Common.{◌≡◌, ◌∙◌, ap, sym, subst, Option, Some, None}
-use Rattle.std.specs.Prelude.{option_map}
+use Rattle.std.proofs.Common.{◌≡◌, ◌∙◌, ap, sym, subst, Some, None}
 use Rattle.fdp_base.specs.Spare.{data_spare}
 use Rattle.fdp_owners.specs.declared.owner.Owner.{Owner}
 use Rattle.fdp_moving_book.specs.Book.{BookSeen, state_in}
 use Rattle.fdp_moving_book.specs.Held.{book_of}
 use Rattle.fdp_moving_book.specs.Reading.{StandsAt}
-use Rattle.fdp_moving_book.proofs.Reading.{IsOwnPage, own-page, stands-at}
+use Rattle.fdp_moving_book.proofs.Reading.{own-page, stands-at}
 use Rattle.fdp_rules.specs.History.{fresh}
-use Rattle.fdp_rules.specs.PlainState.{Block}
 use Rattle.fdp_moving_book.proofs.book.Book.page_of.Goals as goal
 
 pub owner-requires : goal.owner-requires

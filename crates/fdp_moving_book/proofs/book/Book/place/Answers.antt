@@ -1,10 +1,7 @@
-use Rattle.std.proofs.Common.{◌≡◌, ◌∙◌, ◌<◌, ◌≤◌, ◌+◌, ℕ, Bool, List, Option, Some, ap, length, refl, slice_set, subst, sym, [], ◌∷◌, ◌++◌}
-use Rattle.std.specs.Prelude.{IfSome}
+use Rattle.std.proofs.Common.{◌≡◌, ◌∙◌, ◌+◌, ℕ, Bool, List, Option, Some, ap, length, refl, slice_set, subst, sym, [], ◌∷◌, ◌++◌}
 use Rattle.std.specs.Vec.{with_item}
-use Rattle.fdp_base.specs.declared.command.Write.{Write}
 use Rattle.fdp_base.specs.declared.entry.Entry.{Entry}
 use Rattle.fdp_base.specs.declared.entry.Entry.TheVariants as entries
-use Rattle.fdp_base.specs.declared.spare.DataSpare.{DataSpare}
 use Rattle.fdp_base.specs.CommandKinds.{write_of}
 use Rattle.fdp_moving_book.specs.declared.flight.Flight.{Flight}
 use Rattle.fdp_moving_book.specs.declared.tables.Tables.{Tables}
@@ -21,11 +18,9 @@ use Rattle.fdp_moving_book.proofs.Placing.Steps.{flight_in-put, places-step, pla
 use Rattle.fdp_locations.specs.Written.{next_spare}
 use Rattle.fdp_owners.specs.declared.owner.Holder.TheVariants as holders
 use Rattle.fdp_owners.specs.declared.owner.Owner.{Owner}
-use Rattle.fdp_pages.specs.PageTables.{PageTables}
 use Rattle.fdp_pages.specs.Steps.{MayPut, PutsPage}
 use Rattle.fdp_rules.specs.History.{fresh}
 use Rattle.fdp_rules.specs.PlainState.{Going}
-use Rattle.fdp_rules.specs.Sites.{is_there}
 use Rattle.fdp_rules.specs.Step.{Follows}
 use Rattle.fdp_moving_book.proofs.book.Book.place.Goals as goal
 

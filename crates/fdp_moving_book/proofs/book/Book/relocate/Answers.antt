@@ -1,6 +1,4 @@
-use Rattle.std.proofs.Common.{◌≡◌, ◌<◌, ◌∙◌, ap, refl, subst, sym, List}
-use Rattle.std.specs.Prelude.{IsTrue}
-use Rattle.fdp_base.specs.declared.config.DriveConfig.{DriveConfig}
+use Rattle.std.proofs.Common.{◌<◌, ◌∙◌, ap, refl, subst, sym, List}
 use Rattle.fdp_base.specs.declared.entry.Entry.{Entry}
 use Rattle.fdp_base.specs.Placement.{geometry_of}
 use Rattle.fdp_moving_book.specs.declared.tables.Tables.{Tables}

@@ -1,4 +1,4 @@
-use Rattle.std.proofs.Common.{◌≡◌, ◌∙◌, ◌<◌, ℕ, List, ap, arith, refl, subst, sym, [], ◌∷◌}
+use Rattle.std.proofs.Common.{◌∙◌, ◌<◌, ℕ, List, arith, refl, subst, sym, [], ◌∷◌}
 use Rattle.fdp_base.specs.declared.entry.Entry.{Entry}
 use Rattle.fdp_base.specs.declared.entry.Spot.{Spot}
 use Rattle.fdp_moving_book.specs.declared.ticket.Ticket.{Ticket}
@@ -11,10 +11,8 @@ use Rattle.fdp_moving_book.specs.Tickets.{IsTicketOf}
 use Rattle.fdp_moving_book.proofs.Held.Shut.{held-shut, shut_entry}
 use Rattle.fdp_moving_book.proofs.Placing.Fresh.{fresh-page}
 use Rattle.fdp_moving_book.proofs.Shutting.{IsWaitingFor, still-going, waiting-for}
-use Rattle.fdp_pages.specs.PageTables.{PageTables}
 use Rattle.fdp_pages.specs.Steps.{MayPut}
 use Rattle.fdp_rules.specs.History.{fresh}
-use Rattle.fdp_rules.specs.PlainState.{Going}
 use Rattle.fdp_rules.specs.Room.{handles_in_force}
 use Rattle.fdp_moving_book.proofs.book.Book.shut.Goals as goal
 

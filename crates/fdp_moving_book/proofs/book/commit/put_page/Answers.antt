@@ -1,7 +1,6 @@
-use Rattle.std.proofs.Common.{◌≡◌, ◌≢◌, ◌∙◌, ap, sym, subst, Option}
+use Rattle.std.proofs.Common.{◌≢◌, ◌∙◌, ap, Option}
 use Rattle.std.specs.Prelude.{IsSome, is_some, option_map}
 use Rattle.fdp_base.specs.declared.entry.Spot.{Spot}
-use Rattle.fdp_moving_book.specs.Taking.{cleared_of}
 use Rattle.fdp_moving_book.proofs.Committing.PutPages.{cleared-other, if-both}
 use Rattle.fdp_spots.specs.MapTable.{mapped_at}
 use Rattle.fdp_owners.specs.declared.owner.Holder.TheVariants.{Block}

@@ -1,7 +1,5 @@
-use Rattle.std.proofs.Common.{◌≡◌, ◌∙◌, ◌<◌, ◌≤◌, ◌+◌, ℕ, List, Option, ap, arith, length, refl, subst, sym, vec_len}
-use Rattle.std.specs.Prelude.{IsTrue, is_some}
-use Rattle.fdp_base.specs.declared.entry.Copied.{Copied}
-use Rattle.fdp_moving_book.specs.declared.tables.Tables.{Tables}
+use Rattle.std.proofs.Common.{◌≡◌, ◌∙◌, ◌<◌, ◌≤◌, List, ap, arith, length, refl, subst, sym, vec_len}
+use Rattle.std.specs.Prelude.{IsTrue}
 use Rattle.fdp_moving_book.proofs.Relocating.Moves.{copies-stay, moved-first, moved-next, names-below}
 use Rattle.fdp_pages.specs.PageTables.{copies_at, is_under_way}
 use Rattle.fdp_passes.specs.GroupPasses.{GroupPasses}

@@ -1,9 +1,8 @@
-use Rattle.std.proofs.Common.{◌≡◌, ◌∙◌, ℕ, List, None, Option, Some, ap, refl, slice_get, subst, sym}
+use Rattle.std.proofs.Common.{◌≡◌, ◌∙◌, List, None, Some, ap, refl, slice_get, subst, sym}
 use Rattle.std.proofs.lemmas.Option.{get_or_from_slice_get}
 use Rattle.fdp_base.specs.declared.entry.Copied.{Copied}
-use Rattle.fdp_base.specs.declared.entry.Spot.{Spot}
 use Rattle.fdp_moving_book.specs.declared.tables.Tables.{Tables}
-use Rattle.fdp_moving_book.specs.Moving.{HasPage, IsMoved}
+use Rattle.fdp_moving_book.specs.Moving.{IsMoved}
 use Rattle.fdp_moving_book.proofs.Relocating.Leads.{copy-moved, copy-passed, page-there}
 use Rattle.fdp_moving_book.proofs.Relocating.Moves.{copy-at, of-copy}
 use Rattle.fdp_owners.specs.declared.owner.Owner.{Owner}

@@ -1,4 +1,4 @@
-use Rattle.std.proofs.Common.{◌≡◌, ◌∙◌, ℕ, List, Option, ap, length, refl, slice_set, subst, sym}
+use Rattle.std.proofs.Common.{◌∙◌, ℕ, Option, ap, refl, slice_set, subst, sym}
 use Rattle.fdp_moving_book.specs.declared.flight.Flight.{Flight}
 use Rattle.fdp_moving_book.specs.Held.{flight_in}
 use Rattle.fdp_moving_book.specs.Moving.{HasPageAt, HasPageIn, IsMovedIn, PutsPageAt}
