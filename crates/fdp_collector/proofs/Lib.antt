@@ -7,3 +7,4 @@ pub mod Using
 pub mod Stepped
 pub mod Steps
 pub mod Stored
+pub mod Live

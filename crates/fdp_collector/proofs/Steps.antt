@@ -8,7 +8,7 @@ use Rattle.fdp_collector.specs.declared.step.Lost.TheVariants as lost
 use Rattle.fdp_collector.specs.declared.step.Step.{Step}
 use Rattle.fdp_collector.specs.declared.step.Step.TheVariants as steps
 use Rattle.fdp_collector.specs.Ready.{IsReady, Relocation, lane_at}
-use Rattle.fdp_collector.specs.Step.{AddsCopy, EndsCopy, EndsInErase, GoesAside, IsCopyStep, IsStarved, IsStep, Rests}
+use Rattle.fdp_collector.specs.Step.{AddsCopy, EndsCopy, EndsInErase, GoesAside, IsCopyStep, IsStarved, IsStep, IsUnread, Rests}
 use Rattle.fdp_collector.specs.Erasing.{state_after}
 use Rattle.fdp_collector.proofs.Kept.{EndsWell, cut-kept, ended-ready, never-some, unit-kept, unit-of-kept, unit-was}
 use Rattle.fdp_collector.proofs.Opening.{open-ready}
@@ -111,9 +111,11 @@ copy-ready s now o classes rg old new step ready h = ends step h.ended where
   ends steps.EraseDue e = absurd e
   ends steps.Starved e = absurd e
   ends (steps.Fault lost.None) e = skipped-ready h.middle now o classes rg h.from (lane_at classes h.owner) h.to.unit h.owner middle copying h.owned refl usable e.0
-  ends (steps.Fault (lost.Aside unit)) e =
-      aside-ready h.middle now o classes rg unit middle (ap (state_at h.middle.units) (e.0 ∙ sym copying.victim) ∙ (middle.victim copying.pass copying.under_way).stands) e.1
+  ends (steps.Fault (lost.Aside unit)) e = absurd e
   ends (steps.Fault (lost.Retired unit)) e = absurd e
+
+unread-ready : (s now : Relocation) (o : OwnerTable) (classes : List Class) (rg : ℕ) (old new : FlashState) (unit : ℕ) → IsReady s o classes rg → IsUnread o classes rg s now old new unit → IsReady now o classes rg
+unread-ready s now o classes rg old new unit ready h = aside-ready s now o classes rg unit ready (ap (state_at s.units) h.unit_is ∙ (emptied-unit s o classes rg h.from.unit ready h.due.0).stands) h.aside
 
 -- ---- no free unit
 
@@ -150,5 +152,5 @@ step-ready o classes rg may_erase s now old new (steps.Erased unit) ready h = er
 step-ready o classes rg may_erase s now old new steps.EraseDue ready h = rests-ready s now o classes rg old new ready h.2
 step-ready o classes rg may_erase s now old new steps.Starved ready h = starved-ready s now o classes rg old new ready h
 step-ready o classes rg may_erase s now old new (steps.Fault lost.None) ready h = copy-ready s now o classes rg old new (steps.Fault lost.None) ready h
-step-ready o classes rg may_erase s now old new (steps.Fault (lost.Aside unit)) ready h = copy-ready s now o classes rg old new (steps.Fault (lost.Aside unit)) ready h
+step-ready o classes rg may_erase s now old new (steps.Fault (lost.Aside unit)) ready h = unread-ready s now o classes rg old new unit ready h
 step-ready o classes rg may_erase s now old new (steps.Fault (lost.Retired unit)) ready h = erased-ready s now o classes rg old new unit wrote.Failed ready h.0 h.2

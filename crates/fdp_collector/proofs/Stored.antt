@@ -7,15 +7,13 @@ use Rattle.fdp_base.specs.declared.config.Geometry.{Geometry}
 use Rattle.fdp_base.specs.declared.entry.Copied.{Copied}
 use Rattle.fdp_base.specs.declared.entry.Spot.{Spot}
 use Rattle.fdp_base.specs.Spare.{data_spare}
-use Rattle.fdp_collector.specs.declared.copying.Copying.{Copying}
-use Rattle.fdp_collector.specs.declared.copying.Copying.TheVariants as copying
 use Rattle.fdp_collector.specs.declared.step.Lost.TheVariants as lost
 use Rattle.fdp_collector.specs.declared.step.Step.{Step}
 use Rattle.fdp_collector.specs.declared.step.Step.TheVariants as steps
 use Rattle.fdp_collector.specs.Copying.{Copies, IsSameBut}
 use Rattle.fdp_collector.specs.Erasing.{state_after}
 use Rattle.fdp_collector.specs.Ready.{AreOfFlash, HasData, IsBlankBehind, IsReady, IsStored, KeepsLive, Relocation, lane_at}
-use Rattle.fdp_collector.specs.Step.{AddsCopy, EndsCopy, EndsInErase, GoesAside, IsCopyStep, IsStarved, IsStep, Rests}
+use Rattle.fdp_collector.specs.Step.{AddsCopy, EndsCopy, EndsInErase, GoesAside, IsCopyStep, IsStarved, IsStep, IsUnread, Rests}
 use Rattle.fdp_collector.proofs.Kept.{changed-here, changed-other, unit-was}
 use Rattle.fdp_collector.proofs.Opening.{open-counts, open-lost, open-unowned}
 use Rattle.fdp_collector.proofs.Readied.{erase-keeps-live, open-cut, target-of}
@@ -47,7 +45,7 @@ data-kept : (g : Geometry) (o : OwnerTable) (old new : List Cell) → KeepsLive 
 data-kept g o old new same held spot x e = let h = held spot x e in (h.0, same spot (ap is_some e) ∙ h.1)
 
 -- a page without an owner changes alone
-other-kept : (g : Geometry) (o : OwnerTable) (to : Spot) (old new : List Cell) → o.unit_pages ≡ g.unit_pages → to.page < g.unit_pages → owner_at o to ≡ None → IsSameBut g to old new → KeepsLive g o old new
+pub other-kept : (g : Geometry) (o : OwnerTable) (to : Spot) (old new : List Cell) → o.unit_pages ≡ g.unit_pages → to.page < g.unit_pages → owner_at o to ≡ None → IsSameBut g to old new → KeepsLive g o old new
 other-kept g o to old new pages within free same spot live = cases (owner_at o spot) refl where
   cases : (x : Option Owner) → owner_at o spot ≡ x → slice_get new (page_number g spot) ≡ slice_get old (page_number g spot)
   cases None e = absurd (no (sym (ap is_some e) ∙ live)) where
@@ -179,19 +177,22 @@ copy-stored s now o classes rg old new step ready flash told stored h = ends ste
   kept : is_lost (state_at h.middle.units h.to.unit) ≡ false
   kept = ap is_lost (opened-unit s.passes h.middle.passes s.units h.middle.units rg h.from.unit lane h.to.unit (target-of s o classes rg lane ready) h.opened.target)
 
-  uses : (passes : GroupPasses) (result : Copying) → UsesPage h.middle.passes passes h.middle.units now.units lane h.to.unit → Copies old new h.from h.to (data_spare h.owner.spare) result → IsStored old.geometry new.cells o now.units
+  uses : (passes : GroupPasses) (result : Wrote) → UsesPage h.middle.passes passes h.middle.units now.units lane h.to.unit → Copies old new h.from h.to (data_spare h.owner.spare) result → IsStored old.geometry new.cells o now.units
   uses passes result used copies = use-stored h.middle passes now.units o lane h.to old.geometry old.cells new.cells pages within free h.opened.page kept used (copies.others told) middle
 
   ends : (step : Step) → EndsCopy o lane h.from h.to h.owner.spare h.middle now old new step → IsStored old.geometry new.cells o now.units
   ends steps.Nothing e = absurd e
-  ends (steps.Copied copy) e = (let added = subst (λ (c : Copied). AddsCopy h.middle now lane c) e.0 e.1 in uses added.passes copying.Done added.used e.2)
+  ends (steps.Copied copy) e = (let added = subst (λ (c : Copied). AddsCopy h.middle now lane c) e.0 e.1 in uses added.passes wrote.Done added.used e.2)
   ends steps.ReadyToMove e = absurd e
   ends (steps.Erased unit) e = absurd e
   ends steps.EraseDue e = absurd e
   ends steps.Starved e = absurd e
-  ends (steps.Fault lost.None) e = uses e.0.passes copying.NotProgrammed e.0.used e.1
-  ends (steps.Fault (lost.Aside unit)) e = subst (λ (cells : List Cell). IsStored old.geometry cells o now.units) (sym (e.2.unfetched refl told)) (aside-stored h.middle now o unit old.geometry old.cells e.1 middle)
+  ends (steps.Fault lost.None) e = uses e.0.passes wrote.Failed e.0.used e.1
+  ends (steps.Fault (lost.Aside unit)) e = absurd e
   ends (steps.Fault (lost.Retired unit)) e = absurd e
+
+unread-stored : (s now : Relocation) (o : OwnerTable) (classes : List Class) (rg : ℕ) (old new : FlashState) (unit : ℕ) → IsTrue old.told → IsStored old.geometry old.cells o s.units → IsUnread o classes rg s now old new unit → IsStored old.geometry new.cells o now.units
+unread-stored s now o classes rg old new unit told stored h = subst (λ (cells : List Cell). IsStored old.geometry cells o now.units) (sym (h.flash.read.cells told)) (aside-stored s now o unit old.geometry old.cells h.aside stored)
 
 -- ---- nothing was called
 
@@ -213,5 +214,5 @@ step-stored o classes rg may_erase s now old new (steps.Erased unit) ready flash
 step-stored o classes rg may_erase s now old new steps.EraseDue ready flash told stored h = rests-stored s now o old new told stored h.2
 step-stored o classes rg may_erase s now old new steps.Starved ready flash told stored h = starved-stored s now o classes rg old new told stored h
 step-stored o classes rg may_erase s now old new (steps.Fault lost.None) ready flash told stored h = copy-stored s now o classes rg old new (steps.Fault lost.None) ready flash told stored h
-step-stored o classes rg may_erase s now old new (steps.Fault (lost.Aside unit)) ready flash told stored h = copy-stored s now o classes rg old new (steps.Fault (lost.Aside unit)) ready flash told stored h
+step-stored o classes rg may_erase s now old new (steps.Fault (lost.Aside unit)) ready flash told stored h = unread-stored s now o classes rg old new unit told stored h
 step-stored o classes rg may_erase s now old new (steps.Fault (lost.Retired unit)) ready flash told stored h = erase-stored s now o classes rg old new unit wrote.Failed ready flash told h.0 h.2 stored

@@ -1,21 +1,21 @@
-ghost use Rattle.std.specs.Prelude.{◌≡◌, ℕ, ◌≤◌, ◌<◌, Bool, IsTrue, List, length};
-ghost use Rattle.fdp_base.specs.Spare.{data_spare};
-ghost use Rattle.fdp_collector.specs.Copying.{Holds};
-ghost use Rattle.fdp_collector.specs.Ready.{AreOfFlash, IsOpen, IsReady, IsStored, KeepsLive, Relocation, lane_at};
-ghost use Rattle.fdp_collector.specs.Step.{EndsCopy, IsStep};
-ghost use Rattle.fdp_flash.specs.Cells.{IsBlankFrom};
+ghost use Rattle.std.specs.Prelude.{◌≡◌, ℕ, ◌≤◌, ◌<◌, Bool, IfSome, IsSome, IsTrue, Some, length};
+ghost use Rattle.fdp_collector.specs.Ready.{AreOfFlash, IsReady, IsStored, KeepsLive, Relocation, lane_at};
+ghost use Rattle.fdp_collector.specs.Step.{AddsCopy, GoesAside, IsStep, SkipsPage};
 ghost use Rattle.fdp_flash.specs.Runs.{Runs};
+ghost use Rattle.fdp_owners.specs.OwnerTable.{owner_at};
 ghost use Rattle.fdp_passes.specs.declared.due.Due.TheVariants as due;
-ghost use Rattle.fdp_passes.specs.Due.{IsDue};
-ghost use Rattle.fdp_passes.specs.GroupPasses.{IsLane};
-ghost use Rattle.fdp_units.specs.UnitTable.{IsGroup};
+ghost use Rattle.fdp_passes.specs.Due.{AreOfOneCut, IsDue};
+ghost use Rattle.fdp_passes.specs.GroupPasses.{IsLane, target_at};
+ghost use Rattle.fdp_passes.specs.Targets.{HasPlace};
+ghost use Rattle.fdp_units.specs.DataUnits.{is_open};
+ghost use Rattle.fdp_units.specs.UnitTable.{IsGroup, IsUnit, state_at};
 
-use crate::copying::{Copying, copy_page};
+use crate::copying::read_page;
 use crate::step::{Lost, Step};
-use fdp_base::{Class, Copied, DataSpare, Spot};
-use fdp_flash::Flash;
+use fdp_base::{Class, Copied, Spot};
+use fdp_flash::{Flash, Wrote};
 use fdp_owners::{Owner, Owners};
-use fdp_passes::{GroupPasses, Lane, go_on, open_page, use_target};
+use fdp_passes::{GroupPasses, Lane, go_on, has_place, open_page, use_target};
 use fdp_units::{UnitState, Units};
 
 /// Where the copy of a page goes.
@@ -27,6 +27,45 @@ fn lane_of_owner(classes: &[Class], owner: &Owner) -> Lane
 {
     let ruh = owner.spare.ruh;
     Lane::of(classes[usize::from(ruh)], ruh)
+}
+
+/// The page of a copy was used, and the pass has one copy more.
+fn add_copy(passes: &mut GroupPasses, units: &mut Units, lane: Lane, copy: Copied)
+    requires lane { IsLane lane }
+    requires unit { IsUnit units.old copy.to.unit }
+    requires open { IsTrue (is_open (state_at units.old copy.to.unit)) }
+    requires pass { IsSome passes.old.pass }
+    requires page { copy.from.page < passes.old.unit_pages }
+    requires order { IfSome passes.old.pass (λ pass. pass.next ≤ copy.from.page) }
+    ensures { AddsCopy (record { passes = passes.old; units = units.old }) (record { passes = passes.new; units = units.new }) lane copy }
+{
+    use_target(passes, units, lane, copy.to.unit);
+    passes.copied(copy);
+}
+
+/// The page of a copy was used for nothing: the pass is given up where the pages left do not suffice. It looks at the pages of the
+/// victim that are left.
+fn skip_page(passes: &mut GroupPasses, units: &mut Units, owners: &Owners, lane: Lane, unit: u32)
+    requires lane { IsLane lane }
+    requires unit { IsUnit units.old unit }
+    requires open { IsTrue (is_open (state_at units.old unit)) }
+    requires target { target_at passes.old lane ≡ Some unit }
+    requires cut { AreOfOneCut passes.old units.old owners.now }
+    requires pass { IfSome passes.old.pass (λ pass. IsUnit units.old pass.victim) }
+    ensures { SkipsPage (record { passes = passes.old; units = units.old }) (record { passes = passes.new; units = units.new }) owners.now lane unit }
+{
+    use_target(passes, units, lane, unit);
+    go_on(passes, units, owners, lane);
+}
+
+/// A victim that could not be read is out of use, and its pass is given up.
+fn set_aside(passes: &mut GroupPasses, units: &mut Units, unit: u32)
+    requires unit { IsUnit units.old unit }
+    requires closed { state_at units.old unit ≡ UnitState.Closed }
+    ensures { GoesAside (record { passes = passes.old; units = units.old }) (record { passes = passes.new; units = units.new }) unit }
+{
+    units.turn(unit, UnitState::Aside);
+    passes.end();
 }
 
 /// Copies the next live page of the victim.
@@ -53,61 +92,59 @@ pub(crate) fn copy_next<F: Flash>(
     match owners.get(from) {
         Some(owner) => {
             let lane = lane_of_owner(classes, &owner);
-            match open_page(passes, units, lane, rg, from.unit) {
-                Some(to) => copy_to(
-                    passes,
-                    units,
-                    owners,
-                    flash,
-                    block,
-                    lane,
-                    from,
-                    to,
-                    &owner.spare,
-                ),
-                None => Step::Starved,
+            if has_place(passes, units, lane, rg) {
+                copy_live(
+                    passes, units, owners, classes, flash, block, rg, from, &owner,
+                )
+            } else {
+                units.wear(rg);
+                passes.end();
+                Step::Starved
             }
         }
         None => unreachable!(),
     }
 }
 
-/// Copies a live page to the page that was found for it.
-fn copy_to<F: Flash>(
+/// Copies a live page for which a page can be had: that is taken once the live one was fetched.
+fn copy_live<F: Flash>(
     passes: &mut GroupPasses,
     units: &mut Units,
     owners: &Owners,
+    classes: &[Class],
     flash: &mut F,
     block: &mut [u8],
-    lane: Lane,
+    rg: u16,
     from: Spot,
-    to: Spot,
-    spare: &DataSpare,
+    owner: &Owner,
 ) -> Step
-    requires open { IsOpen (record { passes = passes.old; units = units.old }) owners.now lane from to }
+    requires group { IsGroup units.old rg }
+    requires ready { IsReady (record { passes = passes.old; units = units.old }) owners.now classes.now rg }
+    requires due { IsDue passes.old units.old owners.now rg (due.Copy from) }
+    requires owned { owner_at owners.now from ≡ Some owner.now }
+    requires place { HasPlace passes.old units.old rg (lane_at classes.now owner.now) }
     requires flash { AreOfFlash units.old (F.state flash.old).geometry }
-    requires held { IsTrue (F.state flash.old).told → (bytes : List ℕ) × Holds (F.state flash.old).geometry (F.state flash.old).cells from (data_spare spare.now) bytes }
-    requires blank { IsTrue (F.state flash.old).told → IsBlankFrom (F.state flash.old).geometry (F.state flash.old).cells to }
+    requires stored { IsTrue (F.state flash.old).told → IsStored (F.state flash.old).geometry (F.state flash.old).cells owners.now units.old }
     requires size { length block.old ≡ (F.state flash.old).geometry.block }
-    ensures step { EndsCopy owners.now lane from to spare.now (record { passes = passes.old; units = units.old }) (record { passes = passes.new; units = units.new }) (F.state flash.old) (F.state flash.new) result }
+    ensures step { (may_erase : Bool) → IsStep owners.now classes.now rg may_erase (record { passes = passes.old; units = units.old }) (record { passes = passes.new; units = units.new }) (F.state flash.old) (F.state flash.new) result }
     ensures run { Runs (F.state flash.old) (F.state flash.new) (λ m image. KeepsLive (F.state flash.old).geometry owners.now (F.state flash.old).cells image) }
     ensures block { length block.new ≡ length block.old }
 {
-    match copy_page(flash, from, to, spare, block) {
-        Copying::Done => {
-            use_target(passes, units, lane, to.unit);
+    let lane = lane_of_owner(classes, owner);
+    let spare = owner.spare.encode();
+    if !read_page(flash, from, &spare, block) {
+        set_aside(passes, units, from.unit);
+        return Step::Fault(Lost::Aside(from.unit));
+    }
+    let to = open_page(passes, units, lane, rg, from.unit);
+    match flash.program(to, &spare, block) {
+        Wrote::Done => {
             let copy = Copied { from, to };
-            passes.copied(copy);
+            add_copy(passes, units, lane, copy);
             Step::Copied(copy)
         }
-        Copying::NotFetched => {
-            units.turn(from.unit, UnitState::Aside);
-            passes.end();
-            Step::Fault(Lost::Aside(from.unit))
-        }
-        Copying::NotProgrammed => {
-            use_target(passes, units, lane, to.unit);
-            go_on(passes, units, owners, lane);
+        Wrote::Failed => {
+            skip_page(passes, units, owners, lane, to.unit);
             Step::Fault(Lost::None)
         }
     }

@@ -1,7 +1,8 @@
-ghost use Rattle.std.specs.Prelude.{◌≡◌, ◌<◌, ℕ, None};
+ghost use Rattle.std.specs.Prelude.{[], ◌∷◌, ◌≡◌, ◌<◌, ℕ, None};
 ghost use Rattle.fdp_base.specs.Geometry.{all_units};
+ghost use Rattle.fdp_calls.specs.Calls.{MakesCalls, erase_at};
 ghost use Rattle.fdp_collector.specs.Erasing.{state_after, worn_after};
-ghost use Rattle.fdp_flash.specs.Answers.{Erases};
+ghost use Rattle.fdp_flash.specs.Answers.{Erases, wrote_failed};
 ghost use Rattle.fdp_flash.specs.Cells.{EraseMayLeave};
 ghost use Rattle.fdp_flash.specs.Runs.{Runs};
 ghost use Rattle.fdp_units.specs.DataUnits.{turned};
@@ -25,6 +26,7 @@ pub fn erase_victim<F: Flash>(
     requires place { unit < all_units (F.state flash.old).geometry }
     ensures run { Runs (F.state flash.old) (F.state flash.new) (λ m image. EraseMayLeave (F.state flash.old).geometry (F.state flash.old).cells unit image) }
     ensures answer { Erases (F.state flash.old) (F.state flash.new) unit result }
+    ensures made { MakesCalls (F.state flash.old) (F.state flash.new) (erase_at unit (wrote_failed result) ∷ []) }
     ensures passes { passes.new ≡ record passes.old { pass = None } }
     ensures unit { Changes units.old units.new unit (turned units.old.unit_pages (state_after result) (unit_at units.old unit)) }
     ensures worn { is_worn_at units.new ≡ worn_after units.old unit result }

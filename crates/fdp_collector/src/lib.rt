@@ -6,6 +6,5 @@ mod copying;
 mod erasing;
 mod step;
 
-pub use copying::{Copying, copy_page};
 pub use erasing::erase_victim;
 pub use step::{Lost, Step, advance};

@@ -14,7 +14,6 @@ use Rattle.fdp_base.specs.Numbers.{with_at}
 use Rattle.fdp_collector.specs.Erasing.{state_after, worn_after}
 use Rattle.fdp_collector.specs.Ready.{IsUnitOf, Relocation, lane_at}
 use Rattle.fdp_collector.specs.Step.{GoesAside, SkipsPage}
-use Rattle.fdp_collector.proofs.Opening.{open-counts}
 use Rattle.fdp_collector.proofs.Readied.{emptied-unit}
 use Rattle.fdp_flash.proofs.Lists.{slice_set-same}
 use Rattle.fdp_flash.specs.declared.answer.Wrote.TheVariants as wrote
@@ -22,7 +21,7 @@ use Rattle.fdp_history.specs.Orderly.{IsOrderly}
 use Rattle.fdp_locations.specs.Located.{AreLed, AreUnitsOf, next_in}
 use Rattle.fdp_locations.specs.Written.{Written, written_after}
 use Rattle.fdp_locations.proofs.Copying.{copy-alike, copy-fresh, copy-nexts, copy-pass}
-use Rattle.fdp_locations.proofs.Others.{ChangesPasses, HasSameHandles, copies-apart, data-unit, ended-fewer, ended-left, group-same, is-group, opened-alike, passes-other, units-given, unreferenced}
+use Rattle.fdp_locations.proofs.Others.{ChangesPasses, HasSameHandles, copies-apart, data-unit, ended-fewer, ended-left, group-same, is-group, passes-other, units-given, unreferenced}
 use Rattle.fdp_locations.proofs.Relocated.{ArePassedBy, led-aside, led-erased, led-retired, led-skipped, led-worn}
 use Rattle.fdp_locations.proofs.Units.{AreLostAlike, changed-next, units-same}
 use Rattle.fdp_owners.specs.declared.owner.Owner.{Owner}
@@ -231,15 +230,10 @@ aside-follows-by : (told : Bool) (c : DriveConfig) (p : Point) (unit : ℕ) → 
 unfolding Follows
 aside-follows-by told c p unit h = h
 
-module _ (c : DriveConfig) (p : Point) (t : PageTables) (rg : ℕ) (from to : Spot) (owner : Owner) (middle : Relocation) (joined : AreJoined t) (units : AreUnitsOf c p.state t) (low : rg < c.groups) (is_due : IsDue (passes_at t rg) t.units t.owners rg (due.Copy from)) (owned : owner_at t.owners from ≡ Some owner) (opened : OpensPage (passes_at t rg) middle.passes t.units middle.units rg from.unit (lane_at t.handles.classes owner) to) where
-  abbrev lane : Lane
-  lane = lane_at t.handles.classes owner
-
-  abbrev was : Relocation
-  was = relocation_at t rg
-
+-- the victim could not be read
+module _ (c : DriveConfig) (p : Point) (t : PageTables) (rg : ℕ) (from : Spot) (joined : AreJoined t) (units : AreUnitsOf c p.state t) (low : rg < c.groups) (is_due : IsDue (passes_at t rg) t.units t.owners rg (due.Copy from)) where
   victim : IsUnitOf t.units rg from.unit Closed
-  victim = emptied-unit was t.owners t.handles.classes rg from.unit (joined.groups rg (is-group c p.state t rg units low)).ready is_due.0
+  victim = emptied-unit (relocation_at t rg) t.owners t.handles.classes rg from.unit (joined.groups rg (is-group c p.state t rg units low)).ready is_due.0
 
   pub aside-follows : (told : Bool) → Follows told c p (entries.Aside (record { unit = from.unit }))
   aside-follows told = aside-follows-by told c p from.unit (record {
@@ -247,16 +241,19 @@ module _ (c : DriveConfig) (p : Point) (t : PageTables) (rg : ℕ) (from to : Sp
     unreferenced = unreferenced c p.state t from.unit units joined.filled (λ e. closed-referenced (sym victim.stands ∙ e));
   })
 
-  module _ (written : Spot → Option Written) (at : Behind Page) (now : PageTables) (orderly : IsOrderly c p) (led : AreLed c p written at t) (owners : now.owners ≡ t.owners) (handles : now.handles ≡ t.handles) (others : ChangesPasses t now rg) where
-    -- the victim could not be read
-    module _ (goes : GoesAside middle (relocation_at now rg) from.unit) where
+  module _ (now : PageTables) (handles : now.handles ≡ t.handles) (goes : GoesAside (relocation_at t rg) (relocation_at now rg) from.unit) where
+    pub aside-units : AreUnitsOf c (next c p (entries.Aside (record { unit = from.unit }))).state now
+    aside-units =
+        units-less c p.state (next c p (entries.Aside (record { unit = from.unit }))).state t now t.units from.unit _ (aside-state c p from.unit)
+        (record { cut = refl; lost = λ k there. refl; worn = refl }) goes.becomes refl goes.worn handles units
+
+    module _ (written : Spot → Option Written) (at : Behind Page) (orderly : IsOrderly c p) (led : AreLed c p written at t) (owners : now.owners ≡ t.owners) (others : ChangesPasses t now rg) where
       given-up : copies_at now rg ≡ []
       given-up = ap (λ (q : GroupPasses). copies_in q) goes.passes
 
       aside-next : (k : ℕ) → next_in now.units k ≡ next_in t.units k
       aside-next k =
-          lost-next middle.units now.units from.unit middle.units.unit_pages _ goes.becomes (ap (λ (b : Bool). if b then middle.units.unit_pages else next_in middle.units from.unit) (and-false (is_free (state_at middle.units from.unit)))) k
-          ∙ (open-counts was middle rg from.unit lane to.unit k opened.target).next
+          lost-next t.units now.units from.unit t.units.unit_pages _ goes.becomes (ap (λ (b : Bool). if b then t.units.unit_pages else next_in t.units from.unit) (and-false (is_free (state_at t.units from.unit)))) k
 
       pub aside-led : AreLed c (next c p (entries.Aside (record { unit = from.unit }))) written at now
       aside-led =
@@ -266,12 +263,15 @@ module _ (c : DriveConfig) (p : Point) (t : PageTables) (rg : ℕ) (from to : Sp
           (λ k there ends. let same : group_of c from.unit ≡ k = cc in ap (copies_at now) (sym same ∙ group-same c p.state t from.unit units ∙ victim.group) ∙ given-up) led.passes)
           led
 
-      pub aside-units : AreUnitsOf c (next c p (entries.Aside (record { unit = from.unit }))).state now
-      aside-units =
-          units-less c p.state (next c p (entries.Aside (record { unit = from.unit }))).state t now middle.units from.unit _ (aside-state c p from.unit)
-          (opened-alike was middle rg from.unit lane to.unit opened.target) goes.becomes refl goes.worn handles units
+-- the new page was not programmed
+module _ (c : DriveConfig) (p : Point) (t : PageTables) (rg : ℕ) (from to : Spot) (owner : Owner) (middle : Relocation) (joined : AreJoined t) (units : AreUnitsOf c p.state t) (low : rg < c.groups) (is_due : IsDue (passes_at t rg) t.units t.owners rg (due.Copy from)) (owned : owner_at t.owners from ≡ Some owner) (opened : OpensPage (passes_at t rg) middle.passes t.units middle.units rg from.unit (lane_at t.handles.classes owner) to) where
+  abbrev lane : Lane
+  lane = lane_at t.handles.classes owner
 
-    -- the new page was not programmed
+  abbrev was : Relocation
+  was = relocation_at t rg
+
+  module _ (written : Spot → Option Written) (at : Behind Page) (now : PageTables) (orderly : IsOrderly c p) (led : AreLed c p written at t) (owners : now.owners ≡ t.owners) (handles : now.handles ≡ t.handles) (others : ChangesPasses t now rg) where
     module _ (skips : SkipsPage middle (relocation_at now rg) t.owners lane to.unit) where
       abbrev suffices : Bool
       suffices = nat_le (wanted_in skips.passes t.owners) (room_in skips.passes now.units lane)

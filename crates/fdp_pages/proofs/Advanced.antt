@@ -12,7 +12,7 @@ use Rattle.fdp_collector.specs.declared.step.Step.{Step}
 use Rattle.fdp_collector.specs.declared.step.Step.TheVariants as steps
 use Rattle.fdp_collector.specs.Erasing.{state_after}
 use Rattle.fdp_collector.specs.Ready.{AreLive, IsReady, IsUnitOf, Relocation, lane_at}
-use Rattle.fdp_collector.specs.Step.{AddsCopy, EndsCopy, EndsInErase, GoesAside, IsCopyStep, IsStep, SkipsPage}
+use Rattle.fdp_collector.specs.Step.{AddsCopy, EndsCopy, EndsInErase, GoesAside, IsCopyStep, IsStep, IsUnread, SkipsPage}
 use Rattle.fdp_collector.proofs.Kept.{changed-here, changed-other, group-kept, unit-of-kept, unit-was}
 use Rattle.fdp_collector.proofs.Opening.{open-counts, open-ready, open-unowned}
 use Rattle.fdp_collector.proofs.Readied.{HasPass, IsHaving, IsTaking, emptied-unit, open-pass, target-of}
@@ -294,12 +294,6 @@ module _ (s now : Relocation) (o : OwnerTable) (classes : List Class) (rg : ℕ)
     going-pass true pass e = ap (λ (q : Pass). q.victim) (one (sym e ∙ used-pass skips.passes now.units skips.used)) ∙ has-victim
     going-pass false pass e = absurd (never pass e)
 
-  goes-advanced : (unit : ℕ) → unit ≡ from.unit → GoesAside middle now unit → IsAdvanced s now o classes rg
-  goes-advanced unit same goes =
-      let is : IsUnitOf middle.units rg unit Closed = subst (λ (u : ℕ). IsUnitOf middle.units rg u Closed) (has-victim ∙ sym same) (middle-ready.victim has.pass has.under_way) in
-      let h = aside-advanced middle now o classes rg unit middle-worked middle-fit is goes in
-      record { worked = h.worked; gains = h.gains; fits = h.fits; stays = stays-on s.units middle.units now.units rg middle-stays h.stays }
-
   copy-ends : (step : Step) → EndsCopy o lane from to owner.spare middle now old new step → IsAdvanced s now o classes rg
   copy-ends steps.Nothing e = absurd e
   copy-ends (steps.Copied copy) e = adds-advanced (subst (λ (c : Copied). AddsCopy middle now lane c) e.0 e.1)
@@ -308,11 +302,15 @@ module _ (s now : Relocation) (o : OwnerTable) (classes : List Class) (rg : ℕ)
   copy-ends steps.EraseDue e = absurd e
   copy-ends steps.Starved e = absurd e
   copy-ends (steps.Fault lost.None) e = skips-advanced e.0
-  copy-ends (steps.Fault (lost.Aside unit)) e = goes-advanced unit e.0 e.1
+  copy-ends (steps.Fault (lost.Aside unit)) e = absurd e
   copy-ends (steps.Fault (lost.Retired unit)) e = absurd e
 
 copy-advanced : (s now : Relocation) (o : OwnerTable) (classes : List Class) (rg : ℕ) (old new : FlashState) (step : Step) → IsReady s o classes rg → AreWorked s o classes rg → HasGain s → AreFit s.units → 1 ≤ s.units.unit_pages → IsCopyStep o classes rg s now old new step → IsAdvanced s now o classes rg
 copy-advanced s now o classes rg old new step ready was gained fit some h = copy-ends s now o classes rg old new ready was gained fit some h.from h.to h.owner h.middle h.due h.owned h.opened step h.ended
+
+unread-advanced : (s now : Relocation) (o : OwnerTable) (classes : List Class) (rg : ℕ) (old new : FlashState) (unit : ℕ) → IsReady s o classes rg → AreWorked s o classes rg → AreFit s.units → IsUnread o classes rg s now old new unit → IsAdvanced s now o classes rg
+unread-advanced s now o classes rg old new unit ready was fit h =
+    aside-advanced s now o classes rg unit was fit (subst (λ (u : ℕ). IsUnitOf s.units rg u Closed) (sym h.unit_is) (emptied-unit s o classes rg h.from.unit ready h.due.0)) h.aside
 
 -- ---- a step
 
@@ -324,7 +322,7 @@ step-advanced o classes rg may_erase s now old new (steps.Erased unit) ready was
 step-advanced o classes rg may_erase s now old new steps.EraseDue ready was gained fit some h = rests-advanced s now o classes rg was gained fit h.2.group
 step-advanced o classes rg may_erase s now old new steps.Starved ready was gained fit some h = starved-advanced s now o classes rg _ was fit h.starved
 step-advanced o classes rg may_erase s now old new (steps.Fault lost.None) ready was gained fit some h = copy-advanced s now o classes rg old new (steps.Fault lost.None) ready was gained fit some h
-step-advanced o classes rg may_erase s now old new (steps.Fault (lost.Aside unit)) ready was gained fit some h = copy-advanced s now o classes rg old new (steps.Fault (lost.Aside unit)) ready was gained fit some h
+step-advanced o classes rg may_erase s now old new (steps.Fault (lost.Aside unit)) ready was gained fit some h = unread-advanced s now o classes rg old new unit ready was fit h
 step-advanced o classes rg may_erase s now old new (steps.Fault (lost.Retired unit)) ready was gained fit some h = erased-advanced s now o classes rg old new unit wrote.Failed ready was fit some h.0 h.2
 
 -- ---- the tables

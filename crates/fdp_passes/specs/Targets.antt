@@ -56,6 +56,15 @@ pub record UsesPage (p now : GroupPasses) (t new : UnitTable) (lane : Lane) (uni
   pub worn : is_worn_at new ≡ is_worn_at t
   pub passes : now ≡ (if is_closed (state_at new unit) then with_target lane None p else p)
 
+-- a page can be had for the next copy of a lane, unless neither the lane has a target nor a unit is free
+abbrev pub HasPlace : GroupPasses → UnitTable → ℕ → Lane → Type 0
+HasPlace p t rg lane = target_at p lane ≡ None → HasNoFree t rg → ⊥
+
+-- no page can be had: the lane has no target, and no unit is free
+pub record HasNoPlace (p : GroupPasses) (t : UnitTable) (rg : ℕ) (lane : Lane) : Type 0 where
+  pub none : target_at p lane ≡ None
+  pub free : HasNoFree t rg
+
 -- no page can be had, since no unit is free: the group is worn, and the pass given up
 pub record Starves (p now : GroupPasses) (t new : UnitTable) (rg : ℕ) (lane : Lane) : Type 0 where
   pub none : target_at p lane ≡ None

@@ -15,4 +15,4 @@ pub use group_passes::GroupPasses;
 pub use lane::Lane;
 pub use place::{Place, next_place};
 pub use room::suffices;
-pub use target::{go_on, open_page, use_target};
+pub use target::{go_on, has_place, open_page, use_target};

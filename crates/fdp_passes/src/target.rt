@@ -1,8 +1,8 @@
-ghost use Rattle.std.specs.Prelude.{◌≡◌, ◌≤◌, ◌<◌, IfSome, IsTrue, MatchOption, Some};
+ghost use Rattle.std.specs.Prelude.{◌≡◌, ◌≤◌, ◌<◌, IfSome, IsFalse, IsTrue, Some};
 ghost use Rattle.fdp_passes.specs.Due.{AreOfOneCut};
 ghost use Rattle.fdp_passes.specs.GroupPasses.{IsLane, target_at};
 ghost use Rattle.fdp_passes.specs.Room.{room_in};
-ghost use Rattle.fdp_passes.specs.Targets.{OpensPage, OpensTarget, Starves, UsesPage, goes_on, pass_in, with_pass};
+ghost use Rattle.fdp_passes.specs.Targets.{HasNoPlace, HasPlace, OpensPage, OpensTarget, UsesPage, goes_on, pass_in, with_pass};
 ghost use Rattle.fdp_units.specs.declared.state.UnitState.TheVariants.{Target};
 ghost use Rattle.fdp_units.specs.DataUnits.{is_open};
 ghost use Rattle.fdp_units.specs.UnitTable.{IsGroup, IsUnit, state_at};
@@ -24,60 +24,61 @@ fn enter_pass(passes: &mut GroupPasses, victim: u32)
     }
 }
 
-/// The target of a lane: a lane that has none takes the lowest free unit. None where no unit is free: the group is worn then, and
-/// the pass is given up.
-fn open_target(
-    passes: &mut GroupPasses,
-    units: &mut Units,
-    lane: Lane,
-    rg: u16,
-    victim: u32,
-) -> Option<u32>
+/// Whether a page can be had for the next copy of a lane: in its target, or in a free unit.
+pub fn has_place(passes: &GroupPasses, units: &Units, lane: Lane, rg: u16) -> bool
+    requires group { IsGroup units.now rg }
+    requires lane { IsLane lane }
+    ensures place { IsTrue result → HasPlace passes.now units.now rg lane }
+    ensures none { IsFalse result → HasNoPlace passes.now units.now rg lane }
+{
+    match passes.target(lane) {
+        Some(_) => true,
+        None => units.lowest_free(rg).is_some(),
+    }
+}
+
+/// The target of a lane: a lane that has none takes the lowest free unit.
+fn open_target(passes: &mut GroupPasses, units: &mut Units, lane: Lane, rg: u16, victim: u32) -> u32
     requires group { IsGroup units.old rg }
     requires lane { IsLane lane }
     requires target { IfSome (target_at passes.old lane) (λ unit. IsUnit units.old unit) }
     requires room { 1 ≤ room_in passes.old units.old lane }
-    ensures opened { MatchOption result (Starves passes.old passes.new units.old units.new rg lane) (λ unit. OpensTarget passes.old passes.new units.old units.new rg victim lane unit) }
-    ensures now { IfSome result (λ unit. target_at passes.new lane ≡ Some unit) }
+    requires place { HasPlace passes.old units.old rg lane }
+    ensures opened { OpensTarget passes.old passes.new units.old units.new rg victim lane result }
+    ensures now { target_at passes.new lane ≡ Some result }
 {
     enter_pass(passes, victim);
     match next_place(passes, units, lane, rg) {
-        Place::At(spot) => Some(spot.unit),
+        Place::At(spot) => spot.unit,
         Place::Take(unit) => {
             units.turn(unit, UnitState::Target);
             passes.take_target(lane, unit);
-            Some(unit)
+            unit
         }
-        Place::Worn => {
-            units.wear(rg);
-            passes.end();
-            None
-        }
+        Place::Worn => unreachable!(),
         Place::Full => unreachable!(),
     }
 }
 
-/// The page of the next copy of a lane: the next one of its target, for which the lowest free unit is taken where it has none. None
-/// where no unit is free: the group is worn then, and the pass is given up.
+/// The page of the next copy of a lane: the next one of its target, for which the lowest free unit is taken where it has none.
 pub fn open_page(
     passes: &mut GroupPasses,
     units: &mut Units,
     lane: Lane,
     rg: u16,
     victim: u32,
-) -> Option<Spot>
+) -> Spot
     requires group { IsGroup units.old rg }
     requires lane { IsLane lane }
     requires target { IfSome (target_at passes.old lane) (λ unit. IsUnit units.old unit × (state_at units.old unit ≡ Target)) }
     requires room { 1 ≤ room_in passes.old units.old lane }
-    ensures { MatchOption result (Starves passes.old passes.new units.old units.new rg lane) (λ to. OpensPage passes.old passes.new units.old units.new rg victim lane to) }
+    requires place { HasPlace passes.old units.old rg lane }
+    ensures { OpensPage passes.old passes.new units.old units.new rg victim lane result }
 {
-    match open_target(passes, units, lane, rg, victim) {
-        Some(unit) => Some(Spot {
-            unit,
-            page: units.get(unit).next,
-        }),
-        None => None,
+    let unit = open_target(passes, units, lane, rg, victim);
+    Spot {
+        unit,
+        page: units.get(unit).next,
     }
 }
 

@@ -1,29 +1,23 @@
-use Rattle.std.proofs.Common.{◌≤◌, sym, ◌∙◌, subst}
+use Rattle.std.proofs.Common.{refl, sym, ◌∙◌, subst}
+use Rattle.fdp_collector.specs.Ready.{Relocation}
+use Rattle.fdp_collector.proofs.Readied.{room-some}
 use Rattle.fdp_passes.specs.declared.lane.Lane.{Lane}
-use Rattle.fdp_passes.specs.GroupPasses.{IsLane}
-use Rattle.fdp_passes.specs.Room.{room_in}
-use Rattle.fdp_passes.specs.Targets.{OpensPage}
-use Rattle.fdp_collector.specs.Ready.{IsOpen, Relocation}
-use Rattle.fdp_collector.proofs.Readied.{copy-blank, copy-opened, room-some}
+use Rattle.fdp_passes.specs.Targets.{HasNoPlace}
+use Rattle.fdp_passes.proofs.Opened.{starves}
 use Rattle.fdp_collector.proofs.copy_step.copy_next.Goals as goal
 
-pub open_page-requires-clause-room : goal.open_page-requires-clause-room
-open_page-requires-clause-room g c =
-    subst (λ (lane : Lane). 1 ≤ room_in c.args.passes.now c.args.units.now lane) (sym c.lane_of_owner-lane.ensures.value)
-    (room-some (record { passes = c.args.passes.now; units = c.args.units.now }) c.args.owners.now c.args.classes.now c.args.rg c.args.from c.in-Some.owner c.requires.ready c.requires.due (sym c.get.ensures ∙ c.in-Some.is))
-
-pub copy_to-requires-clause-open : goal.copy_to-requires-clause-open
-copy_to-requires-clause-open g c =
+pub returns-else-has_place-clause-step : goal.returns-else-has_place-clause-step
+returns-else-has_place-clause-step g c may_erase =
     let s : Relocation = record { passes = c.args.passes.now; units = c.args.units.now } in
-    let now : Relocation = record { passes = c.open_page.new.passes; units = c.open_page.new.units } in
-    let is = c.lane_of_owner-lane.ensures.value in
-    subst (λ (lane : Lane). IsOpen now c.args.owners.now lane c.args.from c.in-Some-open_page.to) (sym is)
-    (copy-opened s now c.args.owners.now c.args.classes.now c.args.rg c.args.from c.in-Some-open_page.to c.in-Some.owner c.requires.ready c.requires.due (sym c.get.ensures ∙ c.in-Some.is)
-    (subst (λ (lane : Lane). IsLane lane) is c.lane_of_owner-lane.ensures.lane)
-    (subst (λ (lane : Lane). OpensPage s.passes now.passes s.units now.units c.args.rg c.args.from.unit lane c.in-Some-open_page.to) is c.in-Some-open_page.ensures))
-
-pub copy_to-requires-clause-blank : goal.copy_to-requires-clause-blank
-copy_to-requires-clause-blank g c told =
-    let s : Relocation = record { passes = c.args.passes.now; units = c.args.units.now } in
-    let now : Relocation = record { passes = c.open_page.new.passes; units = c.open_page.new.units } in
-    copy-blank s now c.args.owners.now c.args.classes.now c.args.rg c.args.from c.in-Some-open_page.to c.lane_of_owner-lane.result _ _ c.requires.ready c.in-Some-open_page.ensures (c.requires.stored told).blank
+    let owned = sym c.get.ensures ∙ c.in-Some.is in
+    record {
+      from = c.args.from;
+      owner = c.in-Some.owner;
+      due = c.requires.due;
+      owned = owned;
+      starved = starves c.args.passes.now c.end.new.self c.args.units.now c.wear.new.self c.args.rg _
+          (room-some s c.args.owners.now c.args.classes.now c.args.rg c.args.from c.in-Some.owner c.requires.ready c.requires.due owned)
+          (subst (λ (lane : Lane). HasNoPlace c.args.passes.now c.args.units.now c.args.rg lane) c.lane_of_owner-lane.ensures.value (c.has_place.ensures.none c.if-has_place.false))
+          c.end.ensures c.wear.ensures.units c.wear.ensures.cut c.wear.ensures.worn;
+      flash = record { moment = refl; faults = refl; programs = refl; cells = λ told. refl; calls = λ tells. refl };
+    }
