@@ -1,4 +1,3 @@
-pub mod Verdicts
-pub mod Successes
 pub mod Points
 pub mod PutPages
+pub mod Verdicts

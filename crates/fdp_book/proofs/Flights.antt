@@ -4,4 +4,3 @@ pub mod Going
 pub mod Writes
 pub mod LetGo
 pub mod Starting
-pub mod Endings

@@ -1,8 +1,12 @@
-pub mod At
 pub mod Sums
+pub mod Next
 pub mod Fresh
 pub mod Started
+pub mod Unmade
+pub mod Ended
 pub mod Placed
 pub mod Shut
-pub mod Ended
 pub mod Committed
+pub mod Worked
+pub mod Relocated
+pub mod Moved

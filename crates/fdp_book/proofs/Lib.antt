@@ -1,8 +1,14 @@
-pub mod Held
 pub mod Kept
+pub mod Leading
 pub mod Flights
-pub mod Units
 pub mod Placing
 pub mod Committing
-pub mod Space
+pub mod Held
+pub mod Reading
+pub mod Forgetting
+pub mod Ending
+pub mod Shutting
 pub mod Histories
+pub mod Space
+pub mod Crowding
+pub mod Relocating

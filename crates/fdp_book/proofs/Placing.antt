@@ -1,4 +1,4 @@
-pub mod Pages
-pub mod Points
-pub mod Steps
+pub mod Fresh
+pub mod Free
 pub mod Nexts
+pub mod Steps

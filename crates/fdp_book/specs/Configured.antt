@@ -4,6 +4,8 @@ use Rattle.std.specs.List.{enumerate_from}
 use Rattle.std.specs.Option.{ForSome, option_map_or}
 use Rattle.fdp_base.specs.declared.config.DriveConfig.{DriveConfig}
 use Rattle.fdp_base.specs.declared.config.NamespaceConfig.{NamespaceConfig}
+use Rattle.fdp_base.specs.declared.entry.Spot.{Spot}
+use Rattle.fdp_locations.specs.Written.{Written}
 use Rattle.fdp_rules.specs.History.{made_namespace, namespace_in}
 use Rattle.fdp_rules.specs.PlainState.{Namespace}
 use Rattle.fdp_map.specs.MapTable.{MapTable, mapped_at, size_in}
@@ -36,3 +38,7 @@ pub record IsConfiguredMap (c : DriveConfig) (x : MapTable) : Type 0 where
   pub sizes : (nsid : ℕ) → size_in x nsid ≡ size_of_some (namespaces_from 1 c.namespaces nsid)
   pub most : (nsid : ℕ) → size_in x nsid ≤ 262144
   pub absent : (nsid lba : ℕ) → mapped_at x nsid lba ≡ None
+
+-- pages hold nothing
+abbrev pub no_pages : Spot → Option Written
+no_pages spot = None

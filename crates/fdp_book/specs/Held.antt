@@ -1,43 +1,34 @@
 -- How the tables of a book stand for its history: one record for each pair of a table and what it follows.
-use Rattle.std.specs.Prelude.{◌≡◌, ℕ, ◌+◌, ◌*◌, ◌-◌, ◌^◌, ◌<◌, ◌≤◌, false, IsTrue, IsFalse, List, Option, Some, None, length, slice_get, slice_index, slice_set, option_map, if◌then◌else◌}
+use Rattle.std.specs.Prelude.{◌≡◌, ℕ, ◌+◌, ◌*◌, ◌^◌, ◌≤◌, IsTrue, List, Option, Some, None, length, slice_get, option_and_then, option_map, if◌then◌else◌}
 use Rattle.std.specs.Option.{option_flatten}
-use Rattle.fdp_base.specs.declared.command.Command.{Command}
 use Rattle.fdp_base.specs.declared.config.DriveConfig.{DriveConfig}
 use Rattle.fdp_base.specs.declared.entry.Entry.{Entry}
 use Rattle.fdp_base.specs.declared.entry.Spot.{Spot}
-use Rattle.fdp_base.specs.declared.spare.DataSpare.{DataSpare}
-use Rattle.fdp_base.specs.CommandKinds.{is_write, write_of}
 use Rattle.fdp_base.specs.Config.{IsValidConfig}
-use Rattle.fdp_base.specs.Geometry.{all_pages}
-use Rattle.fdp_rules.specs.History.{Found, point_of}
-use Rattle.fdp_base.specs.Pattern.{payload_block}
-use Rattle.fdp_base.specs.Placement.{classes_of, geometry_of}
-use Rattle.fdp_rules.specs.PlainState.{Block, Going, PageName.written, PlainState}
-use Rattle.fdp_rules.specs.Point.{Point}
-use Rattle.fdp_rules.specs.Room.{size_of}
-use Rattle.fdp_rules.specs.Sites.{is_there}
-use Rattle.fdp_base.specs.Spare.{data_spare}
-use Rattle.fdp_rules.specs.Step.{IsOnTarget, IsPage, IsUnreferenced}
-use Rattle.fdp_rules.specs.Totals.{erases, host_blocks, media_blocks}
-use Rattle.fdp_flash.specs.declared.cell.Cell.{Cell}
-use Rattle.fdp_flash.specs.declared.cell.Cell.TheVariants.{Whole}
-use Rattle.fdp_flash.specs.Cells.{IsBlankFrom, IsBlankUnit}
-use Rattle.fdp_flash.specs.Layout.{page_number}
-use Rattle.fdp_history.specs.Orderly.{IsOrderly}
-use Rattle.fdp_history.specs.Standing.{IsStanding}
-use Rattle.fdp_spaces.specs.SpaceTable.{SpaceTable, namespace_at}
-use Rattle.fdp_handles.specs.HandleTable.{HandleTable, reference_at}
-use Rattle.fdp_map.specs.MapTable.{MapTable, mapped_at, size_in}
-use Rattle.fdp_map.specs.declared.mapped.Mapped.{Mapped}
+use Rattle.fdp_book.specs.declared.flight.Flight.{Flight}
 use Rattle.fdp_book.specs.declared.tables.Setting.{Setting}
 use Rattle.fdp_book.specs.declared.tables.Sums.{Sums}
 use Rattle.fdp_book.specs.declared.tables.Tables.{Tables}
-use Rattle.fdp_book.specs.declared.flight.Flight.{Flight}
 use Rattle.fdp_book.specs.Book.{BookSeen}
+use Rattle.fdp_book.specs.Configured.{no_pages}
 use Rattle.fdp_book.specs.Logged.{Logged}
-use Rattle.fdp_book.specs.Pages.{cells_of}
-use Rattle.fdp_book.specs.UsedOnce.{is_used}
-use Rattle.fdp_base.specs.declared.command.Write.{Write}
+use Rattle.fdp_history.specs.Orderly.{IsOrderly}
+use Rattle.fdp_history.specs.Standing.{IsStanding}
+use Rattle.fdp_locations.specs.Located.{AreLed, AreUnitsOf, LeadsTo}
+use Rattle.fdp_locations.specs.Written.{Written, written_by}
+use Rattle.fdp_map.specs.declared.mapped.Mapped.{Mapped}
+use Rattle.fdp_map.specs.MapTable.{MapTable, mapped_at, size_in}
+use Rattle.fdp_pages.specs.PageTables.{PageTables}
+use Rattle.fdp_pointers.specs.Facts.{Page}
+use Rattle.fdp_pointers.specs.Pointers.{Behind, Pointer, Pointer.of_block, Pointer.of_flight}
+use Rattle.fdp_rules.specs.History.{Found, point_of}
+use Rattle.fdp_rules.specs.PlainState.{Block, Going, PlainState}
+use Rattle.fdp_rules.specs.Point.{Point}
+use Rattle.fdp_rules.specs.Room.{size_of}
+use Rattle.fdp_rules.specs.Sites.{is_there}
+use Rattle.fdp_rules.specs.Step.{IsOnTarget}
+use Rattle.fdp_rules.specs.Totals.{erases, host_blocks, media_blocks}
+use Rattle.fdp_spaces.specs.SpaceTable.{SpaceTable, namespace_at}
 
 -- the configuration in force
 pub record IsSettingOf (s : PlainState) (x : Setting) : Type 0 where
@@ -45,64 +36,29 @@ pub record IsSettingOf (s : PlainState) (x : Setting) : Type 0 where
   pub index : s.index ≡ x.index
   pub generation : s.generation ≡ x.generation
 
--- the sums with those that were found, and their bounds; nothing was erased yet
+-- the sums with those that were found, and their bounds
 pub record AreSumsOf (found : Found) (es : List Entry) (x : Sums) : Type 0 where
   pub host_blocks_are : found.totals.host_blocks + host_blocks es ≡ x.host_blocks
   pub media_blocks_are : found.totals.media_blocks + media_blocks es ≡ x.media_blocks
-  pub erases_are : found.totals.erases ≡ x.erases
-  pub no_erases : erases es ≡ 0
+  pub erases_are : found.totals.erases + erases es ≡ x.erases
   pub few_host_blocks : x.host_blocks ≤ 2 ^ 62 + 64 * length es
   pub few_media_blocks : x.media_blocks ≤ 2 ^ 62 + length es
-
--- no unit is out of use, and no group is worn
-pub record HasAllUnits (s : PlainState) : Type 0 where
-  pub kept : (unit : ℕ) → s.is_lost unit ≡ false
-  pub unworn : (rg : ℕ) → s.is_worn rg ≡ false
+  pub few_erases : x.erases ≤ 2 ^ 62 + length es
 
 -- the namespaces
 pub record AreSpacesOf (c : DriveConfig) (s : PlainState) (x : SpaceTable) : Type 0 where
   pub groups : c.groups ≡ x.groups
   pub namespaces : (nsid : ℕ) → s.namespaces nsid ≡ namespace_at x nsid
 
--- what the handles reference, and the classes that are in force
-pub record AreHandlesOf (c : DriveConfig) (s : PlainState) (x : HandleTable) : Type 0 where
-  pub unit_pages : c.unit_pages ≡ x.unit_pages
-  pub groups : c.groups ≡ x.groups
-  pub classes : classes_of c s.enabled s.index ≡ x.classes
-  pub references : (rg ruh : ℕ) → s.references rg ruh ≡ reference_at x rg ruh
-
--- the spare bytes of the page of a block
-abbrev pub spare_of : Mapped → ℕ → ℕ → DataSpare
-spare_of m nsid lba = record { ruh = m.ruh; rg = m.rg; generation = m.generation; ticket = m.ticket; nsid = nsid; index = m.index; lba = lba }
-
--- a block stands at its place: its page's site; the page is whole, with the spare bytes and the bytes of the block
-pub record IsPlaceOf (c : DriveConfig) (p : Point) (cells : List Cell) (nsid lba : ℕ) (b : Block) (m : Mapped) : Type 0 where
-  pub group : b.rg ≡ m.rg
-  pub page : b.page ≡ written m.ticket m.index
-  pub site : p.trail.site b.page ≡ Some m.spot
-  pub spot : IsPage c m.spot
-  pub whole : slice_get cells (page_number (geometry_of c) m.spot) ≡ Some (Whole (data_spare (spare_of m nsid lba)) b.bytes)
-
--- a block has its place, an absent one none
-abbrev pub IsMappedAs : DriveConfig → Point → List Cell → ℕ → ℕ → Option Block → Option Mapped → Type 0
-IsMappedAs c p cells nsid lba None None = Unit {0}
-IsMappedAs c p cells nsid lba (Some b) (Some m) = IsPlaceOf c p cells nsid lba b m
-IsMappedAs c p cells nsid lba None (Some m) = ⊥
-IsMappedAs c p cells nsid lba (Some b) None = ⊥
-
--- where blocks stand; namespaces have at most 262,144 blocks
-pub record IsMapOf (c : DriveConfig) (p : Point) (cells : List Cell) (x : MapTable) : Type 0 where
-  pub sizes : (nsid : ℕ) → size_of p.state nsid ≡ size_in x nsid
+-- the map has a place for each block of each namespace, and tells the group of each block; namespaces have at most 262,144 blocks
+pub record IsMapOf (s : PlainState) (x : MapTable) : Type 0 where
+  pub sizes : (nsid : ℕ) → size_of s nsid ≡ size_in x nsid
   pub most : (nsid : ℕ) → size_in x nsid ≤ 262144
-  pub blocks : (nsid lba : ℕ) → IsMappedAs c p cells nsid lba (p.state.blocks nsid lba) (mapped_at x nsid lba)
+  pub groups : (nsid lba : ℕ) → option_map (λ (b : Block). b.rg) (s.blocks nsid lba) ≡ option_map (λ (m : Mapped). m.rg) (mapped_at x nsid lba)
 
 -- the flight in a queue
 abbrev pub flight_in : List (Option Flight) → ℕ → Option Flight
 flight_in flights queue = option_flatten (slice_get flights queue)
-
--- the flights after the end of a command: of a write, none is in its queue
-abbrev pub flights_after : Command → List (Option Flight) → ℕ → List (Option Flight)
-flights_after command flights queue = if is_write command then slice_set flights queue None else flights
 
 -- a flight as a going write
 abbrev pub going_of : Flight → Going
@@ -118,66 +74,59 @@ going_of f = record {
   placed = length f.pages.items;
 }
 
--- the spare bytes of a page of a going write
-abbrev pub spare_at : PlainState → Flight → Write → ℕ → DataSpare
-spare_at s f w index = record { ruh = f.ruh; rg = f.rg; generation = s.generation; ticket = f.ticket; nsid = w.nsid; index = index; lba = w.slba + index }
-
--- a page of a going write was placed: it is its site and, while its namespace is there, it is whole, with its block
-pub record IsPlacedPage (c : DriveConfig) (p : Point) (cells : List Cell) (f : Flight) (index : ℕ) (spot : Spot) : Type 0 where
-  pub site : p.trail.site (written f.ticket index) ≡ Some spot
-  pub page : IsPage c spot
-  pub whole : (w : Write) → write_of f.room.command ≡ Some w → IsTrue (is_there p.state (going_of f)) →
-      slice_get cells (page_number (geometry_of c) spot) ≡ Some (Whole (data_spare (spare_at p.state f w index)) (payload_block c.block w.payload index))
-
--- a going write: its pages; while its namespace is there, it goes where it was started for
-pub record IsFlightOf (c : DriveConfig) (p : Point) (cells : List Cell) (f : Flight) : Type 0 where
-  pub pages : (index : ℕ) (spot : Spot) → slice_get f.pages.items index ≡ Some spot → IsPlacedPage c p cells f index spot
-  pub target : IsTrue (is_there p.state (going_of f)) → IsOnTarget c p.state (going_of f)
-
--- the going writes, by queue
-pub record AreFlightsOf (c : DriveConfig) (p : Point) (cells : List Cell) (flights : List (Option Flight)) : Type 0 where
+-- the going writes, by queue; while its namespace is there, each goes where it was started for
+pub record AreFlightsOf (c : DriveConfig) (s : PlainState) (flights : List (Option Flight)) : Type 0 where
   pub rows : length flights ≡ c.queues + 1
-  pub going : (queue : ℕ) → p.state.going queue ≡ option_map going_of (flight_in flights queue)
-  pub flown : (queue : ℕ) (f : Flight) → flight_in flights queue ≡ Some f → IsFlightOf c p cells f
+  pub going : (queue : ℕ) → s.going queue ≡ option_map going_of (flight_in flights queue)
+  pub target : (queue : ℕ) (f : Flight) → flight_in flights queue ≡ Some f → IsTrue (is_there s (going_of f)) → IsOnTarget c s (going_of f)
 
--- a unit that was not used: no Placed entry names it, no handle references it, and it is blank
-pub record IsUnused (c : DriveConfig) (es : List Entry) (s : PlainState) (cells : List Cell) (unit : ℕ) : Type 0 where
-  pub unnamed : IsFalse (is_used es unit)
-  pub unreferenced : IsUnreferenced s unit
-  pub blank : IsBlankUnit (geometry_of c) cells unit
+-- page `index` of a flight, while its namespace is there
+abbrev pub page_in : PlainState → ℕ → Flight → Option Spot
+page_in s index f = if is_there s (going_of f) then slice_get f.pages.items index else None
 
--- the units of each group are used in their order, and are blank behind what was written
-pub record AreUnitsOf (c : DriveConfig) (es : List Entry) (s : PlainState) (cells : List Cell) (used : List ℕ) : Type 0 where
-  pub pages : length cells ≡ all_pages (geometry_of c)
-  pub groups : length used ≡ c.groups
-  pub most : (rg : ℕ) → rg < c.groups → slice_index used rg ≤ c.units
-  pub used_are : (rg i : ℕ) → rg < c.groups → i < slice_index used rg → IsTrue (is_used es (rg * c.units + i))
-  pub unused_are : (rg i : ℕ) → rg < c.groups → slice_index used rg ≤ i → i < c.units → IsUnused c es s cells (rg * c.units + i)
-  pub blank : (rg ruh unit : ℕ) → (s.references rg ruh).unit ≡ Some unit → IsBlankFrom (geometry_of c) cells (record { unit = unit; page = c.unit_pages - (s.references rg ruh).left })
+-- where the pointers lead by the map and the flights
+abbrev pub lead_in : PlainState → MapTable → List (Option Flight) → Pointer → Option Spot
+lead_in s map flights (of_block nsid lba) = option_map (λ (m : Mapped). m.spot) (mapped_at map nsid lba)
+lead_in s map flights (of_flight queue index) = option_and_then (page_in s index) (flight_in flights queue)
 
--- the tables stand for what stands at a point, after these entries, and for these cells
-pub record IsHeldAt (c : DriveConfig) (found : Found) (es : List Entry) (p : Point) (cells : List Cell) (t : Tables) : Type 0 where
+-- the pages stand for a point, and the pointers lead where the map and the flights say
+pub record ArePagesOf (c : DriveConfig) (p : Point) (written : Spot → Option Written) (map : MapTable) (flights : List (Option Flight)) (t : PageTables) : Type 0 where
+  pub at : Behind Page
+  pub led : AreLed c p written at t
+  pub leads : LeadsTo (lead_in p.state map flights) at
+
+-- the tables stand for what stands at a point, after these entries, by which pages hold this
+pub record IsHeldAt (c : DriveConfig) (found : Found) (es : List Entry) (p : Point) (written : Spot → Option Written) (t : Tables) : Type 0 where
   pub config : IsValidConfig c
   pub orderly : IsOrderly c p
   pub standing : IsStanding c p
   pub setting_is : IsSettingOf p.state t.setting
   pub sums_are : AreSumsOf found es t.sums
-  pub all_units : HasAllUnits p.state
   pub spaces_are : AreSpacesOf c p.state t.spaces
-  pub handles_are : AreHandlesOf c p.state t.handles
-  pub map_is : IsMapOf c p cells t.map
-  pub flights_are : AreFlightsOf c p cells t.flights.items
-  pub units_are : AreUnitsOf c es p.state cells t.used.items
+  pub map_is : IsMapOf p.state t.map
+  pub flights_are : AreFlightsOf c p.state t.flights.items
+  pub units_are : AreUnitsOf c p.state t.pages
+  pub pages_are : ArePagesOf c p written t.map t.flights.items t.pages
 
 -- the tables of a book stand for its history, which began with what was found
-abbrev pub IsHeld : DriveConfig → Found → List Entry → Tables → Type 0
-IsHeld c found es t = IsHeldAt c found es (point_of c found es) (cells_of c found es) t
+abbrev pub IsHeld : DriveConfig → Found → (Spot → Option Written) → List Entry → Tables → Type 0
+IsHeld c found first es t = IsHeldAt c found es (point_of c found es) (written_by c found first es) t
 
 -- what is seen of a book, by its parts
 abbrev pub book_of : DriveConfig → Found → Logged → Tables → BookSeen
-book_of c found log t = record { config = c; found = found; entries = log.entries; spare = log.spare; spent = log.spent; used = t.used.items }
+book_of c found log t = record {
+  config = c;
+  found = found;
+  entries = log.entries;
+  spare = log.spare;
+  spent = log.spent;
+  room = log.room;
+  may_move = log.may_move;
+  pages = t.pages;
+}
 
 -- the parts of a book stand for its history: its tables do, and its log goes on from the position that was found
 pub record IsBook (c : DriveConfig) (found : Found) (log : Logged) (t : Tables) : Type 0 where
-  pub held : IsHeld c found log.entries t
+  pub held : IsHeld c found no_pages log.entries t
   pub before_is : log.before ≡ found.totals.position
+  pub names_are : log.names ≡ c.unit_pages

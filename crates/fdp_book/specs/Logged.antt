@@ -1,5 +1,7 @@
 -- What contracts see of the log.
-use Rattle.std.specs.Prelude.{◌≡◌, ℕ, ◌+◌, ◌^◌, ◌≤◌, List, ◌++◌, length}
+use Rattle.std.specs.Prelude.{◌≡◌, ℕ, ◌+◌, ◌*◌, ◌^◌, ◌≤◌, All, Bool, List, [], ◌++◌, Vec, if◌then◌else◌, length, vec_capacity, vec_len}
+use Rattle.std.specs.declared.alloc.Global.{Global}
+use Rattle.fdp_base.specs.declared.entry.BlockName.{BlockName}
 use Rattle.fdp_base.specs.declared.entry.Entry.{Entry}
 
 pub record Logged : Type 0 where
@@ -10,11 +12,35 @@ pub record Logged : Type 0 where
   pub spare : ℕ
   -- the steps that were made
   pub spent : ℕ
+  -- how many entries the step under way may still add, and whether one of them may be that of a move
+  pub room : ℕ
+  pub may_move : Bool
+  -- the most blocks of a move
+  pub names : ℕ
 
--- one step added these entries; they are not too many
+-- these entries were added; they are not too many
 pub record IsLogged (old new : Logged) (es : List Entry) : Type 0 where
   pub entries_are : new.entries ≡ old.entries ++ es
   pub before_is : new.before ≡ old.before
-  pub spare_is : new.spare + 1 ≡ old.spare
-  pub spent_is : new.spent ≡ old.spent + 1
-  pub few : length new.entries ≤ 2 ^ 31
+  pub spare_is : new.spare ≡ old.spare
+  pub spent_is : new.spent ≡ old.spent
+  pub room_is : new.room + length es ≡ old.room
+  pub move_is : new.may_move ≡ old.may_move
+  pub names_are : new.names ≡ old.names
+  pub few : length new.entries ≤ 2 ^ 39
+
+-- there is room for the entries of the steps to come, and of the step under way
+pub record HasRoom (entries : Vec Entry Global) (before spare spent room : ℕ) : Type 0 where
+  pub fits : vec_len entries + room + 300 * spare ≤ vec_capacity entries
+  pub steps : spent + spare ≤ 2 ^ 30
+  pub few : vec_len entries + room ≤ 300 * spent
+  pub begins : before ≤ 2 ^ 62
+
+-- empty lists, each with room for so many names
+abbrev pub AreLists : List (Vec BlockName Global) → ℕ → Type 0
+AreLists lists names = All (λ (list : Vec BlockName Global). (list.items ≡ []) × (names ≤ vec_capacity list)) lists
+
+-- there is one for each step to come, and for the step under way as long as it may move
+pub record HasLists (lists : List (Vec BlockName Global)) (spare : ℕ) (may_move : Bool) (names : ℕ) : Type 0 where
+  pub number : spare + (if may_move then 1 else 0) ≤ length lists
+  pub each : AreLists lists names

@@ -14,6 +14,8 @@ use Rattle.fdp_rules.specs.Room.{roomiest}
 use Rattle.fdp_rules.specs.Sites.{is_there}
 use Rattle.fdp_rules.specs.Step.{Follows, IsQueue, MaySucceed, exceeds_budget, goes_to}
 use Rattle.fdp_rules.specs.Target.{Target}
+use Rattle.fdp_owners.specs.declared.owner.Owner.{Owner}
+use Rattle.fdp_pages.specs.Steps.{PutsPage}
 use Rattle.fdp_book.specs.declared.ticket.Done.{Done}
 use Rattle.fdp_book.specs.declared.ticket.Ticket.{Ticket}
 use Rattle.fdp_book.specs.Book.{BookSeen, IsLonger, point_in, position_in, state_in}
@@ -67,6 +69,8 @@ pub record IsFlying (b : BookSeen) (ticket : Ticket) : Type 0 where
 -- a step places the next page of a going write; whether that was the last
 pub record Places (old new : BookSeen) (ticket : Ticket) (g : Going) (spot : Spot) (last : Bool) : Type 0 where
   pub step : IsLonger old new (entries.Placed (record { ticket = ticket.position; index = g.placed; unit = spot.unit; page = spot.page }) ∷ [])
+  pub owner : Owner
+  pub puts : PutsPage old.pages new.pages g.rg g.ruh spot owner
   pub going : IsTicketOf (state_in new) ticket (one_more_placed g)
   pub last_is : last ≡ (g.placed + 1 == blocks_written g.command)
 

@@ -1,22 +1,22 @@
 -- Tickets of going writes, and where their next pages go.
-use Rattle.std.specs.Prelude.{◌≡◌, ℕ, ◌+◌, ◌*◌, ◌-◌, Bool, IsFalse, Some, None, slice_index, option_map}
-use Rattle.std.specs.Option.{option_map_or}
+use Rattle.std.specs.Prelude.{◌≡◌, ℕ, ◌≤◌, ◌<◌, Bool, IsFalse, IsTrue, Some, None, option_map}
+use Rattle.fdp_base.specs.declared.command.Write.{Write}
 use Rattle.fdp_base.specs.declared.entry.Entry.TheVariants as entries
 use Rattle.fdp_base.specs.declared.entry.Spot.{Spot}
-use Rattle.fdp_base.specs.CommandKinds.{write_of}
-use Rattle.fdp_base.specs.Placement.{geometry_of}
-use Rattle.fdp_rules.specs.PlainState.{Going, PlainState}
-use Rattle.fdp_rules.specs.Sites.{is_there}
+use Rattle.fdp_base.specs.CommandKinds.{blocks_written, write_of}
 use Rattle.fdp_base.specs.Spare.{data_spare}
-use Rattle.fdp_rules.specs.Step.{Follows}
-use Rattle.fdp_flash.specs.Cells.{IsBlankFrom}
-use Rattle.fdp_book.specs.declared.ticket.Ticket.{Ticket}
 use Rattle.fdp_book.specs.declared.next_page.NextPage.{NextPage}
 use Rattle.fdp_book.specs.declared.next_page.NextPage.TheVariants as next
+use Rattle.fdp_book.specs.declared.ticket.Ticket.{Ticket}
 use Rattle.fdp_book.specs.Book.{BookSeen, point_in, state_in}
-use Rattle.fdp_book.specs.Pages.{cells_of, next_spare}
-use Rattle.fdp_book.specs.UsedOnce.{WantsUnit, is_used}
-use Rattle.fdp_base.specs.declared.command.Write.{Write}
+use Rattle.fdp_locations.specs.Located.{next_in}
+use Rattle.fdp_locations.specs.Written.{next_spare}
+use Rattle.fdp_pages.specs.Steps.{MayPut}
+use Rattle.fdp_rules.specs.PlainState.{Going, PlainState}
+use Rattle.fdp_rules.specs.Sites.{is_there}
+use Rattle.fdp_rules.specs.Step.{Follows}
+use Rattle.fdp_units.specs.DataUnits.{is_free, is_lost}
+use Rattle.fdp_units.specs.UnitTable.{IsLowestFree, IsUnit, count_in, state_at}
 
 -- the ticket is that of the write that is going in its queue
 pub record IsTicketOf (s : PlainState) (ticket : Ticket) (g : Going) : Type 0 where
@@ -24,25 +24,32 @@ pub record IsTicketOf (s : PlainState) (ticket : Ticket) (g : Going) : Type 0 wh
   pub number_is : g.number ≡ ticket.number
   pub position_is : g.ticket ≡ ticket.position
 
--- the first unit of a group that was not used
-abbrev pub unused_unit : BookSeen → ℕ → ℕ
-unused_unit b rg = rg * b.config.units + slice_index b.used rg
+-- a handle that has no unit takes the free unit with the lowest number, where three at least are free
+pub record TakesUnit (b : BookSeen) (rg unit : ℕ) : Type 0 where
+  pub lowest : IsLowestFree b.pages.units rg unit
+  pub three : 3 ≤ count_in b.pages.units rg is_free
 
--- where the next page of a handle goes: on in its unit, or to the start of the first unit that was not used
-abbrev pub next_spot : BookSeen → ℕ → ℕ → Spot
-next_spot b rg ruh =
-    option_map_or (λ (unit : ℕ). record { unit = unit; page = b.config.unit_pages - ((state_in b).references rg ruh).left }) ((state_in b).references rg ruh).unit (record { unit = unused_unit b rg; page = 0 })
-
--- the next page of a going write may be placed here: it is a legal step; it and the pages behind it in the unit are blank, by
--- the history; a unit that the handle did not have was not used
+-- the next page of a going write may be placed here: it is a legal step; it is the page that its handle uses next, and that of
+-- its unit, which is in use; a unit that the handle did not have is one that it may take
 pub record IsNextSpot (b : BookSeen) (ticket : Ticket) (g : Going) (spot : Spot) : Type 0 where
-  pub spot_is : spot ≡ next_spot b g.rg g.ruh
   pub follows : (told : Bool) → Follows told b.config (point_in b) (entries.Placed (record { ticket = ticket.position; index = g.placed; unit = spot.unit; page = spot.page }))
-  pub blank : IsBlankFrom (geometry_of b.config) (cells_of b.config b.found b.entries) spot
-  pub unused : ((state_in b).references g.rg g.ruh).unit ≡ None → IsFalse (is_used b.entries spot.unit)
+  pub there : IsTrue (is_there (state_in b) g)
+  pub may : MayPut b.pages g.rg g.ruh spot
+  pub fresh : spot.page ≡ next_in b.pages.units spot.unit
+  pub is_unit : IsUnit b.pages.units spot.unit
+  pub kept : IsFalse (is_lost (state_at b.pages.units spot.unit))
+  pub taken : ((state_in b).references g.rg g.ruh).unit ≡ None → TakesUnit b g.rg spot.unit
+
+-- the next page of a going write has no place: its namespace is there, its handle has no unit in its group, and fewer than three
+-- units of that are free
+pub record WantsUnit (b : BookSeen) (g : Going) : Type 0 where
+  pub there : IsTrue (is_there (state_in b) g)
+  pub asked : g.placed < blocks_written g.command
+  pub none : ((state_in b).references g.rg g.ruh).unit ≡ None
+  pub few : count_in b.pages.units g.rg is_free < 3
 
 -- what a going write comes to next, with its cause: its namespace is gone; it wants a unit; or this is its next page
 abbrev pub ComesTo : BookSeen → Ticket → Going → NextPage → Type 0
 ComesTo b ticket g next.Gone = IsFalse (is_there (state_in b) g)
-ComesTo b ticket g next.WantsUnit = WantsUnit b.config b.entries (state_in b) g
+ComesTo b ticket g next.WantsUnit = WantsUnit b g
 ComesTo b ticket g (next.At spot index spare) = IsNextSpot b ticket g spot × (index ≡ g.placed) × (option_map (λ (w : Write). data_spare (next_spare (state_in b) g w)) (write_of g.command) ≡ Some spare)

@@ -1,21 +1,26 @@
-ghost use Rattle.std.specs.Prelude.{◌≡◌, ◌+◌, ◌*◌, ◌^◌, ◌≤◌, length, OnErr, OnOk};
+ghost use Rattle.std.specs.Prelude.{◌≡◌, ◌==◌, ◌+◌, ◌*◌, ◌^◌, ◌≤◌, IsTrue, false, length, true, ◌-◌, ◌<◌, OnErr, OnOk};
 ghost use Rattle.fdp_base.specs.Config.{IsValidConfig};
 ghost use Rattle.fdp_rules.specs.History.{totals_of};
 
-use crate::log::Log;
+use crate::log::{Log, MOST_STEP_ENTRIES};
 use crate::tables::Tables;
 use fdp_base::{DriveConfig, Entry, Totals};
+use fdp_pages::Pages;
 use std::alloc::AllocError;
 use std::marker::Model;
 
 mod commit;
 mod complete;
 mod end;
+mod forget;
 mod fresh;
 mod judging;
+mod laws;
 mod lookups;
+mod move_pass;
 mod place;
 mod reading;
+mod relocate;
 mod stage;
 mod start;
 
@@ -54,7 +59,7 @@ impl Book {
     /// The history, oldest entry first.
     pub fn entries(&self) -> &[Entry]
         ensures entries { result.now ≡ self.now.entries }
-        ensures few { length result.now ≤ 2 * self.now.spent }
+        ensures few { length result.now ≤ 300 * self.now.spent }
     {
         self.log.entries()
     }
@@ -84,6 +89,30 @@ impl Book {
         self.log.spent()
     }
 
+    /// A step begins. It may add 300 entries, one of them that of a move.
+    pub fn begin(&mut self)
+        requires { 0 < self.old.spare }
+        ensures { self.new ≡ record self.old { spare = self.old.spare - 1; spent = self.old.spent + 1; room = 300; may_move = true } }
+    {
+        self.log.begin();
+    }
+
+    /// The step under way added nothing: it is as if it had not begun.
+    pub fn cancel(&mut self)
+        requires room { self.old.room ≡ 300 }
+        requires may_move { IsTrue self.old.may_move }
+        ensures { self.new ≡ record self.old { spare = self.old.spare + 1; spent = self.old.spent - 1; room = 0; may_move = false } }
+    {
+        self.log.cancel();
+    }
+
+    /// Whether the step under way has added no entry.
+    pub fn has_added_nothing(&self) -> bool
+        ensures { result ≡ (self.now.room == 300) }
+    {
+        self.log.room() == MOST_STEP_ENTRIES
+    }
+
     /// The position of the first entry of this history.
     pub fn first(&self) -> u64
         ensures { result ≡ self.now.found.totals.position + 1 }
@@ -102,6 +131,13 @@ impl Book {
             media_blocks: sums.media_blocks,
             erases: sums.erases,
         }
+    }
+
+    /// What is kept of the pages of data.
+    pub fn pages(&self) -> &Pages
+        ensures { result.now ≡ self.now.pages }
+    {
+        &self.tables.pages
     }
 
     /// The history, for good.

@@ -1,4 +1,5 @@
-//! The history of a drive with the tables that follow it, without a flash: what a command comes to, step by step.
+//! The history of a drive with the tables that follow it: what a command comes to, step by step, and the steps of relocation, which
+//! alone are given a flash.
 #![tactic(auto)]
 
 mod book;
@@ -10,6 +11,8 @@ mod next_page;
 mod room;
 mod stage;
 mod tables;
+#[cfg(test)]
+mod tests;
 mod ticket;
 
 pub use book::{Book, Page};

@@ -5,7 +5,7 @@ use fdp_base::Spot;
 pub enum NextPage {
     /// Its namespace is not there any more.
     Gone,
-    /// Its handle has no unit in its group, and each unit of that is used.
+    /// Its handle has no unit in its group, and fewer than three units of that are free.
     WantsUnit,
     /// Its next page, which holds its block `index`, goes here, with these spare bytes.
     At {

@@ -1,6 +1,6 @@
 use crate::flight::Flight;
-use fdp_handles::Handles;
 use fdp_map::Map;
+use fdp_pages::Pages;
 use fdp_spaces::Spaces;
 
 /// Whether placement is enabled, the index of its configuration, and how often these two were set.
@@ -26,10 +26,8 @@ pub struct Tables {
     pub setting: Setting,
     pub sums: Sums,
     pub spaces: Spaces,
-    pub handles: Handles,
     pub map: Map,
     /// By queue; row 0 stays empty.
     pub flights: Vec<Option<Flight>>,
-    /// By group, how many of its units were used, the lowest first.
-    pub used: Vec<u32>,
+    pub pages: Pages,
 }

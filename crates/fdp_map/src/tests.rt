@@ -7,11 +7,7 @@ use std::test::Fail;
 fn mapped(rg: u16, page: u32) -> Mapped {
     Mapped {
         spot: Spot { unit: 2, page },
-        ticket: 5,
-        index: 1,
-        generation: 0,
         rg,
-        ruh: 3,
     }
 }
 

@@ -1,1 +1,4 @@
 pub mod Moving
+pub mod Toil
+pub mod Telling
+pub mod Keeping

@@ -11,9 +11,9 @@ use Rattle.fdp_flash.specs.Cells.{IsBlankFrom}
 use Rattle.fdp_locations.specs.Stored.{HoldsWritten}
 use Rattle.fdp_locations.specs.Written.{Written, written_by}
 use Rattle.fdp_locations.proofs.Histories.{written_by-push}
-use Rattle.fdp_moving_book.specs.Book.{BookSeen, point_in, written_in}
-use Rattle.fdp_moving_book.specs.Configured.{no_pages}
-use Rattle.fdp_moving_book.specs.Relocating.{MovesPass}
+use Rattle.fdp_book.specs.Book.{BookSeen, point_in, written_in}
+use Rattle.fdp_book.specs.Configured.{no_pages}
+use Rattle.fdp_book.specs.Relocating.{MovesPass}
 use Rattle.fdp_owners.specs.OwnerTable.{OwnerTable}
 use Rattle.fdp_pages.specs.Steps.{Recounts}
 use Rattle.fdp_rules.specs.History.{Found}
@@ -24,7 +24,7 @@ use Rattle.fdp_units.specs.UnitTable.{Cut, IsUnit, UnitTable}
 
 -- ---- what is held after a move
 
-blank-recounted : (g : Geometry) (cells : List Cell) (t now : UnitTable) (o : OwnerTable) → Recounts t now o → IsBlankBehind g cells t → IsBlankBehind g cells now
+pub blank-recounted : (g : Geometry) (cells : List Cell) (t now : UnitTable) (o : OwnerTable) → Recounts t now o → IsBlankBehind g cells t → IsBlankBehind g cells now
 blank-recounted g cells t now o same blank unit there kept =
     let is = same.kept unit in
     let lies : IsUnit t unit = subst (λ (x : Cut). unit < x.groups * x.group_units) same.cut there in

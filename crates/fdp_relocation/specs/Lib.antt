@@ -1,1 +1,3 @@
 pub mod Collected
+pub mod Toil
+pub mod Entries

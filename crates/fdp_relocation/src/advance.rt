@@ -3,16 +3,15 @@ ghost use Rattle.fdp_base.specs.Placement.{geometry_of};
 ghost use Rattle.fdp_collector.specs.Ready.{KeepsLive};
 ghost use Rattle.fdp_flash.specs.Runs.{Runs};
 ghost use Rattle.fdp_locations.specs.Stored.{HoldsWritten};
-ghost use Rattle.fdp_moving_book.specs.Book.{written_in};
+ghost use Rattle.fdp_book.specs.Book.{written_in};
 ghost use Rattle.fdp_pages.specs.PageTables.{passes_at};
 ghost use Rattle.fdp_passes.specs.declared.due.Due.TheVariants.{Move};
 ghost use Rattle.fdp_passes.specs.Due.{IsDue};
 ghost use Rattle.fdp_relocation.specs.Collected.{Collects};
 
-use fdp_base::Copied;
-use fdp_collector::{Lost, Step};
+use fdp_book::Book;
+use fdp_collector::Step;
 use fdp_flash::Flash;
-use fdp_moving_book::Book;
 
 /// What a step of relocation came to.
 #[derive(Clone, Copy, Debug, PartialEq, Eq)]
@@ -20,15 +19,15 @@ pub enum Advance {
     /// No pass is under way, and none is to begin.
     Nothing,
     /// A live page of the victim was copied.
-    Copied(Copied),
+    Copied,
     /// The blocks of the copies stand at their new pages.
     Moved,
     /// The victim was erased.
-    Erased(u32),
+    Erased,
     /// No unit is free for the next copy: the group is worn, and the pass given up.
     Starved,
     /// A call of the flash failed.
-    Fault(Lost),
+    Fault,
 }
 
 /// The next step of relocation in a group, with the entry that tells of it. It makes at most two calls of the flash and takes no memory.
@@ -47,14 +46,14 @@ pub fn collect<F: Flash>(book: &mut Book, flash: &mut F, block: &mut [u8], rg: u
 {
     match book.relocate(flash, block, rg, true) {
         Step::Nothing => Advance::Nothing,
-        Step::Copied(copy) => Advance::Copied(copy),
+        Step::Copied(_) => Advance::Copied,
         Step::ReadyToMove => {
             book.move_pass(rg);
             Advance::Moved
         }
-        Step::Erased(unit) => Advance::Erased(unit),
+        Step::Erased(_) => Advance::Erased,
         Step::EraseDue => Advance::Nothing,
         Step::Starved => Advance::Starved,
-        Step::Fault(lost) => Advance::Fault(lost),
+        Step::Fault(_) => Advance::Fault,
     }
 }

@@ -1,5 +1,5 @@
 -- What the end of a write that succeeds makes of what stands.
-use Rattle.std.proofs.Common.{◌≡◌, ℕ, ◌+◌, true, List, Option, Some, None, refl, ap}
+use Rattle.std.proofs.Common.{◌≡◌, ℕ, ◌+◌, true, Option, Some, None, refl, ap}
 use Rattle.std.specs.Prelude.{◌==◌, ◌&&◌, option_map, if◌then◌else◌}
 use Rattle.fdp_base.specs.declared.command.Command.{Command}
 use Rattle.fdp_base.specs.declared.command.Command.TheVariants as commands
@@ -15,9 +15,8 @@ use Rattle.fdp_base.specs.Numbers.{is_among, with_at}
 use Rattle.fdp_rules.specs.PlainState.{Block, PlainState}
 use Rattle.fdp_rules.specs.Point.{Point}
 use Rattle.fdp_rules.specs.Sites.{traced_by}
-use Rattle.fdp_flash.specs.declared.cell.Cell.{Cell}
-use Rattle.fdp_book.proofs.Kept.Grown.{IsGrown}
-use Rattle.fdp_book.proofs.Kept.Lasting.{unwritten}
+use Rattle.fdp_book.proofs.Kept.{IsAlike}
+use Rattle.fdp_locations.proofs.Units.{HasSameUnits}
 use Rattle.fdp_base.specs.declared.command.Write.{Write}
 
 -- the blocks with those of a write
@@ -48,29 +47,31 @@ committed-state c s queue number (commands.Create create) moment w e = absurd cc
 committed-state c s queue number (commands.Other o) moment w e = absurd cc
 
 -- what it leaves, and what it changes
-pub record IsCommitted (c : DriveConfig) (p q : Point) (cells : List Cell) (queue : ℕ) (w : Write) : Type 0 where
-  pub grown : IsGrown p q cells cells unwritten
-  pub references : q.state.references ≡ p.state.references
+pub record IsCommitted (c : DriveConfig) (p q : Point) (queue : ℕ) (w : Write) : Type 0 where
+  pub alike : IsAlike p.state q.state
+  pub units : HasSameUnits p.state q.state
   pub going : q.state.going ≡ with_at p.state.going queue None
   pub blocks : q.state.blocks ≡ blocks_with c p.state queue w
   pub trail : q.trail ≡ p.trail
 
-pub committed : (c : DriveConfig) (p : Point) (cells : List Cell) (queue number : ℕ) (command : Command) (moment : ℕ) (w : Write) → write_of command ≡ Some w → IsCommitted c p (next c p (entries.Host (record { queue = queue; number = number; command = command; reply = bare statuses.SUCCESS true; moment = moment }))) cells queue w
+pub committed : (c : DriveConfig) (p : Point) (queue number : ℕ) (command : Command) (moment : ℕ) (w : Write) → write_of command ≡ Some w → IsCommitted c p (next c p (entries.Host (record { queue = queue; number = number; command = command; reply = bare statuses.SUCCESS true; moment = moment }))) queue w
 unfolding next traced_by
-committed c p cells queue number command moment w e =
+committed c p queue number command moment w e =
     let is = committed-state c p.state queue number command moment w e in
     record {
-      grown = record {
+      alike = record {
         enabled = ap (λ (s : PlainState). s.enabled) is;
         index = ap (λ (s : PlainState). s.index) is;
         generation = ap (λ (s : PlainState). s.generation) is;
         namespaces = ap (λ (s : PlainState). s.namespaces) is;
+      };
+      units = record {
+        enabled = ap (λ (s : PlainState). s.enabled) is;
+        index = ap (λ (s : PlainState). s.index) is;
+        references = ap (λ (s : PlainState). s.references) is;
         is_lost = ap (λ (s : PlainState). s.is_lost) is;
         is_worn = ap (λ (s : PlainState). s.is_worn) is;
-        site = λ name ne. refl;
-        whole = λ k spare bytes x. x;
       };
-      references = ap (λ (s : PlainState). s.references) is;
       going = ap (λ (s : PlainState). s.going) is;
       blocks = ap (λ (s : PlainState). s.blocks) is;
       trail = refl;

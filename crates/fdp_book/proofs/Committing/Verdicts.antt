@@ -1,10 +1,8 @@
 -- How a write whose pages are placed may end.
-use Rattle.std.proofs.Common.{◌≡◌, ℕ, Bool, false, IsTrue, IsFalse, length, Option, Some, None, refl, sym, ◌∙◌, ap, subst, arith}
-use Rattle.std.specs.Prelude.{IsSome, option_map}
+use Rattle.std.proofs.Common.{◌≡◌, ℕ, Bool, false, IsTrue, IsFalse, length, Option, Some, None, sym, ◌∙◌, ap, subst, arith}
+use Rattle.std.specs.Prelude.{option_map}
 use Rattle.std.specs.Option.{option_map_or}
-use Rattle.fdp_flash.proofs.Lists.{slice_get_there}
 use Rattle.fdp_base.specs.declared.config.DriveConfig.{DriveConfig}
-use Rattle.fdp_base.specs.declared.entry.Spot.{Spot}
 use Rattle.fdp_base.specs.CommandKinds.{blocks_written, write_of}
 use Rattle.fdp_rules.specs.PlainState.{Going, PlainState}
 use Rattle.fdp_rules.specs.Room.{is_over_budget}
@@ -38,8 +36,6 @@ may-succeed b ticket f at ready there fits =
       there = there;
       fits = fits;
       placed = placed;
-      pages = λ index below.
-          let found = slice_get_there f.pages.items index (omega (arith, below, placed)) in
-          subst (λ (o : Option Spot). IsSome o) (sym (at.flown.pages index found.0 found.1).site) refl;
-      target = at.flown.target there;
+      pages = λ index below. at.pages there index (omega (arith, below, placed));
+      target = at.target there;
     }

@@ -4,6 +4,7 @@ use Rattle.std.specs.Prelude.{◌↔◌, ◌==◌, not, option_map}
 use Rattle.std.proofs.lemmas.Bool.{false≢true}
 use Rattle.fdp_base.specs.CommandKinds.{is_write}
 use Rattle.fdp_rules.specs.PlainState.{Going}
+use Rattle.fdp_book.specs.Configured.{no_pages}
 use Rattle.fdp_book.specs.declared.flight.Flight.{Flight}
 use Rattle.fdp_book.specs.declared.stage.Stage.{Stage}
 use Rattle.fdp_book.specs.declared.stage.Stage.TheVariants as stages
@@ -21,7 +22,7 @@ flight_in-none [] queue past = refl
 flight_in-none (x ∷ xs) zero past = absurd (omega (arith, past))
 flight_in-none (x ∷ xs) (suc queue) past = flight_in-none xs queue (omega (arith, past))
 
-module _ (b : BookSeen) (tables : Tables) (held : IsHeld b.config b.found b.entries tables) where
+module _ (b : BookSeen) (tables : Tables) (held : IsHeld b.config b.found no_pages b.entries tables) where
   -- the write that is going where a flight is
   pub going-flown : (queue : ℕ) (f : Flight) → flight_in tables.flights.items queue ≡ Some f → (state_in b).going queue ≡ Some (going_of f)
   going-flown queue f is = held.flights_are.going queue ∙ ap (option_map going_of) is

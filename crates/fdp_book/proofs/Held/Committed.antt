@@ -1,146 +1,203 @@
 -- What a write that succeeds leaves of the tables.
-use Rattle.std.proofs.Common.{◌≡◌, inl, inr, ℕ, ◌+◌, ◌-◌, ◌<◌, ◌≤◌, Bool, true, false, IsTrue, List, [], ◌∷◌, ◌++◌, length, slice_get, slice_set, Option, Some, None, refl, sym, ◌∙◌, ap, subst, arith, cond, eqb-true, leb-true, ltb-true, Vec, Global}
-use Rattle.std.specs.Prelude.{◌==◌, ◌&&◌, nat_le, nat_lt, option_map}
-use Rattle.fdp_rules.proofs.Pushes.{point_of-push}
+use Rattle.std.proofs.Common.{◌≡◌, ◌≢◌, ℕ, zero, suc, ◌+◌, ◌-◌, ◌≤◌, ◌<◌, Bool, true, false, List, [], ◌∷◌, ◌++◌, length, slice_get, slice_set, Option, Some, None, refl, sym, ◌∙◌, ap, subst, arith, cond, inl, inr, eq-eqb, ne_eqb, leb-true, ltb-true, ⊎_elim}
+use Rattle.std.specs.Prelude.{◌==◌, ◌&&◌, IsTrue, if◌then◌else◌, nat_le, nat_lt, option_and_then, option_map}
+use Rattle.std.specs.Option.{option_map_or}
+use Rattle.std.proofs.lemmas.Bool.{and_parts, cases_eq}
+use Rattle.fdp_base.specs.declared.command.Command.{Command}
+use Rattle.fdp_base.specs.declared.command.Command.TheVariants as commands
+use Rattle.fdp_base.specs.declared.command.Write.{Write}
 use Rattle.fdp_base.specs.declared.config.DriveConfig.{DriveConfig}
 use Rattle.fdp_base.specs.declared.entry.Entry.{Entry}
-use Rattle.fdp_base.specs.declared.entry.Entry.TheVariants as entries
 use Rattle.fdp_base.specs.declared.entry.Spot.{Spot}
 use Rattle.fdp_base.specs.declared.status.TheConstants.Status as statuses
-use Rattle.fdp_rules.specs.Answer.{bare}
-use Rattle.fdp_base.specs.CommandKinds.{blocks_written, write_of}
-use Rattle.fdp_rules.specs.Effect.{block_of_write}
-use Rattle.fdp_rules.specs.History.{point_of, Found}
-use Rattle.fdp_rules.specs.Next.{next}
-use Rattle.fdp_base.specs.Numbers.{is_among}
-use Rattle.fdp_base.specs.Pattern.{payload_block}
-use Rattle.fdp_base.specs.Placement.{classes_of, geometry_of}
-use Rattle.fdp_rules.specs.PlainState.{Block, Going, Namespace, PageName.written, Reference}
-use Rattle.fdp_rules.specs.Point.{Point, Trail}
-use Rattle.fdp_rules.specs.Sites.{is_there}
-use Rattle.fdp_base.specs.Spare.{data_spare}
-use Rattle.fdp_rules.specs.Step.{MaySucceed}
-use Rattle.std.specs.Option.{option_map_or}
-use Rattle.std.proofs.lemmas.Bool.{and_parts}
+use Rattle.fdp_base.specs.CommandKinds.{write_of}
+use Rattle.fdp_base.specs.Numbers.{is_among, with_at}
+use Rattle.fdp_base.proofs.Writes.{write-is}
+use Rattle.fdp_book.specs.declared.flight.Flight.{Flight}
+use Rattle.fdp_book.specs.declared.tables.Setting.{Setting}
+use Rattle.fdp_book.specs.declared.tables.Sums.{Sums}
+use Rattle.fdp_book.specs.declared.tables.Tables.{Tables}
+use Rattle.fdp_book.specs.Flown.{place_in, with_pages}
+use Rattle.fdp_book.specs.Held.{AreSpacesOf, IsHeld, IsMapOf, IsSettingOf, flight_in, going_of, lead_in, page_in}
+use Rattle.fdp_book.specs.Taking.{MayTake}
+use Rattle.fdp_book.proofs.Committing.Points.{IsCommitted, blocks-count, blocks_with, committed}
+use Rattle.fdp_book.proofs.Flights.Rows.{flight_in-set}
+use Rattle.fdp_book.proofs.Held.Ended.{flights-less, passes-same}
+use Rattle.fdp_book.proofs.Held.Next.{held-next}
+use Rattle.fdp_book.proofs.Held.Started.{copies-same}
+use Rattle.fdp_book.proofs.Held.Sums.{are_sums-push}
+use Rattle.fdp_book.proofs.Histories.Follows.{end-follows, write-succeeds}
+use Rattle.fdp_book.proofs.Kept.{setting-alike, spaces-alike}
+use Rattle.fdp_book.proofs.Leading.{live_of, page-led, pages-same}
 use Rattle.fdp_flash.proofs.Lists.{slice_get_there}
-use Rattle.fdp_flash.specs.declared.cell.Cell.{Cell}
-use Rattle.fdp_flash.specs.declared.cell.Cell.TheVariants.{Whole}
-use Rattle.fdp_flash.specs.Layout.{page_number}
-use Rattle.fdp_handles.specs.HandleTable.{HandleTable}
-use Rattle.fdp_history.proofs.Points.{orderly-next}
-use Rattle.fdp_history.proofs.Standing.{standing-next}
+use Rattle.fdp_locations.specs.Located.{AreLed, LeadsTo}
+use Rattle.fdp_locations.specs.Taken.{taken_first}
+use Rattle.fdp_locations.specs.Written.{Written, written_by}
+use Rattle.fdp_locations.proofs.Ended.{host, led-committed}
+use Rattle.fdp_locations.proofs.Taken.{taken-all}
+use Rattle.fdp_locations.proofs.Units.{owners-alike, owners-next, units-same}
 use Rattle.fdp_map.specs.declared.mapped.Mapped.{Mapped}
 use Rattle.fdp_map.specs.MapTable.{MapTable, mapped_at, size_in}
-use Rattle.fdp_book.specs.declared.tables.Sums.{Sums}
-use Rattle.fdp_book.specs.declared.flight.Flight.{Flight}
-use Rattle.fdp_book.specs.Flown.{place_in, with_pages}
-use Rattle.fdp_book.specs.Held.{AreHandlesOf, IsFlightOf, IsHeld, IsMapOf, IsMappedAs, IsPlaceOf, flight_in, going_of, AreFlightsOf}
-use Rattle.fdp_book.specs.Pages.{cells_of}
-use Rattle.fdp_book.proofs.Kept.Alike.{used-push}
-use Rattle.fdp_book.proofs.Committing.Points.{IsCommitted, blocks-count, blocks_with, committed}
-use Rattle.fdp_book.proofs.Histories.Follows.{end-follows, write-succeeds}
-use Rattle.fdp_book.proofs.Kept.Grown.{all_units-grown, classes-grown, mapped-grown, setting-grown, spaces-grown}
-use Rattle.fdp_book.proofs.Held.At.{held-at}
-use Rattle.fdp_book.proofs.Held.Sums.{are_sums-push}
-use Rattle.fdp_book.proofs.Kept.Lasting.{blocks-written, flights-without, units-lasting, unwritten}
-use Rattle.fdp_book.proofs.Histories.Longer.{cells_of-push}
-use Rattle.fdp_book.specs.declared.tables.Tables.{Tables}
-use Rattle.fdp_base.specs.declared.command.Write.{Write}
+use Rattle.fdp_owners.specs.Owned.{AreOwners}
+use Rattle.fdp_owners.specs.OwnerTable.{owner_at}
+use Rattle.fdp_pages.specs.PageTables.{passes_at}
+use Rattle.fdp_pages.specs.Steps.{ChangesOwners}
+use Rattle.fdp_pointers.specs.Facts.{Page}
+use Rattle.fdp_pointers.specs.Pointers.{Behind, Pointer, Pointer.of_block, Pointer.of_flight, renamed, taken_by}
+use Rattle.fdp_rules.specs.Answer.{bare}
+use Rattle.fdp_rules.specs.Effect.{block_of_write}
+use Rattle.fdp_rules.specs.History.{Found, point_of}
+use Rattle.fdp_rules.specs.Next.{next}
+use Rattle.fdp_rules.specs.PlainState.{Block, Going, Namespace, PlainState}
+use Rattle.fdp_rules.specs.Point.{Point}
+use Rattle.fdp_rules.specs.Sites.{is_there}
+use Rattle.fdp_rules.specs.Step.{Follows, MaySucceed}
+use Rattle.fdp_spaces.specs.SpaceTable.{SpaceTable}
+use Rattle.fdp_trails.proofs.Grouping.{all-renamed}
 
--- what the blocks of a flight have in common
-abbrev pub first_of : Flight → ℕ → Mapped
-first_of f generation = record { spot = record { unit = 0; page = 0 }; ticket = f.ticket; index = 0; generation = generation; rg = f.rg; ruh = f.ruh }
+-- ---- the map
 
--- a block of the write stands at its page
-block-placed : (c : DriveConfig) (p q : Point) (cells : List Cell) (f : Flight) (w : Write) (generation n lba index : ℕ) → q.trail ≡ p.trail → p.state.generation ≡ generation → IsFlightOf c p cells f → IsTrue (is_there p.state (going_of f)) → write_of f.room.command ≡ Some w → n ≡ w.nsid → index ≡ lba - w.slba → w.slba + index ≡ lba → index < length f.pages.items → IsMappedAs c q cells n lba (Some (block_of_write c w.slba w.payload lba (going_of f))) (place_in (first_of f generation) f.pages.items index)
-block-placed c p q cells f w generation n lba index trail same h there write name place address within =
-    let found = slice_get_there f.pages.items index within in
-    let spot : Spot = found.0 in
-    let page = h.pages index spot found.1 in
-    let m : Mapped = record (first_of f generation) { spot = spot; index = index } in
-    let is : place_in (first_of f generation) f.pages.items index ≡ Some m = ap (option_map (λ (s : Spot). record (first_of f generation) { spot = s; index = index })) found.1 in
-    let whole : slice_get cells (page_number (geometry_of c) spot) ≡ Some (Whole (data_spare (record { ruh = f.ruh; rg = f.rg; generation = generation; ticket = f.ticket; nsid = n; index = index; lba = lba })) (payload_block c.block w.payload (lba - w.slba))) =
-    page.whole w write there
-    ∙ ap (λ (g : ℕ). Some (Whole (data_spare (record { ruh = f.ruh; rg = f.rg; generation = g; ticket = f.ticket; nsid = w.nsid; index = index; lba = w.slba + index })) (payload_block c.block w.payload index))) same
-    ∙ ap (λ (k : ℕ). Some (Whole (data_spare (record { ruh = f.ruh; rg = f.rg; generation = generation; ticket = f.ticket; nsid = k; index = index; lba = w.slba + index })) (payload_block c.block w.payload index))) (sym name)
-    ∙ ap (λ (k : ℕ). Some (Whole (data_spare (record { ruh = f.ruh; rg = f.rg; generation = generation; ticket = f.ticket; nsid = n; index = index; lba = k })) (payload_block c.block w.payload index))) address
-    ∙ ap (λ (k : ℕ). Some (Whole (data_spare (record { ruh = f.ruh; rg = f.rg; generation = generation; ticket = f.ticket; nsid = n; index = index; lba = lba })) (payload_block c.block w.payload k))) place in
-    let page_is : written f.ticket (lba - w.slba) ≡ written f.ticket index = ap (λ (k : ℕ). written f.ticket k) (sym place) in
-    let stands : IsPlaceOf c q cells n lba (block_of_write c w.slba w.payload lba (going_of f)) m = record {
-      group = refl;
-      page = page_is;
-      site = ap (λ (t : Trail). t.site (written f.ticket (lba - w.slba))) trail ∙ ap p.trail.site page_is ∙ page.site;
-      spot = page.page;
-      whole = whole;
-    } in
-    subst (λ (o : Option Mapped). IsMappedAs c q cells n lba (Some (block_of_write c w.slba w.payload lba (going_of f))) o) (sym is) stands
+among-within : (slba count lba : ℕ) → is_among slba count lba ≡ true → lba - slba < count
+among-within slba count lba e =
+    let parts = and_parts (nat_le slba lba) (nat_lt lba (slba + count)) e in
+    omega (arith, leb-true slba lba parts.0, ltb-true lba (slba + count) parts.1)
 
--- a block is one of the write or was there before
-block-committed : (c : DriveConfig) (p q : Point) (cells : List Cell) (map : MapTable) (queue : ℕ) (f : Flight) (w : Write) (generation n lba : ℕ) (among : Bool) → (n == w.nsid && is_among w.slba w.count lba) ≡ among → IsCommitted c p q cells queue w → p.state.going queue ≡ Some (going_of f) → p.state.generation ≡ generation → IsFlightOf c p cells f → IsTrue (is_there p.state (going_of f)) → write_of f.room.command ≡ Some w → length f.pages.items ≡ w.count → IsMapOf c p cells map →
-    IsMappedAs c q cells n lba (cond among (option_map (block_of_write c w.slba w.payload lba) (p.state.going queue)) (p.state.blocks n lba)) (cond among (place_in (first_of f generation) f.pages.items (lba - w.slba)) (mapped_at map n lba))
-block-committed c p q cells map queue f w generation n lba true among done going same h there write count maps =
-    let parts = and_parts (n == w.nsid) (is_among w.slba w.count lba) among in
-    let bounds = and_parts (nat_le w.slba lba) (nat_lt lba (w.slba + w.count)) parts.1 in
-    let low : w.slba ≤ lba = leb-true w.slba lba bounds.0 in
-    let high : lba < w.slba + w.count = ltb-true lba (w.slba + w.count) bounds.1 in
-    subst (λ (o : Option Going). IsMappedAs c q cells n lba (option_map (block_of_write c w.slba w.payload lba) o) (place_in (first_of f generation) f.pages.items (lba - w.slba))) (sym going)
-    (block-placed c p q cells f w generation n lba (lba - w.slba) done.trail same h there write (eqb-true n w.nsid parts.0) refl (omega (arith, low)) (omega (arith, low, high, count)))
-block-committed c p q cells map queue f w generation n lba false among done going same h there write count maps =
-    mapped-grown c p q cells cells unwritten n lba (p.state.blocks n lba) (mapped_at map n lba) done.grown (blocks-written c p cells map maps n lba) (maps.blocks n lba)
+group-placed : (rg : ℕ) (spots : List Spot) (index : ℕ) → index < length spots → option_map (λ (m : Mapped). m.rg) (place_in rg spots index) ≡ Some rg
+group-placed rg spots index within = let found = slice_get_there spots index within in ap (λ (o : Option Spot). option_map (λ (m : Mapped). m.rg) (option_map (λ (s : Spot). record { spot = s; rg = rg }) o)) found.1
 
-map-committed : (c : DriveConfig) (p q : Point) (cells : List Cell) (map new : MapTable) (queue : ℕ) (f : Flight) (w : Write) (generation : ℕ) → IsCommitted c p q cells queue w → p.state.going queue ≡ Some (going_of f) → p.state.generation ≡ generation → IsFlightOf c p cells f → IsTrue (is_there p.state (going_of f)) → write_of f.room.command ≡ Some w → length f.pages.items ≡ w.count → mapped_at new ≡ with_pages (mapped_at map) w.nsid w.slba (first_of f generation) f.pages.items w.count → size_in new ≡ size_in map → IsMapOf c p cells map → IsMapOf c q cells new
-map-committed c p q cells map new queue f w generation done going same h there write count put sizes maps = record {
-  sizes = λ nsid. ap (λ (g : ℕ → Option Namespace). option_map_or (λ x. x.size) (g nsid) 0) done.grown.namespaces ∙ maps.sizes nsid ∙ sym (ap (λ (g : ℕ → ℕ). g nsid) sizes);
-  most = λ nsid. let size : size_in new nsid ≡ size_in map nsid = ap (λ (g : ℕ → ℕ). g nsid) sizes in omega (arith, size, maps.most nsid);
-  blocks = λ n lba.
-      let block : q.state.blocks n lba ≡ blocks_with c p.state queue w n lba = ap (λ (g : ℕ → ℕ → Option Block). g n lba) done.blocks in
-      let place : mapped_at new n lba ≡ with_pages (mapped_at map) w.nsid w.slba (first_of f generation) f.pages.items w.count n lba = ap (λ (g : ℕ → ℕ → Option Mapped). g n lba) put in
-      subst (λ (o : Option Block). IsMappedAs c q cells n lba o (mapped_at new n lba)) (sym block)
-      (subst (λ (o : Option Mapped). IsMappedAs c q cells n lba (blocks_with c p.state queue w n lba) o) (sym place)
-      (block-committed c p q cells map queue f w generation n lba (n == w.nsid && is_among w.slba w.count lba) refl done going same h there write count maps));
+map-committed : (c : DriveConfig) (s n : PlainState) (map new : MapTable) (queue : ℕ) (f : Flight) (w : Write) → n.namespaces ≡ s.namespaces → n.blocks ≡ blocks_with c s queue w → s.going queue ≡ Some (going_of f) → length f.pages.items ≡ w.count →
+    mapped_at new ≡ with_pages (mapped_at map) w.nsid w.slba f.rg f.pages.items w.count → size_in new ≡ size_in map → IsMapOf s map → IsMapOf n new
+map-committed c s n map new queue f w same blocks going count put sizes h = record {
+  sizes = λ nsid. ap (λ (g : ℕ → Option Namespace). option_map_or (λ x. x.size) (g nsid) 0) same ∙ h.sizes nsid ∙ sym (ap (λ (g : ℕ → ℕ). g nsid) sizes);
+  most = λ nsid. let size : size_in new nsid ≡ size_in map nsid = ap (λ (g : ℕ → ℕ). g nsid) sizes in omega (arith, size, h.most nsid);
+  groups = λ nsid lba.
+      ap (λ (g : ℕ → ℕ → Option Block). option_map (λ (b : Block). b.rg) (g nsid lba)) blocks
+      ∙ chosen nsid lba (nsid == w.nsid && is_among w.slba w.count lba) refl
+      ∙ sym (ap (λ (g : ℕ → ℕ → Option Mapped). option_map (λ (m : Mapped). m.rg) (g nsid lba)) put);
+}
+  where
+    chosen : (nsid lba : ℕ) (b : Bool) → (nsid == w.nsid && is_among w.slba w.count lba) ≡ b → option_map (λ (x : Block). x.rg) (cond b (option_map (block_of_write c w.slba w.payload lba) (s.going queue)) (s.blocks nsid lba)) ≡ option_map (λ (m : Mapped). m.rg) (cond b (place_in f.rg f.pages.items (lba - w.slba)) (mapped_at map nsid lba))
+    chosen nsid lba true among =
+        let within = among-within w.slba w.count lba (and_parts (nsid == w.nsid) (is_among w.slba w.count lba) among).1 in
+        ap (λ (o : Option Going). option_map (λ (x : Block). x.rg) (option_map (block_of_write c w.slba w.payload lba) o)) going ∙ sym (group-placed f.rg f.pages.items (lba - w.slba) (omega (arith, within, count)))
+    chosen nsid lba false among = h.groups nsid lba
+
+-- ---- where the pointers lead
+
+spot-placed : (rg : ℕ) (spots : List Spot) (index : ℕ) → option_map (λ (m : Mapped). m.spot) (place_in rg spots index) ≡ slice_get spots index
+spot-placed rg spots index = each (slice_get spots index)
+  where
+    each : (o : Option Spot) → option_map (λ (m : Mapped). m.spot) (option_map (λ (s : Spot). record { spot = s; rg = rg }) o) ≡ o
+    each None = refl
+    each (Some s) = refl
+
+flight-page : (s : PlainState) (map : MapTable) (flights : List (Option Flight)) (queue index : ℕ) (f : Flight) (at : Behind Page) → flight_in flights queue ≡ Some f → IsTrue (is_there s (going_of f)) → LeadsTo (lead_in s map flights) at → option_map (λ (y : Page). y.spot) (at (of_flight queue index)) ≡ slice_get f.pages.items index
+flight-page s map flights queue index f at is there h =
+    h (of_flight queue index) ∙ ap (option_and_then (page_in s index)) is ∙ ap (λ (b : Bool). if b then slice_get f.pages.items index else None) there
+
+leads-committed : (s n : PlainState) (map new : MapTable) (flights left : List (Option Flight)) (queue : ℕ) (f : Flight) (w : Write) (at : Behind Page) → n.namespaces ≡ s.namespaces → queue < length flights → flight_in flights queue ≡ Some f → IsTrue (is_there s (going_of f)) → left ≡ slice_set flights queue None →
+    mapped_at new ≡ with_pages (mapped_at map) w.nsid w.slba f.rg f.pages.items w.count → LeadsTo (lead_in s map flights) at → LeadsTo (lead_in n new left) (renamed (taken_by queue w.nsid w.slba w.count) at)
+leads-committed s n map new flights left queue f w at same row is there left_is put h (of_block nsid lba) =
+    chosen (nsid == w.nsid && is_among w.slba w.count lba) ∙ sym (ap (λ (g : ℕ → ℕ → Option Mapped). option_map (λ (m : Mapped). m.spot) (g nsid lba)) put)
+  where
+    chosen : (b : Bool) → option_map (λ (y : Page). y.spot) (option_and_then at (if b then Some (of_flight queue (lba - w.slba)) else Some (of_block nsid lba))) ≡ option_map (λ (m : Mapped). m.spot) (cond b (place_in f.rg f.pages.items (lba - w.slba)) (mapped_at map nsid lba))
+    chosen true = flight-page s map flights queue (lba - w.slba) f at is there h ∙ sym (spot-placed f.rg f.pages.items (lba - w.slba))
+    chosen false = h (of_block nsid lba)
+leads-committed s n map new flights left queue f w at same row is there left_is put h (of_flight q i) =
+    let stands : flight_in left q ≡ with_at (flight_in flights) queue None q = ap (λ (fs : List (Option Flight)). flight_in fs q) left_is ∙ flight_in-set flights queue None row q in
+    ⊎_elim
+    (λ (e : q ≡ queue).
+    ap (λ (b : Bool). option_map (λ (y : Page). y.spot) (option_and_then at (if b then None else Some (of_flight q i)))) (eq-eqb q queue e)
+    ∙ sym (ap (option_and_then (page_in n i)) (stands ∙ ap (λ (b : Bool). if b then None else flight_in flights q) (eq-eqb q queue e))))
+    (λ (ne : q ≢ queue).
+    ap (λ (b : Bool). option_map (λ (y : Page). y.spot) (option_and_then at (if b then None else Some (of_flight q i)))) (ne_eqb q queue ne)
+    ∙ h (of_flight q i)
+    ∙ sym (ap (option_and_then (page_in n i)) (stands ∙ ap (λ (b : Bool). if b then None else flight_in flights q) (ne_eqb q queue ne)) ∙ pages-same s n i (flight_in flights q) same))
+    (cases_eq q queue)
+
+-- ---- the pages may be taken
+
+live-there : (s : PlainState) (o : Option Flight) (f : Flight) → o ≡ Some f → IsTrue (is_there s (going_of f)) → live_of s o ≡ f.pages.items
+live-there s o f is there = ap (live_of s) is ∙ ap (λ (b : Bool). if b then f.pages.items else []) there
+
+pub may-take : (c : DriveConfig) (found : Found) (first : Spot → Option Written) (es : List Entry) (t : Tables) (queue : ℕ) (f : Flight) (w : Write) → (h : IsHeld c found first es t) → flight_in t.flights.items queue ≡ Some f → IsTrue (is_there (point_of c found es).state (going_of f)) → write_of f.room.command ≡ Some w → MayTake h.pages_are.at t.map t.pages queue w.nsid w.slba f.pages.items
+may-take c found first es t queue f w h is there write = record {
+  owned = h.pages_are.led.owned;
+  mapped = λ lba. h.pages_are.leads (of_block w.nsid lba);
+  pages = λ index spot e.
+      let s : PlainState = (point_of c found es).state in
+      let page = page-led s t.map t.flights.items h.pages_are.at queue index spot h.pages_are.leads (ap (λ (xs : List Spot). slice_get xs index) (live-there s (flight_in t.flights.items queue) f is there) ∙ e) in
+      let names = h.pages_are.led.named queue index (going_of f) w page.0 (h.flights_are.going queue ∙ ap (option_map going_of) is) write page.1 in
+      record { page = page.0; leads = page.1; spot_is = page.2; nsid_is = names.0; lba_is = names.1 };
 }
 
-handles-same : (c : DriveConfig) (p q : Point) (handles : HandleTable) → q.state.references ≡ p.state.references → classes_of c q.state.enabled q.state.index ≡ classes_of c p.state.enabled p.state.index →
-    AreHandlesOf c p.state handles → AreHandlesOf c q.state handles
-handles-same c p q handles same classes h = record {
-  unit_pages = h.unit_pages;
-  groups = h.groups;
-  classes = classes ∙ h.classes;
-  references = λ rg ruh. ap (λ (f : ℕ → ℕ → Reference). f rg ruh) same ∙ h.references rg ruh;
-}
+none-behind : (xs : List Spot) (i : ℕ) → length xs ≤ i → slice_get xs i ≡ None
+none-behind [] zero past = refl
+none-behind [] (suc i) past = refl
+none-behind (x ∷ xs) zero past = absurd (omega (arith, past))
+none-behind (x ∷ xs) (suc i) past = none-behind xs i (omega (arith, past))
 
--- the tables after a write that succeeds
-pub held-committed : (c : DriveConfig) (found : Found) (es : List Entry) (tables : Tables) (sums : Sums) (map : MapTable) (flights : Vec (Option Flight) Global) (queue moment : ℕ) (f : Flight) (w : Write) →
-    IsHeld c found es tables → flight_in tables.flights.items queue ≡ Some f → MaySucceed c (point_of c found es) (going_of f) → write_of f.room.command ≡ Some w →
-    sums ≡ record tables.sums { host_blocks = tables.sums.host_blocks + w.count } →
-    mapped_at map ≡ with_pages (mapped_at tables.map) w.nsid w.slba (first_of f tables.setting.generation) f.pages.items w.count → size_in map ≡ size_in tables.map →
-    flights.items ≡ slice_set tables.flights.items queue None →
-    IsHeld c found (es ++ entries.Host (record { queue = queue; number = f.number; command = f.room.command; reply = bare statuses.SUCCESS true; moment = moment }) ∷ []) (record tables { sums = sums; map = map; flights = flights })
-held-committed c found es tables sums map flights queue moment f w h is may write sums_are put sizes left =
-    let e : Entry = entries.Host (record { queue = queue; number = f.number; command = f.room.command; reply = bare statuses.SUCCESS true; moment = moment }) in
+no-page : (o : Option Page) → option_map (λ (y : Page). y.spot) o ≡ None → o ≡ None
+no-page None e = refl
+no-page (Some y) e = absurd cc
+
+-- ---- the tables
+
+-- the tables after the blocks of a flight took its pages
+pub record TakesPages (t now : Tables) (queue : ℕ) (f : Flight) (w : Write) : Type 0 where
+  pub sums : now.sums ≡ record t.sums { host_blocks = t.sums.host_blocks + w.count }
+  pub put : mapped_at now.map ≡ with_pages (mapped_at t.map) w.nsid w.slba f.rg f.pages.items w.count
+  pub sizes : size_in now.map ≡ size_in t.map
+  pub flights_are : now.flights.items ≡ slice_set t.flights.items queue None
+  pub owners : (at : Behind Page) (k : ℕ) → MayTake at t.map t.pages k w.nsid w.slba f.pages.items → AreOwners (owner_at now.pages.owners) (renamed (taken_first k w.nsid w.slba w.count) at)
+  pub pages : ChangesOwners t.pages now.pages
+  pub setting : now.setting ≡ t.setting
+  pub spaces : now.spaces ≡ t.spaces
+
+abbrev success : ℕ → Flight → ℕ → Entry
+success queue f moment = host queue f.number f.room.command (bare statuses.SUCCESS true) moment
+
+pub held-committed : (c : DriveConfig) (found : Found) (first : Spot → Option Written) (es : List Entry) (t now : Tables) (queue moment : ℕ) (f : Flight) (w : Write) →
+    IsHeld c found first es t → flight_in t.flights.items queue ≡ Some f → MaySucceed c (point_of c found es) (going_of f) → write_of f.room.command ≡ Some w → TakesPages t now queue f w →
+    IsHeld c found first (es ++ success queue f moment ∷ []) now
+held-committed c found first es t now queue moment f w h is may write takes =
+    let e : Entry = success queue f moment in
     let p : Point = point_of c found es in
     let q : Point = next c p e in
-    let cells : List Cell = cells_of c found es in
     let going : p.state.going queue ≡ Some (going_of f) = h.flights_are.going queue ∙ ap (option_map going_of) is in
     let orderly = h.orderly.state.writes queue (going_of f) going in
-    let within : queue < length tables.flights.items = omega (arith, orderly.queue_is.1, h.flights_are.rows) in
-    let done : IsCommitted c p q cells queue w = committed c p cells queue f.number f.room.command moment w write in
-    let count : blocks_written f.room.command ≡ w.count = blocks-count f.room.command w write in
-    let host : sums.host_blocks ≡ tables.sums.host_blocks + w.count = ap (λ (x : Sums). x.host_blocks) sums_are in
-    let media : sums.media_blocks ≡ tables.sums.media_blocks = ap (λ (x : Sums). x.media_blocks) sums_are in
-    let follows = end-follows true c p queue (going_of f) (bare statuses.SUCCESS true) moment orderly going (inr (inr (inl (may, write-succeeds true c p f.room.command orderly.write)))) in
-    held-at c found (es ++ e ∷ []) q cells (record tables { sums = sums; map = map; flights = flights }) (sym (point_of-push c found es e)) (sym (cells_of-push c found es e))
+    let there : queue < length t.flights.items = omega (arith, orderly.queue_is.1, h.flights_are.rows) in
+    let done : IsCommitted c p q queue w = committed c p queue f.number f.room.command moment w write in
+    let count : length f.pages.items ≡ w.count = may.placed ∙ blocks-count f.room.command w write in
+    let few : w.count ≤ 64 = omega (arith, orderly.count.1, h.config.ranges.blocks_per_command.1, blocks-count f.room.command w write) in
+    let follows : Follows true c p e = end-follows true c p queue (going_of f) (bare statuses.SUCCESS true) moment orderly going (inr (inr (inl (may, write-succeeds true c p f.room.command orderly.write)))) in
+    let command : f.room.command ≡ commands.Write w = write-is f.room.command w write in
+    let r : Pointer → Option Pointer = taken_by queue w.nsid w.slba w.count in
+    let pages = h.pages_are in
+    let own : AreOwners (owner_at now.pages.owners) (renamed r pages.at) =
+    taken-all queue w.nsid w.slba w.count (owner_at now.pages.owners) pages.at
+    (λ i past. no-page (pages.at (of_flight queue i)) (flight-page p.state t.map t.flights.items queue i f pages.at is may.there pages.leads ∙ none-behind f.pages.items i (omega (arith, past, count))))
+    (takes.owners pages.at queue (may-take c found first es t queue f w h is may.there write)) in
+    let host_blocks : now.sums.host_blocks ≡ t.sums.host_blocks + w.count = ap (λ (x : Sums). x.host_blocks) takes.sums in
+    let media : now.sums.media_blocks ≡ t.sums.media_blocks = ap (λ (x : Sums). x.media_blocks) takes.sums in
+    let erases : now.sums.erases ≡ t.sums.erases = ap (λ (x : Sums). x.erases) takes.sums in
+    let entry : (k : Command) → Entry = λ k. host queue f.number k (bare statuses.SUCCESS true) moment in
+    held-next true c found first es e t now h follows
     (record {
-      config = h.config;
-      orderly = orderly-next true c p e h.config h.orderly follows;
-      standing = standing-next true c p e h.orderly h.standing follows;
-      setting_is = setting-grown p q cells cells unwritten tables.setting done.grown h.setting_is;
-      sums_are = are_sums-push found es e tables.sums sums h.sums_are (omega (arith, orderly.count.1, h.config.ranges.blocks_per_command.1)) (omega arith) refl (omega (arith, host, count)) (omega (arith, media)) (ap (λ (x : Sums). x.erases) sums_are);
-      all_units = all_units-grown p q cells cells unwritten done.grown h.all_units;
-      spaces_are = spaces-grown c p q cells cells unwritten tables.spaces done.grown h.spaces_are;
-      handles_are = handles-same c p q tables.handles done.references (classes-grown c p q cells cells unwritten done.grown) h.handles_are;
-      map_is = map-committed c p q cells tables.map map queue f w tables.setting.generation done going h.setting_is.generation (h.flights_are.flown queue f is) may.there write (may.placed ∙ count) put sizes h.map_is;
-      flights_are = subst (λ (xs : List (Option Flight)). AreFlightsOf c q cells xs) (sym left) (flights-without c p q cells tables.flights.items queue within done.grown done.going h.flights_are);
-      units_are = units-lasting c es (es ++ e ∷ []) p.state q.state cells tables.used.items (λ unit. used-push es e unit refl)
-          (λ rg ruh unit some. ap (λ (x : ℕ → ℕ → Reference). x rg ruh) done.references) h.units_are;
+      setting_is = subst (λ (x : Setting). IsSettingOf q.state x) (sym takes.setting) (setting-alike p.state q.state t.setting done.alike h.setting_is);
+      spaces_are = subst (λ (x : SpaceTable). AreSpacesOf c q.state x) (sym takes.spaces) (spaces-alike c p.state q.state t.spaces done.alike h.spaces_are);
+      map_is = map-committed c p.state q.state t.map now.map queue f w done.alike.namespaces done.blocks going count takes.put takes.sizes h.map_is;
+      flights_are = flights-less c p.state q.state t.flights.items now.flights.items queue there done.alike done.going takes.flights_are h.flights_are;
+      units_are = units-same c p.state q.state t.pages now.pages done.units (owners-alike t.pages now.pages takes.pages) takes.pages.handles h.units_are;
+    })
+    (are_sums-push found es e t.sums now.sums h.sums_are (omega (arith, few, blocks-count f.room.command w write)) (omega arith) (omega arith) (omega (arith, host_blocks, blocks-count f.room.command w write)) (omega (arith, media)) (omega (arith, erases)))
+    (record {
+      at = renamed r pages.at;
+      led = subst (λ (k : Command). AreLed c (next c p (entry k)) (written_by c found first es) (renamed r pages.at) now.pages) (sym command)
+          (led-committed true c p queue f.number w (bare statuses.SUCCESS true) moment (written_by c found first es) pages.at t.pages now.pages h.orderly.state (subst (λ (k : Command). Follows true c p (entry k)) command follows) refl own
+          (λ unit. omega (arith, owners-next t.pages now.pages takes.pages unit))
+          (all-renamed c p (entry (commands.Write w)) pages.at c.groups (passes_at t.pages) (passes_at now.pages) refl (λ rg low. inl (passes-same t.pages now.pages takes.pages.passes rg)) (λ rg low ends. absurd cc) pages.led.passes)
+          (copies-same t.pages now.pages takes.pages.passes)
+          pages.led);
+      leads = leads-committed p.state q.state t.map now.map t.flights.items now.flights.items queue f w pages.at done.alike.namespaces there is may.there takes.flights_are takes.put pages.leads;
     })

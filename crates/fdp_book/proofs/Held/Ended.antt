@@ -1,37 +1,49 @@
--- What the end of a command leaves whose change is not made.
-use Rattle.std.proofs.Common.{◌≡◌, ℕ, ◌+◌, ◌<◌, Bool, true, false, List, [], ◌∷◌, ◌++◌, length, Option, Some, None, slice_set, refl, sym, ◌∙◌, ap, subst, arith, cond, Vec, Global}
-use Rattle.std.specs.Prelude.{IsFalse, if◌then◌else◌}
+-- What the end of a command whose change is not made leaves of the tables.
+use Rattle.std.proofs.Common.{◌≡◌, ℕ, ◌+◌, ◌<◌, Bool, List, [], ◌∷◌, ◌++◌, length, Option, Some, None, slice_set, refl, sym, ◌∙◌, ap, subst, arith, cond, inl}
+use Rattle.std.specs.Prelude.{IsFalse, IsTrue, if◌then◌else◌}
 use Rattle.std.proofs.Math.ListN.{length-set}
 use Rattle.fdp_base.specs.declared.command.Command.{Command}
 use Rattle.fdp_base.specs.declared.config.DriveConfig.{DriveConfig}
 use Rattle.fdp_base.specs.declared.entry.Entry.{Entry}
-use Rattle.fdp_base.specs.declared.entry.Entry.TheVariants as entries
 use Rattle.fdp_base.specs.declared.entry.Reply.{Reply}
-use Rattle.fdp_rules.specs.Change.{after, changed_by, is_media_error}
+use Rattle.fdp_base.specs.declared.entry.Spot.{Spot}
 use Rattle.fdp_base.specs.CommandKinds.{is_write}
-use Rattle.fdp_rules.specs.Effect.{effect_of}
-use Rattle.fdp_rules.specs.History.{point_of, Found}
-use Rattle.fdp_rules.specs.Next.{next}
 use Rattle.fdp_base.specs.Numbers.{with_at}
-use Rattle.fdp_rules.specs.PlainState.{Going, PlainState}
-use Rattle.fdp_rules.specs.Point.{Point}
-use Rattle.fdp_rules.specs.Sites.{traced_by}
-use Rattle.fdp_rules.specs.Step.{IsQueue}
-use Rattle.fdp_rules.specs.Totals.{host_blocks_of}
-use Rattle.fdp_rules.proofs.Pushes.{point_of-push}
-use Rattle.fdp_flash.specs.declared.cell.Cell.{Cell}
+use Rattle.fdp_book.specs.declared.flight.Flight.{Flight}
+use Rattle.fdp_book.specs.declared.tables.Sums.{Sums}
+use Rattle.fdp_book.specs.declared.tables.Tables.{Tables}
+use Rattle.fdp_book.specs.Forgetting.{Forgets}
+use Rattle.fdp_book.specs.Held.{AreFlightsOf, AreSpacesOf, AreSumsOf, IsHeld, IsMapOf, IsSettingOf, flight_in, going_of, lead_in}
+use Rattle.fdp_book.proofs.Flights.Rows.{flown-set, going-set}
+use Rattle.fdp_book.proofs.Held.Next.{held-after}
+use Rattle.fdp_book.proofs.Held.Started.{copies-same}
+use Rattle.fdp_book.proofs.Held.Sums.{are_sums-push}
+use Rattle.fdp_book.proofs.Held.Unmade.{led-unmade, named-ended, named-same}
+use Rattle.fdp_book.proofs.Kept.{IsAlike, flight-alike, flights-alike, map-alike, setting-alike, spaces-alike}
+use Rattle.fdp_book.proofs.Leading.{its-pages, leads-same, leads-without, live-known, live_of}
 use Rattle.fdp_history.proofs.Points.{orderly-ended}
 use Rattle.fdp_history.proofs.Standing.{standing-ended}
-use Rattle.fdp_book.specs.declared.tables.Sums.{Sums}
-use Rattle.fdp_book.specs.declared.flight.Flight.{Flight}
-use Rattle.fdp_book.specs.Held.{AreFlightsOf, AreSumsOf, IsFlightOf, IsHeld, flights_after}
-use Rattle.fdp_book.specs.Pages.{cells_of}
-use Rattle.fdp_book.proofs.Kept.Alike.{IsAlike, all_units-alike, flight-alike, handles-alike, map-alike, setting-alike, spaces-alike, units-alike, used-push}
-use Rattle.fdp_book.proofs.Flights.Rows.{flown-set, going-set}
-use Rattle.fdp_book.proofs.Held.At.{held-at}
-use Rattle.fdp_book.proofs.Held.Sums.{are_sums-push}
-use Rattle.fdp_book.proofs.Histories.Longer.{cells_of-push}
-use Rattle.fdp_book.specs.declared.tables.Tables.{Tables}
+use Rattle.fdp_locations.specs.Located.{LeadsTo}
+use Rattle.fdp_locations.specs.Written.{Written, written_by}
+use Rattle.fdp_locations.proofs.Ended.{ends-as, host, owners-released}
+use Rattle.fdp_locations.proofs.Units.{HasSameUnits, alike-self, owners-alike, owners-next, units-same}
+use Rattle.fdp_owners.specs.OwnerTable.{owner_at}
+use Rattle.fdp_pages.specs.PageTables.{PageTables, passes_at}
+use Rattle.fdp_pages.specs.Steps.{without}
+use Rattle.fdp_passes.specs.GroupPasses.{GroupPasses}
+use Rattle.fdp_pointers.specs.Contents.{ended_by}
+use Rattle.fdp_pointers.specs.Pointers.{Pointer, is_of_another, only, renamed}
+use Rattle.fdp_rules.specs.Change.{after, changed_by, is_media_error}
+use Rattle.fdp_rules.specs.Effect.{effect_of}
+use Rattle.fdp_rules.specs.History.{Found, point_of}
+use Rattle.fdp_rules.specs.Next.{next}
+use Rattle.fdp_rules.specs.PlainState.{Going, PlainState}
+use Rattle.fdp_rules.specs.Point.{Point}
+use Rattle.fdp_rules.specs.Sites.{is_there}
+use Rattle.fdp_rules.specs.Step.{IsOnTarget, IsQueue}
+use Rattle.fdp_rules.specs.Totals.{host_blocks_of}
+use Rattle.fdp_trails.specs.Followed.{IsPassOf}
+use Rattle.fdp_trails.proofs.Grouping.{all-renamed}
 
 -- the state after the end of a command whose change is not made
 abbrev ended_state : PlainState → ℕ → Command → Reply → ℕ → PlainState
@@ -41,92 +53,125 @@ ended_state s queue command reply moment = record s {
   media = if is_media_error reply.status then moment ∷ s.media else s.media;
 }
 
-ended-state : (c : DriveConfig) (s : PlainState) (queue number : ℕ) (command : Command) (reply : Reply) (moment : ℕ) → IsFalse reply.applied → after c s (entries.Host (record { queue = queue; number = number; command = command; reply = reply; moment = moment })) ≡ ended_state s queue command reply moment
+ended-after : (c : DriveConfig) (s : PlainState) (queue number : ℕ) (command : Command) (reply : Reply) (moment : ℕ) → IsFalse reply.applied → after c s (host queue number command reply moment) ≡ ended_state s queue command reply moment
 unfolding after changed_by
-ended-state c s queue number command reply moment unmade =
+ended-after c s queue number command reply moment unmade =
     ap (λ (b : Bool). record (cond b (effect_of c s queue command) s) {
       position = s.position + 1;
       going = if is_write command then with_at s.going queue None else s.going;
       media = if is_media_error reply.status then moment ∷ s.media else s.media;
     }) unmade
 
--- but for the going writes all is as it was
-ended-alike : (c : DriveConfig) (p : Point) (queue number : ℕ) (command : Command) (reply : Reply) (moment : ℕ) → IsFalse reply.applied → IsAlike p (next c p (entries.Host (record { queue = queue; number = number; command = command; reply = reply; moment = moment })))
-unfolding next traced_by
-ended-alike c p queue number command reply moment unmade =
-    let e = ended-state c p.state queue number command reply moment unmade in
-    record {
-      enabled = ap (λ (s : PlainState). s.enabled) e;
-      index = ap (λ (s : PlainState). s.index) e;
-      generation = ap (λ (s : PlainState). s.generation) e;
-      namespaces = ap (λ (s : PlainState). s.namespaces) e;
-      blocks = ap (λ (s : PlainState). s.blocks) e;
-      references = ap (λ (s : PlainState). s.references) e;
-      is_lost = ap (λ (s : PlainState). s.is_lost) e;
-      is_worn = ap (λ (s : PlainState). s.is_worn) e;
-      site = refl;
-    }
-
-ended-going : (c : DriveConfig) (p : Point) (queue number : ℕ) (command : Command) (reply : Reply) (moment : ℕ) → IsFalse reply.applied → (next c p (entries.Host (record { queue = queue; number = number; command = command; reply = reply; moment = moment }))).state.going ≡ (if is_write command then with_at p.state.going queue None else p.state.going)
+ended-state : (c : DriveConfig) (p : Point) (queue number : ℕ) (command : Command) (reply : Reply) (moment : ℕ) → IsFalse reply.applied → (next c p (host queue number command reply moment)).state ≡ ended_state p.state queue command reply moment
 unfolding next
-ended-going c p queue number command reply moment unmade = ap (λ (s : PlainState). s.going) (ended-state c p.state queue number command reply moment unmade)
+ended-state c p queue number command reply moment unmade = ended-after c p.state queue number command reply moment unmade
 
-none-flown : (c : DriveConfig) (p : Point) (cells : List Cell) (x : Flight) → None ≡ Some x → IsFlightOf c p cells x
-none-flown c p cells x e = absurd cc
+-- what a state keeps whose position, going writes and media errors alone change
+pub record IsKept (s n : PlainState) : Type 0 where
+  pub alike : IsAlike s n
+  pub units : HasSameUnits s n
+  pub blocks : n.blocks ≡ s.blocks
 
--- the flights after the end of a command
-flights-ended : (c : DriveConfig) (p q : Point) (cells : List Cell) (flights : List (Option Flight)) (queue : ℕ) (write : Bool) → IsQueue c queue → IsAlike p q → q.state.going ≡ (if write then with_at p.state.going queue None else p.state.going) → AreFlightsOf c p cells flights → AreFlightsOf c q cells (if write then slice_set flights queue None else flights)
-flights-ended c p q cells flights queue true queue_is a going h =
-    let there : queue < length flights = omega (arith, queue_is.1, h.rows) in
-    record {
-      rows = length-set flights queue None ∙ h.rows;
-      going = λ k. ap (λ (f : ℕ → Option Going). f k) going ∙ going-set p.state.going flights queue None None there refl h.going k;
-      flown = flown-set (IsFlightOf c q cells) flights queue None there (none-flown c q cells) (λ k x e. flight-alike c p q cells x a (h.flown k x e));
-    }
-flights-ended c p q cells flights queue false queue_is a going h = record {
-  rows = h.rows;
-  going = λ k. ap (λ (f : ℕ → Option Going). f k) going ∙ h.going k;
-  flown = λ k x e. flight-alike c p q cells x a (h.flown k x e);
-}
-
-unapplied-blocks : (queue number : ℕ) (command : Command) (reply : Reply) (moment : ℕ) → IsFalse reply.applied → host_blocks_of (entries.Host (record { queue = queue; number = number; command = command; reply = reply; moment = moment })) ≡ 0
-unapplied-blocks queue number command reply moment unmade = rw unmade refl
-
-sums-ended : (found : Found) (es : List Entry) (x : Sums) (queue number : ℕ) (command : Command) (reply : Reply) (moment : ℕ) → IsFalse reply.applied → AreSumsOf found es x → AreSumsOf found (es ++ entries.Host (record { queue = queue; number = number; command = command; reply = reply; moment = moment }) ∷ []) x
-sums-ended found es x queue number command reply moment unmade h =
-    let none = unapplied-blocks queue number command reply moment unmade in
-    are_sums-push found es (entries.Host (record { queue = queue; number = number; command = command; reply = reply; moment = moment })) x x h (omega (arith, none)) (omega arith) refl (omega (arith, none)) (omega arith) refl
-
-held-unapplied : (c : DriveConfig) (found : Found) (es : List Entry) (tables : Tables) (left : Vec (Option Flight) Global) (queue number : ℕ) (command : Command) (reply : Reply) (moment : ℕ) →
-    IsHeld c found es tables → IsQueue c queue → IsFalse reply.applied → left.items ≡ flights_after command tables.flights.items queue →
-    IsHeld c found (es ++ entries.Host (record { queue = queue; number = number; command = command; reply = reply; moment = moment }) ∷ []) (record tables { flights = left })
-held-unapplied c found es tables left queue number command reply moment h queue_is unmade left_is =
-    let e : Entry = entries.Host (record { queue = queue; number = number; command = command; reply = reply; moment = moment }) in
-    let p : Point = point_of c found es in
-    let q : Point = next c p e in
-    let cells : List Cell = cells_of c found es in
-    let a : IsAlike p q = ended-alike c p queue number command reply moment unmade in
-    held-at c found (es ++ e ∷ []) q cells (record tables { flights = left }) (sym (point_of-push c found es e)) (sym (cells_of-push c found es e))
-    (record {
-      config = h.config;
-      orderly = orderly-ended c p queue number command reply moment h.orderly unmade;
-      standing = standing-ended c p queue number command reply moment h.orderly h.standing unmade;
-      setting_is = setting-alike p q tables.setting a h.setting_is;
-      sums_are = sums-ended found es tables.sums queue number command reply moment unmade h.sums_are;
-      all_units = all_units-alike p q a h.all_units;
-      spaces_are = spaces-alike c p q tables.spaces a h.spaces_are;
-      handles_are = handles-alike c p q tables.handles a h.handles_are;
-      map_is = map-alike c p q cells tables.map a h.map_is;
-      flights_are = subst (λ (xs : List (Option Flight)). AreFlightsOf c q cells xs) (sym left_is)
-          (flights-ended c p q cells tables.flights.items queue (is_write command) queue_is a (ended-going c p queue number command reply moment unmade) h.flights_are);
-      units_are = units-alike c es (es ++ e ∷ []) p q cells tables.used.items a (λ unit. used-push es e unit refl) h.units_are;
+ended-kept : (c : DriveConfig) (p : Point) (queue number : ℕ) (command : Command) (reply : Reply) (moment : ℕ) → IsFalse reply.applied → IsKept p.state (next c p (host queue number command reply moment)).state
+ended-kept c p queue number command reply moment unmade =
+    let e = ended-state c p queue number command reply moment unmade in
+    subst (λ (n : PlainState). IsKept p.state n) (sym e) (record {
+      alike = record { enabled = refl; index = refl; generation = refl; namespaces = refl };
+      units = record { enabled = refl; index = refl; references = refl; is_lost = refl; is_worn = refl };
+      blocks = refl;
     })
 
--- the tables after the end of a command whose change is not made: only a flight is gone where it is a write
-pub held_unapplied : (c : DriveConfig) (found : Found) (es longer : List Entry) (tables : Tables) (left : Vec (Option Flight) Global) (queue number : ℕ) (command : Command) (reply : Reply) (moment : ℕ) →
-    IsHeld c found es tables → IsQueue c queue → IsFalse reply.applied →
-    longer ≡ es ++ entries.Host (record { queue = queue; number = number; command = command; reply = reply; moment = moment }) ∷ [] → left.items ≡ flights_after command tables.flights.items queue →
-    IsHeld c found longer (record tables { flights = left })
-held_unapplied c found es longer tables left queue number command reply moment h queue_is unmade is left_is =
-    subst (λ (xs : List Entry). IsHeld c found xs (record tables { flights = left })) (sym is)
-    (held-unapplied c found es tables left queue number command reply moment h queue_is unmade left_is)
+ended-going : (c : DriveConfig) (p : Point) (queue number : ℕ) (command : Command) (reply : Reply) (moment : ℕ) → IsFalse reply.applied → (next c p (host queue number command reply moment)).state.going ≡ (if is_write command then with_at p.state.going queue None else p.state.going)
+ended-going c p queue number command reply moment unmade = ap (λ (s : PlainState). s.going) (ended-state c p queue number command reply moment unmade)
+
+unapplied-blocks : (queue number : ℕ) (command : Command) (reply : Reply) (moment : ℕ) → IsFalse reply.applied → host_blocks_of (host queue number command reply moment) ≡ 0
+unapplied-blocks queue number command reply moment unmade = rw unmade refl
+
+sums-ended : (found : Found) (es : List Entry) (x : Sums) (queue number : ℕ) (command : Command) (reply : Reply) (moment : ℕ) → IsFalse reply.applied → AreSumsOf found es x → AreSumsOf found (es ++ host queue number command reply moment ∷ []) x
+sums-ended found es x queue number command reply moment unmade h =
+    let none = unapplied-blocks queue number command reply moment unmade in
+    are_sums-push found es (host queue number command reply moment) x x h (omega (arith, none)) (omega arith) (omega arith) (omega (arith, none)) (omega arith) (omega arith)
+
+-- a flight less
+pub flights-less : (c : DriveConfig) (s n : PlainState) (flights new : List (Option Flight)) (queue : ℕ) → queue < length flights → IsAlike s n → n.going ≡ with_at s.going queue None → new ≡ slice_set flights queue None → AreFlightsOf c s flights → AreFlightsOf c n new
+flights-less c s n flights new queue there a going is h =
+    subst (λ (xs : List (Option Flight)). AreFlightsOf c n xs) (sym is)
+    (record {
+      rows = length-set flights queue None ∙ h.rows;
+      going = λ k. ap (λ (f : ℕ → Option Going). f k) going ∙ going-set s.going flights queue None None there refl h.going k;
+      target = flown-set (λ x. IsTrue (is_there n (going_of x)) → IsOnTarget c n (going_of x)) flights queue None there (λ x e. absurd cc) (λ k x e. flight-alike c s n x a (h.target k x e));
+    })
+
+-- the passes stay
+pub passes-same : (t now : PageTables) → now.passes ≡ t.passes → (rg : ℕ) → (passes_at now rg).pass ≡ (passes_at t rg).pass
+passes-same t now same rg = ap (λ (ps : List GroupPasses). (passes_at (record t { passes = ps }) rg).pass) same
+
+-- the end of a write: none is going in its queue any more
+pub held-ended : (c : DriveConfig) (found : Found) (first : Spot → Option Written) (es : List Entry) (t now : Tables) (queue number : ℕ) (command : Command) (reply : Reply) (moment : ℕ) (old : Option Flight) →
+    IsHeld c found first es t → IsQueue c queue → IsTrue (is_write command) → IsFalse reply.applied → Forgets t now queue old →
+    IsHeld c found first (es ++ host queue number command reply moment ∷ []) now
+held-ended c found first es t now queue number command reply moment old h queue_is write unmade forgets =
+    let e : Entry = host queue number command reply moment in
+    let p : Point = point_of c found es in
+    let q : Point = next c p e in
+    let kept = ended-kept c p queue number command reply moment unmade in
+    let there : queue < length t.flights.items = omega (arith, queue_is.1, h.flights_are.rows) in
+    let pages = h.pages_are in
+    let r : Pointer → Option Pointer = only (is_of_another queue) in
+    let going : q.state.going ≡ with_at p.state.going queue None = ended-going c p queue number command reply moment unmade ∙ ap (λ (b : Bool). if b then with_at p.state.going queue None else p.state.going) write in
+    let owners : owner_at now.pages.owners ≡ without (owner_at t.pages.owners) (live_of p.state (flight_in t.flights.items queue)) =
+    forgets.owners ∙ ap (without (owner_at t.pages.owners)) (live-known p.state t.spaces (flight_in t.flights.items queue) h.spaces_are.namespaces) in
+    let is : ended_by p.state queue reply.applied command ≡ r = ends-as p.state queue reply.applied command unmade ∙ ap (λ (b : Bool). if b then r else Some) write in
+    held-after c found first es e t now h (orderly-ended c p queue number command reply moment h.orderly unmade) (standing-ended c p queue number command reply moment h.orderly h.standing unmade)
+    (record {
+      setting_is = subst (λ (x : Tables). IsSettingOf q.state x.setting) (sym forgets.rest) (setting-alike p.state q.state t.setting kept.alike h.setting_is);
+      spaces_are = subst (λ (x : Tables). AreSpacesOf c q.state x.spaces) (sym forgets.rest) (spaces-alike c p.state q.state t.spaces kept.alike h.spaces_are);
+      map_is = subst (λ (x : Tables). IsMapOf q.state x.map) (sym forgets.rest) (map-alike p.state q.state t.map kept.alike kept.blocks h.map_is);
+      flights_are = flights-less c p.state q.state t.flights.items now.flights.items queue there kept.alike going forgets.flights_are h.flights_are;
+      units_are = units-same c p.state q.state t.pages now.pages kept.units (owners-alike t.pages now.pages forgets.pages) forgets.pages.handles h.units_are;
+    })
+    (subst (λ (x : Tables). AreSumsOf found (es ++ e ∷ []) x.sums) (sym forgets.rest) (sums-ended found es t.sums queue number command reply moment unmade h.sums_are))
+    (record {
+      at = renamed r pages.at;
+      led = led-unmade c p queue number command reply moment (written_by c found first es) r pages.at t.pages now.pages h.orderly.state unmade is
+          (owners-released (owner_at t.pages.owners) (owner_at now.pages.owners) pages.at queue (live_of p.state (flight_in t.flights.items queue)) pages.led.owned (its-pages p.state t.map t.flights.items pages.at queue pages.led.table.apart pages.leads) owners)
+          (named-ended p.state q.state queue pages.at going pages.led.named)
+          (λ unit. omega (arith, owners-next t.pages now.pages forgets.pages unit))
+          (subst (λ (k : Pointer → Option Pointer). (rg : ℕ) → rg < c.groups → IsPassOf (renamed k pages.at) q.trail rg (passes_at now.pages rg)) is
+          (all-renamed c p e pages.at c.groups (passes_at t.pages) (passes_at now.pages) refl (λ rg low. inl (passes-same t.pages now.pages forgets.pages.passes rg)) (λ rg low ends. absurd cc) pages.led.passes))
+          (copies-same t.pages now.pages forgets.pages.passes)
+          pages.led;
+      leads = subst (λ (x : Tables). LeadsTo (lead_in q.state x.map now.flights.items) (renamed r pages.at)) (sym forgets.rest)
+          (leads-without p.state q.state t.map t.flights.items now.flights.items queue None pages.at kept.alike.namespaces there forgets.flights_are (λ x none. absurd cc) pages.leads);
+    })
+
+-- the answer to another command: all stays
+pub held-answered : (c : DriveConfig) (found : Found) (first : Spot → Option Written) (es : List Entry) (t : Tables) (queue number : ℕ) (command : Command) (reply : Reply) (moment : ℕ) →
+    IsHeld c found first es t → IsFalse (is_write command) → IsFalse reply.applied →
+    IsHeld c found first (es ++ host queue number command reply moment ∷ []) t
+held-answered c found first es t queue number command reply moment h other unmade =
+    let e : Entry = host queue number command reply moment in
+    let p : Point = point_of c found es in
+    let q : Point = next c p e in
+    let kept = ended-kept c p queue number command reply moment unmade in
+    let pages = h.pages_are in
+    let going : q.state.going ≡ p.state.going = ended-going c p queue number command reply moment unmade ∙ ap (λ (b : Bool). if b then with_at p.state.going queue None else p.state.going) other in
+    let is : ended_by p.state queue reply.applied command ≡ Some = ends-as p.state queue reply.applied command unmade ∙ ap (λ (b : Bool). if b then only (is_of_another queue) else Some) other in
+    held-after c found first es e t t h (orderly-ended c p queue number command reply moment h.orderly unmade) (standing-ended c p queue number command reply moment h.orderly h.standing unmade)
+    (record {
+      setting_is = setting-alike p.state q.state t.setting kept.alike h.setting_is;
+      spaces_are = spaces-alike c p.state q.state t.spaces kept.alike h.spaces_are;
+      map_is = map-alike p.state q.state t.map kept.alike kept.blocks h.map_is;
+      flights_are = flights-alike c p.state q.state t.flights.items kept.alike going h.flights_are;
+      units_are = units-same c p.state q.state t.pages t.pages kept.units (alike-self t.pages.units) refl h.units_are;
+    })
+    (sums-ended found es t.sums queue number command reply moment unmade h.sums_are)
+    (record {
+      at = pages.at;
+      led = led-unmade c p queue number command reply moment (written_by c found first es) Some pages.at t.pages t.pages h.orderly.state unmade is pages.led.owned (named-same p.state q.state pages.at going pages.led.named) (λ unit. omega arith)
+          (subst (λ (k : Pointer → Option Pointer). (rg : ℕ) → rg < c.groups → IsPassOf (renamed k pages.at) q.trail rg (passes_at t.pages rg)) is
+          (all-renamed c p e pages.at c.groups (passes_at t.pages) (passes_at t.pages) refl (λ rg low. inl refl) (λ rg low ends. absurd cc) pages.led.passes))
+          (λ rg x among. among)
+          pages.led;
+      leads = leads-same p.state q.state t.map t.flights.items pages.at kept.alike.namespaces pages.leads;
+    })

@@ -1,97 +1,139 @@
--- The tables of a book before its first entry.
-use Rattle.std.proofs.Common.{◌≡◌, ℕ, zero, suc, ◌+◌, ◌*◌, ◌<◌, ◌≤◌, List, [], Option, None, Some, refl, ap, sym, subst, ◌∙◌, arith, replicate}
-use Rattle.std.specs.Prelude.{option_map, slice_get, slice_index}
+-- The tables that a drive is made with.
+use Rattle.std.proofs.Common.{◌≡◌, ℕ, zero, suc, ◌+◌, ◌*◌, ◌<◌, List, [], Option, Some, None, refl, sym, ◌∙◌, ap, subst, arith, replicate}
+use Rattle.std.specs.Prelude.{Contains, option_and_then, option_map, slice_index_or}
+use Rattle.std.specs.Option.{option_map_or}
 use Rattle.std.proofs.lemmas.List.{length-replicate}
-use Rattle.std.proofs.lemmas.Option.{none-some}
 use Rattle.fdp_base.specs.declared.config.DriveConfig.{DriveConfig}
+use Rattle.fdp_base.specs.declared.entry.Copied.{Copied}
+use Rattle.fdp_base.specs.declared.entry.Spot.{Spot}
 use Rattle.fdp_base.specs.Config.{IsValidConfig}
-use Rattle.fdp_rules.specs.Effect.{no_reference}
-use Rattle.fdp_base.specs.Geometry.{all_pages}
-use Rattle.fdp_rules.specs.History.{first_state, fresh, point_of, state_of}
-use Rattle.fdp_base.specs.Placement.{classes_of, geometry_of}
-use Rattle.fdp_flash.specs.declared.cell.Cell.TheVariants.{Blank}
-use Rattle.fdp_flash.proofs.Lists.{slice_get-replicate}
-use Rattle.fdp_history.proofs.Fresh.{orderly-fresh, standing-fresh}
-use Rattle.fdp_handles.specs.HandleTable.{reference_at}
-use Rattle.fdp_map.specs.MapTable.{MapTable}
-use Rattle.fdp_map.specs.declared.mapped.Mapped.{Mapped}
+use Rattle.fdp_base.specs.Placement.{classes_of}
 use Rattle.fdp_book.specs.declared.flight.Flight.{Flight}
-use Rattle.fdp_book.specs.Configured.{AreConfiguredSpaces, IsConfiguredMap}
-use Rattle.fdp_book.specs.Held.{AreFlightsOf, AreUnitsOf, IsHeld, IsMapOf, IsMappedAs, flight_in, going_of, AreSumsOf}
-use Rattle.fdp_book.specs.Pages.{blank_cells, cells_from, cells_of}
-use Rattle.std.proofs.lemmas.Nat.{mul-le, row_fits}
-use Rattle.fdp_book.proofs.Units.Unused.{unit-below}
-use Rattle.fdp_book.specs.declared.tables.Tables.{Tables}
 use Rattle.fdp_book.specs.declared.tables.Setting.{Setting}
 use Rattle.fdp_book.specs.declared.tables.Sums.{Sums}
+use Rattle.fdp_book.specs.declared.tables.Tables.{Tables}
+use Rattle.fdp_book.specs.Book.{AreUnused}
+use Rattle.fdp_book.specs.Configured.{AreConfiguredSpaces, IsConfiguredMap, no_pages}
+use Rattle.fdp_book.specs.Held.{AreFlightsOf, ArePagesOf, AreSumsOf, IsHeld, IsMapOf, flight_in, going_of, lead_in, page_in}
+use Rattle.fdp_history.proofs.Fresh.{orderly-fresh, standing-fresh}
+use Rattle.fdp_locations.specs.Located.{AreUnitsOf}
+use Rattle.fdp_locations.specs.Written.{written_by, written_from}
+use Rattle.fdp_map.specs.declared.mapped.Mapped.{Mapped}
+use Rattle.fdp_map.specs.MapTable.{MapTable}
+use Rattle.fdp_owners.specs.declared.owner.Owner.{Owner}
+use Rattle.fdp_owners.specs.Owned.{AreOwners}
+use Rattle.fdp_owners.proofs.Owned.{owners-none}
+use Rattle.fdp_pages.specs.Joined.{AreJoined}
+use Rattle.fdp_pages.specs.PageTables.{PageTables, no_passes, no_targets, passes_at}
+use Rattle.fdp_passes.specs.GroupPasses.{GroupPasses, Pass}
+use Rattle.fdp_passes.specs.Due.{copies_in}
+use Rattle.fdp_pointers.specs.Facts.{Page}
+use Rattle.fdp_pointers.specs.Pointers.{Pointer, Pointer.of_block, Pointer.of_flight}
+use Rattle.fdp_pointers.proofs.Opening.{table-fresh}
+use Rattle.fdp_rules.specs.History.{first_state, fresh, point_of, state_of}
+use Rattle.fdp_trails.proofs.Following.{pass-ended}
+use Rattle.fdp_units.specs.declared.data_unit.DataUnit.{DataUnit}
+use Rattle.fdp_units.specs.DataUnits.{is_lost}
+use Rattle.fdp_units.specs.UnitTable.{Cut, cut_of, unit_at}
 
--- no flight is in a row of empty ones
-pub none_in : (n q : ℕ) → flight_in (replicate n None) q ≡ None
-none_in zero q = refl
+none-some : (f : Flight) → None ≡ Some f → ⊥
+none-some f e = cc
+
+none_in : (n q : ℕ) → flight_in (replicate n None) q ≡ None
+none_in zero zero = refl
+none_in zero (suc q) = refl
 none_in (suc n) zero = refl
 none_in (suc n) (suc q) = none_in n q
 
-zero_at : (n i : ℕ) → slice_index (replicate n 0) i ≡ 0
-zero_at zero i = refl
-zero_at (suc n) zero = refl
-zero_at (suc n) (suc i) = zero_at n i
+passless : (n rg : ℕ) (pages : ℕ) → (slice_index_or (replicate n (no_targets pages)) rg no_passes).pass ≡ None
+passless zero zero pages = refl
+passless zero (suc rg) pages = refl
+passless (suc n) zero pages = refl
+passless (suc n) (suc rg) pages = passless n rg pages
+
+-- what the pages are made with
+pub record AreFreshPages (c : DriveConfig) (t : PageTables) : Type 0 where
+  pub joined : AreJoined t
+  pub classes : t.handles.classes ≡ classes_of c c.enabled c.index
+  pub cut : cut_of t.units ≡ record { unit_pages = c.unit_pages; group_units = c.units; groups = c.groups }
+  pub unused : AreUnused c t
+
+no-copy : (o : Option Pass) (p : GroupPasses) (copy : Copied) → p.pass ≡ o → o ≡ None → Contains (copies_in p) copy → ⊥
+no-copy o p copy is none has =
+    let empty : copies_in p ≡ [] = ap (λ (x : Option Pass). copies_in (record p { pass = x })) (is ∙ none) in
+    let has_none : Contains [] copy = subst (λ (xs : List Copied). Contains xs copy) empty has in
+    omega (arith, has_none.1)
 
 module _ (c : DriveConfig) (valid : IsValidConfig c) where
-  flights-fresh : AreFlightsOf c (point_of c (fresh c) []) (cells_of c (fresh c) []) (replicate (c.queues + 1) None)
+  flights-fresh : AreFlightsOf c (point_of c (fresh c) []).state (replicate (c.queues + 1) None)
   unfolding point_of state_of first_state
   flights-fresh = record {
     rows = length-replicate (c.queues + 1) None;
     going = λ queue. sym (ap (λ (f : Option Flight). option_map going_of f) (none_in (c.queues + 1) queue));
-    flown = λ queue f e. absurd (none-some f (sym (none_in (c.queues + 1) queue) ∙ e));
+    target = λ queue f e. absurd (none-some f (sym (none_in (c.queues + 1) queue) ∙ e));
   }
 
-  blank-at : (unit page : ℕ) → unit < c.groups * c.units → page < c.unit_pages → slice_get (blank_cells c) (unit * c.unit_pages + page) ≡ Some Blank
-  unfolding blank_cells
-  blank-at unit page below in_unit =
-      let row : unit * c.unit_pages + c.unit_pages ≤ c.groups * c.units * c.unit_pages = row_fits unit c.unit_pages (c.groups * c.units) c.unit_pages below (omega arith) in
-      let all = mul-le c.unit_pages (c.groups * c.units) c.unit_pages (c.groups * c.units + 2 * c.area_units) (omega arith) (omega arith) in
-      slice_get-replicate (all_pages (geometry_of c)) (unit * c.unit_pages + page) Blank (omega (arith, row, all, in_unit))
-
-  units-fresh : AreUnitsOf c [] (point_of c (fresh c) []).state (cells_of c (fresh c) []) (replicate c.groups 0)
-  unfolding point_of state_of first_state cells_of cells_from blank_cells
-  units-fresh = record {
-    pages = length-replicate (all_pages (geometry_of c)) Blank;
-    groups = length-replicate c.groups 0;
-    most = λ rg below. omega (arith, zero_at c.groups rg);
-    used_are = λ rg i below few. absurd (omega (arith, zero_at c.groups rg, few));
-    unused_are = λ rg i below past in_group. record {
-      unnamed = refl;
-      unreferenced = λ r h e. none-some _ e;
-      blank = record { blank = λ page in_unit. blank-at (rg * c.units + i) page (unit-below c.groups c.units rg i below in_group) in_unit };
-    };
-    blank = λ rg ruh unit e. absurd (none-some unit e);
-  }
-
-  map-fresh : (x : MapTable) → IsConfiguredMap c x → IsMapOf c (point_of c (fresh c) []) (cells_of c (fresh c) []) x
+  map-fresh : (x : MapTable) → IsConfiguredMap c x → IsMapOf (point_of c (fresh c) []).state x
   unfolding point_of state_of first_state fresh
   map-fresh x h = record {
     sizes = λ nsid. sym (h.sizes nsid);
     most = h.most;
-    blocks = λ nsid lba. subst (λ (m : Option Mapped). IsMappedAs c (point_of c (fresh c) []) (cells_of c (fresh c) []) nsid lba None m) (sym (h.absent nsid lba)) tt;
+    groups = λ nsid lba. sym (ap (option_map (λ (m : Mapped). m.rg)) (h.absent nsid lba));
   }
+
+  units-fresh : (t : PageTables) → AreFreshPages c t → AreUnitsOf c (point_of c (fresh c) []).state t
+  unfolding point_of state_of first_state fresh
+  units-fresh t h = record {
+    cut = h.cut;
+    agrees = record {
+      units = sym (ap (λ (x : Cut). x.group_units) h.cut);
+      lost = λ unit there. sym (ap (λ (x : DataUnit). is_lost x.state) (h.unused.units unit (subst (λ (x : Cut). unit < x.groups * x.group_units) h.cut there)));
+      worn = λ rg. sym (h.unused.worn rg);
+    };
+    unit_pages = sym (h.joined.cut.unit_pages ∙ ap (λ (x : Cut). x.unit_pages) h.cut);
+    groups = sym (h.joined.cut.groups ∙ ap (λ (x : Cut). x.groups) h.cut);
+    classes = sym h.classes;
+    references = λ rg ruh. sym (h.unused.references rg ruh);
+  }
+
+  pages-fresh : (map : MapTable) (t : PageTables) → IsConfiguredMap c map → AreFreshPages c t → ArePagesOf c (point_of c (fresh c) []) (written_by c (fresh c) no_pages []) map (replicate (c.queues + 1) None) t
+  unfolding written_from
+  pages-fresh map t m h = record {
+    at = λ q. None;
+    led = record {
+      table = table-fresh c (λ unit. (unit_at t.units unit).next);
+      owned = subst (λ (o : Spot → Option Owner). AreOwners o (λ q. None)) (λ d spot. sym (h.unused.owners spot) d) owners-none;
+      named = λ queue index g w y going write e. absurd cc;
+      holds = λ q y x e k. absurd cc;
+      below = λ spot x e. absurd cc;
+      passes = λ rg low. pass-ended (λ q. None) (point_of c (fresh c) []).trail rg (passes_at t rg) (ap (λ (o : Option Pass). option_map_or (λ (pass : Pass). pass.copies) o []) (none-under_way rg));
+      copies = λ rg low copy has. absurd (no-copy (passes_at t rg).pass (passes_at t rg) copy refl (none-under_way rg) has);
+    };
+    leads = leads;
+  }
+    where
+      none-under_way : (rg : ℕ) → (passes_at t rg).pass ≡ None
+      none-under_way rg = ap (λ (ps : List GroupPasses). (slice_index_or ps rg no_passes).pass) h.unused.passes ∙ passless c.groups rg c.unit_pages
+
+      leads : (q : Pointer) → option_map (λ (y : Page). y.spot) None ≡ lead_in (point_of c (fresh c) []).state map (replicate (c.queues + 1) None) q
+      leads (of_block nsid lba) = sym (ap (option_map (λ (x : Mapped). x.spot)) (m.absent nsid lba))
+      leads (of_flight queue index) = sym (ap (option_and_then (page_in (point_of c (fresh c) []).state index)) (none_in (c.queues + 1) queue))
 
   -- the tables of a book that was made for a configuration
   pub held-fresh : (tables : Tables) →
       tables.setting ≡ record { enabled = c.enabled; index = c.index; generation = 0 } → tables.sums ≡ record { host_blocks = 0; media_blocks = 0; erases = 0 } →
-      AreConfiguredSpaces c tables.spaces → tables.handles.unit_pages ≡ c.unit_pages → tables.handles.groups ≡ c.groups → tables.handles.classes ≡ classes_of c c.enabled c.index → ((rg ruh : ℕ) → reference_at tables.handles rg ruh ≡ no_reference c) →
-      IsConfiguredMap c tables.map → tables.flights.items ≡ replicate (c.queues + 1) None → tables.used.items ≡ replicate c.groups 0 →
-      IsHeld c (fresh c) [] tables
+      AreConfiguredSpaces c tables.spaces → AreFreshPages c tables.pages → IsConfiguredMap c tables.map → tables.flights.items ≡ replicate (c.queues + 1) None →
+      IsHeld c (fresh c) no_pages [] tables
   unfolding point_of state_of first_state fresh
-  held-fresh tables setting sums s unit_pages groups classes references m f u = record {
+  held-fresh tables setting sums s pages m f = record {
     config = valid;
     orderly = orderly-fresh c valid;
     standing = standing-fresh c;
     setting_is = record { enabled = sym (ap (λ (x : Setting). x.enabled) setting); index = sym (ap (λ (x : Setting). x.index) setting); generation = sym (ap (λ (x : Setting). x.generation) setting) };
-    sums_are = subst (λ (x : Sums). AreSumsOf (fresh c) [] x) (sym sums) (record { host_blocks_are = refl; media_blocks_are = refl; erases_are = refl; no_erases = refl; few_host_blocks = omega arith; few_media_blocks = omega arith });
-    all_units = record { kept = λ unit. refl; unworn = λ rg. refl };
+    sums_are = subst (λ (x : Sums). AreSumsOf (fresh c) [] x) (sym sums) (record { host_blocks_are = refl; media_blocks_are = refl; erases_are = refl; few_host_blocks = omega arith; few_media_blocks = omega arith; few_erases = omega arith });
     spaces_are = record { groups = sym s.groups; namespaces = λ nsid. sym (s.namespaces nsid) };
-    handles_are = record { unit_pages = sym unit_pages; groups = sym groups; classes = sym classes; references = λ rg ruh. sym (references rg ruh) };
     map_is = map-fresh tables.map m;
-    flights_are = subst (λ (xs : List (Option Flight)). AreFlightsOf c (point_of c (fresh c) []) (cells_of c (fresh c) []) xs) (sym f) flights-fresh;
-    units_are = subst (λ (xs : List ℕ). AreUnitsOf c [] (point_of c (fresh c) []).state (cells_of c (fresh c) []) xs) (sym u) units-fresh;
+    flights_are = subst (λ (xs : List (Option Flight)). AreFlightsOf c (point_of c (fresh c) []).state xs) (sym f) flights-fresh;
+    units_are = units-fresh tables.pages pages;
+    pages_are = subst (λ (xs : List (Option Flight)). ArePagesOf c (point_of c (fresh c) []) (written_by c (fresh c) no_pages []) tables.map xs tables.pages) (sym f) (pages-fresh tables.map tables.pages m pages);
   }

@@ -1,190 +1,245 @@
--- What a page that is placed leaves.
-use Rattle.std.proofs.Common.{◌≡◌, ◌≢◌, ℕ, ◌+◌, ◌*◌, ◌<◌, Bool, true, List, [], ◌∷◌, ◌++◌, length, slice_get, slice_index, slice_set, Option, Some, None, refl, sym, ◌∙◌, ap, subst, arith}
-use Rattle.std.specs.Prelude.{option_map}
+-- What a page that is placed leaves of the tables.
+use Rattle.std.proofs.Common.{◌≡◌, ◌≢◌, ℕ, zero, suc, ◌+◌, ◌≤◌, ◌<◌, Bool, true, false, List, [], ◌∷◌, ◌++◌, length, Option, Some, None, slice_get, slice_set, refl, sym, ◌∙◌, ap, subst, arith, ⊎_elim, inl, eq-eqb, ne_eqb}
+use Rattle.std.specs.Prelude.{◌==◌, ◌&&◌, IfSome, IsTrue, if◌then◌else◌, option_and_then, option_map}
+use Rattle.std.proofs.lemmas.Bool.{cases_eq}
 use Rattle.std.proofs.Math.ListN.{length-set}
-use Rattle.std.proofs.lemmas.Option.{slice_get_within}
-use Rattle.fdp_rules.proofs.Pushes.{point_of-push}
+use Rattle.fdp_base.specs.declared.command.Write.{Write}
 use Rattle.fdp_base.specs.declared.config.DriveConfig.{DriveConfig}
 use Rattle.fdp_base.specs.declared.entry.Entry.{Entry}
 use Rattle.fdp_base.specs.declared.entry.Entry.TheVariants as entries
 use Rattle.fdp_base.specs.declared.entry.Spot.{Spot}
-use Rattle.fdp_rules.specs.Change.{one_less, one_more_placed}
 use Rattle.fdp_base.specs.CommandKinds.{write_of}
-use Rattle.fdp_rules.specs.Effect.{References, with_reference}
-use Rattle.fdp_rules.specs.History.{point_of, Found}
-use Rattle.fdp_rules.specs.Next.{next}
-use Rattle.fdp_base.specs.Pattern.{payload_block}
-use Rattle.fdp_base.specs.Placement.{classes_of, geometry_of}
-use Rattle.fdp_rules.specs.PlainState.{Block, Going, PageName.written, PlainState, Reference}
-use Rattle.fdp_rules.specs.Point.{Point}
-use Rattle.fdp_rules.specs.Sites.{group_of}
-use Rattle.fdp_base.specs.Spare.{data_spare}
-use Rattle.fdp_rules.specs.Step.{Follows, IsNextPage, IsPage, IsPlaced}
-use Rattle.fdp_flash.proofs.Lists.{slice_get-set_same}
-use Rattle.fdp_flash.specs.declared.cell.Cell.{Cell}
-use Rattle.fdp_flash.specs.declared.cell.Cell.TheVariants.{Blank, Whole}
-use Rattle.fdp_flash.specs.Cells.{IsBlankFrom}
-use Rattle.fdp_flash.specs.Layout.{page_number}
-use Rattle.fdp_handles.specs.HandleTable.{HandleTable, reference_at}
-use Rattle.fdp_history.proofs.Points.{orderly-next}
-use Rattle.fdp_history.proofs.Standing.{standing-next}
-use Rattle.fdp_history.specs.OrderlyState.{IsOrderlyState}
-use Rattle.fdp_map.specs.MapTable.{MapTable}
-use Rattle.fdp_spaces.specs.SpaceTable.{SpaceTable}
-use Rattle.fdp_book.specs.declared.tables.Setting.{Setting}
+use Rattle.fdp_base.specs.Numbers.{with_at}
 use Rattle.fdp_book.specs.declared.flight.Flight.{Flight}
-use Rattle.fdp_book.specs.Flown.{IsPageMore, used_after}
-use Rattle.fdp_book.specs.Held.{AreFlightsOf, AreHandlesOf, AreUnitsOf, IsFlightOf, IsHeld, flight_in, going_of, IsSettingOf, AreSpacesOf, IsMapOf}
-use Rattle.fdp_book.specs.Pages.{cells_after, cells_of, next_page}
-use Rattle.fdp_book.proofs.Flights.Rows.{flown-set, going-set}
-use Rattle.fdp_book.proofs.Kept.Grown.{all_units-grown, classes-grown, flight-grown, map-grown, setting-grown, spaces-grown}
-use Rattle.fdp_book.proofs.Held.At.{held-at}
-use Rattle.fdp_book.proofs.Held.Sums.{are_sums-push}
-use Rattle.fdp_book.proofs.Histories.Longer.{cells_of-push}
-use Rattle.fdp_book.proofs.Placing.Pages.{IsPageBy, flight-more}
-use Rattle.fdp_book.proofs.Units.More.{units-placed}
-use Rattle.fdp_book.proofs.Placing.Points.{IsPlacedFor, placed-for, write-is}
+use Rattle.fdp_book.specs.declared.tables.Setting.{Setting}
 use Rattle.fdp_book.specs.declared.tables.Tables.{Tables}
-use Rattle.fdp_base.specs.declared.command.Write.{Write}
+use Rattle.fdp_book.specs.Flown.{IsPageMore}
+use Rattle.fdp_book.specs.Held.{AreFlightsOf, AreSpacesOf, IsHeld, IsMapOf, IsSettingOf, flight_in, going_of, lead_in, page_in}
+use Rattle.fdp_book.proofs.Flights.Rows.{flight_in-set, flown-set, going-set}
+use Rattle.fdp_book.proofs.Held.Ended.{passes-same}
+use Rattle.fdp_book.proofs.Held.Next.{held-next}
+use Rattle.fdp_book.proofs.Held.Sums.{are_sums-push}
+use Rattle.fdp_book.proofs.Kept.{IsAlike, flight-alike, map-alike, setting-alike, spaces-alike, there-alike}
+use Rattle.fdp_book.proofs.Leading.{pages-same}
+use Rattle.fdp_book.proofs.Placing.Fresh.{IsFreshPage, fresh-apart}
+use Rattle.fdp_history.proofs.Placing.{going_with-is}
+use Rattle.fdp_history.specs.OrderlyState.{IsOrderlyState}
+use Rattle.fdp_locations.specs.Located.{LeadsTo, next_in}
+use Rattle.fdp_locations.specs.Written.{Written, next_spare, written_by}
+use Rattle.fdp_locations.proofs.Placed.{IsNewPage, going-placed, led-placed}
+use Rattle.fdp_locations.proofs.Units.{changed-next, puts-alike, units-referring}
+use Rattle.fdp_handles.specs.HandleTable.{reference_at}
+use Rattle.fdp_map.specs.MapTable.{MapTable}
+use Rattle.fdp_base.specs.declared.spare.DataSpare.{DataSpare}
+use Rattle.fdp_owners.specs.OwnerTable.{pointer_in}
+use Rattle.fdp_owners.specs.declared.owner.Holder.{Holder}
+use Rattle.fdp_owners.specs.declared.owner.Holder.TheVariants as holders
+use Rattle.fdp_owners.specs.declared.owner.Owner.{Owner}
+use Rattle.fdp_owners.specs.Owned.{page_of}
+use Rattle.fdp_owners.specs.OwnerTable.{pointer_of}
+use Rattle.fdp_pages.specs.Joined.{AreJoined}
+use Rattle.fdp_pages.specs.PageTables.{copies_at, passes_at}
+use Rattle.fdp_pages.specs.Steps.{PutsPage}
+use Rattle.fdp_passes.specs.GroupPasses.{GroupPasses, Pass}
+use Rattle.fdp_pointers.specs.Facts.{Page}
+use Rattle.fdp_pointers.specs.Pointers.{Behind, Pointer.of_block, Pointer.of_flight, pointed}
+use Rattle.fdp_rules.specs.Change.{after, changed_by, one_less, one_more_placed, placed_references}
+use Rattle.fdp_rules.specs.Effect.{with_reference}
+use Rattle.fdp_rules.specs.History.{Found, point_of}
+use Rattle.fdp_rules.specs.Next.{next}
+use Rattle.fdp_rules.specs.PlainState.{Going, PlainState, Reference}
+use Rattle.fdp_rules.specs.Point.{Point}
+use Rattle.fdp_rules.specs.Sites.{is_there}
+use Rattle.fdp_rules.specs.Step.{Follows, IsOnTarget, IsPlaced}
+use Rattle.fdp_spaces.specs.SpaceTable.{SpaceTable}
+use Rattle.fdp_trails.proofs.Grouping.{all-placed}
+use Rattle.fdp_units.specs.UnitTable.{Cut}
 
--- the pages of the going writes are other ones
-pages-other : (c : DriveConfig) (p : Point) (cells : List Cell) (flights : List (Option Flight)) (queue : ℕ) (f : Flight) → IsOrderlyState c p.state → AreFlightsOf c p cells flights → flight_in flights queue ≡ Some f → (k : ℕ) (x : Flight) → flight_in flights k ≡ Some x → (index : ℕ) (spot : Spot) → slice_get x.pages.items index ≡ Some spot → written x.ticket index ≢ written f.ticket (length f.pages.items)
-pages-other c p cells flights queue f orderly h there k x is index spot e same =
-    let tickets : x.ticket ≡ f.ticket = cc in
-    let indexes : index ≡ length f.pages.items = cc in
-    let mine : p.state.going queue ≡ Some (going_of f) = h.going queue ∙ ap (option_map going_of) there in
-    let its : p.state.going k ≡ Some (going_of x) = h.going k ∙ ap (option_map going_of) is in
-    let queues : k ≡ queue = orderly.tickets k queue (going_of x) (going_of f) its mine tickets in
-    let one : Some x ≡ Some f = sym is ∙ ap (flight_in flights) queues ∙ there in
-    let flights_same : x ≡ f = cc in
-    let within : index < length x.pages.items = slice_get_within x.pages.items index spot e in
-    let shorter : index < length f.pages.items = subst (λ (y : Flight). index < length y.pages.items) flights_same within in
-    absurd (omega (arith, shorter, indexes))
+abbrev placed_entry : ℕ → ℕ → Spot → Entry
+placed_entry ticket index spot = entries.Placed (record { ticket = ticket; index = index; unit = spot.unit; page = spot.page })
 
--- the page that was placed last is whole, with its block
-last-page : (c : DriveConfig) (p q : Point) (cells new : List Cell) (queue : ℕ) (f : Flight) (spot : Spot) (w : Write) → IsPlacedFor c p q cells new queue (length f.pages.items) f spot w → write_of f.room.command ≡ Some w → slice_get cells (page_number (geometry_of c) spot) ≡ Some Blank → IsPage c spot → IsPageBy c q new (going_of f) (length f.pages.items) spot
-last-page c p q cells new queue f spot w h write blank page = record {
-  site = h.site;
-  page = page;
-  whole = λ v is there.
-      let n : ℕ = page_number (geometry_of c) spot in
-      let same : Some w ≡ Some v = sym write ∙ is in
-      let one : w ≡ v = cc in
-      let before : slice_get new n ≡ Some (next_page c p.state (going_of f) w) =
-      ap (λ (xs : List Cell). slice_get xs n) h.cells_are ∙ slice_get-set_same cells n (next_page c p.state (going_of f) w) (slice_get_within cells n Blank blank) in
-      subst (λ (generation : ℕ). slice_get new n ≡ Some (Whole (data_spare (record { ruh = f.ruh; rg = f.rg; generation = generation; ticket = f.ticket; nsid = v.nsid; index = length f.pages.items; lba = v.slba + length f.pages.items })) (payload_block c.block v.payload (length f.pages.items))))
-      (sym h.grown.generation) (before ∙ ap (λ (y : Write). Some (next_page c p.state (going_of f) y)) one);
+placed-alike : (c : DriveConfig) (p : Point) (ticket index : ℕ) (spot : Spot) → IsAlike p.state (next c p (placed_entry ticket index spot)).state
+unfolding next after changed_by
+placed-alike c p ticket index spot = record { enabled = refl; index = refl; generation = refl; namespaces = refl }
+
+placed-blocks : (c : DriveConfig) (p : Point) (ticket index : ℕ) (spot : Spot) → (next c p (placed_entry ticket index spot)).state.blocks ≡ p.state.blocks
+unfolding next after changed_by
+placed-blocks c p ticket index spot = refl
+
+-- the references after it
+record HasReferences (c : DriveConfig) (s n : PlainState) (rg ruh unit : ℕ) : Type 0 where
+  references : n.references ≡ with_reference s.references rg ruh (one_less c unit (s.references rg ruh))
+  is_lost : n.is_lost ≡ s.is_lost
+  is_worn : n.is_worn ≡ s.is_worn
+
+placed-references : (c : DriveConfig) (p : Point) (queue index : ℕ) (f : Flight) (spot : Spot) → IsOrderlyState c p.state → 1 ≤ queue → queue ≤ c.queues → p.state.going queue ≡ Some (going_of f) → HasReferences c p.state (next c p (placed_entry f.ticket index spot)).state f.rg f.ruh spot.unit
+unfolding next after changed_by
+placed-references c p queue index f spot orderly low high going = record {
+  references = ap (placed_references c p.state.references spot.unit) (going_with-is c p.state queue f.ticket (going_of f) orderly low high going refl);
+  is_lost = refl;
+  is_worn = refl;
 }
 
-flights-placed : (c : DriveConfig) (p q : Point) (cells new : List Cell) (flights : List (Option Flight)) (queue : ℕ) (f more : Flight) (spot : Spot) (w : Write) → IsOrderlyState c p.state → queue < length flights → IsPlacedFor c p q cells new queue (length f.pages.items) f spot w → write_of f.room.command ≡ Some w → slice_get cells (page_number (geometry_of c) spot) ≡ Some Blank → IsPage c spot → flight_in flights queue ≡ Some f → IsPageMore f spot more → AreFlightsOf c p cells flights → AreFlightsOf c q new (slice_set flights queue (Some more))
-flights-placed c p q cells new flights queue f more spot w orderly within h write blank page there grown flights_are =
-    let other = pages-other c p cells flights queue f orderly flights_are there in
-    let fresh_one : IsFlightOf c q new more = flight-more c p q cells new (written f.ticket (length f.pages.items)) f more spot h.grown (other queue f there) grown (last-page c p q cells new queue f spot w h write blank page) (flights_are.flown queue f there) in
-    record {
-      rows = length-set flights queue (Some more) ∙ flights_are.rows;
-      going = λ k. h.going k ∙ going-set p.state.going flights queue (Some (one_more_placed (going_of f))) (Some more) within (ap (λ (g : Going). Some g) (sym grown.going_is)) flights_are.going k;
-      flown = flown-set (IsFlightOf c q new) flights queue (Some more) within
-          (λ x e. let one : more ≡ x = cc in subst (IsFlightOf c q new) one fresh_one)
-          (λ k x e. flight-grown c p q cells new (written f.ticket (length f.pages.items)) x h.grown (other k x e) (flights_are.flown k x e));
-    }
+-- ---- where the pointers lead
 
-handles-placed : (c : DriveConfig) (s t : PlainState) (handles new : HandleTable) (rg ruh unit : ℕ) → new.unit_pages ≡ handles.unit_pages → new.groups ≡ handles.groups → new.classes ≡ handles.classes → reference_at new ≡ with_reference (reference_at handles) rg ruh (one_less c unit (reference_at handles rg ruh)) → t.references ≡ with_reference s.references rg ruh (one_less c unit (s.references rg ruh)) →
-    classes_of c t.enabled t.index ≡ classes_of c s.enabled s.index → AreHandlesOf c s handles → AreHandlesOf c t new
-handles-placed c s t handles new rg ruh unit pages groups classes is after_is in_force h =
-    let same : s.references ≡ reference_at handles = λ d r k. h.references r k d in
-    let all : t.references ≡ reference_at new = after_is ∙ ap (λ (refs : References). with_reference refs rg ruh (one_less c unit (refs rg ruh))) same ∙ sym is in
-    record {
-      unit_pages = h.unit_pages ∙ sym pages;
-      groups = h.groups ∙ sym groups;
-      classes = in_force ∙ h.classes ∙ sym classes;
-      references = λ r k. ap (λ (refs : References). refs r k) all;
-    }
+shown : (b : Bool) (xs ys : List Spot) (i : ℕ) → slice_get xs i ≡ slice_get ys i → (if b then slice_get xs i else None) ≡ (if b then slice_get ys i else None)
+shown true xs ys i e = e
+shown false xs ys i e = refl
+
+no_spots : List Spot
+no_spots = []
+
+get-past : (k : ℕ) → slice_get no_spots k ≡ slice_get no_spots (suc k)
+unfolding no_spots
+get-past zero = refl
+get-past (suc k) = refl
+
+get-more : (xs : List Spot) (x : Spot) (i : ℕ) → i ≢ length xs → slice_get (xs ++ x ∷ []) i ≡ slice_get xs i
+unfolding no_spots
+get-more [] x zero ne = absurd (ne refl)
+get-more [] x (suc i) ne = get-past i
+get-more (y ∷ ys) x zero ne = refl
+get-more (y ∷ ys) x (suc i) ne = get-more ys x i (λ e. ne (ap suc e))
+
+get-last : (xs : List Spot) (x : Spot) → slice_get (xs ++ x ∷ []) (length xs) ≡ Some x
+get-last [] x = refl
+get-last (y ∷ ys) x = get-last ys x
+
+-- the pages of the flight with one page more
+page-more : (s n : PlainState) (f more : Flight) (spot : Spot) (i : ℕ) → n.namespaces ≡ s.namespaces → IsPageMore f spot more → i ≢ length f.pages.items → page_in n i more ≡ page_in s i f
+page-more s n f more spot i same h ne =
+    let command : more.room.command ≡ f.room.command = ap (λ (g : Going). g.command) h.going_is in
+    let birth : more.birth ≡ f.birth = ap (λ (g : Going). g.birth) h.going_is in
+    let there : is_there n (going_of more) ≡ is_there s (going_of f) = ap (is_there n) h.going_is ∙ there-alike s n (going_of f) same in
+    ap (λ (b : Bool). if b then slice_get more.pages.items i else None) there
+    ∙ shown (is_there s (going_of f)) more.pages.items f.pages.items i (ap (λ (xs : List Spot). slice_get xs i) h.pages_are ∙ get-more f.pages.items spot i ne)
+
+page-last : (s n : PlainState) (f more : Flight) (spot : Spot) → n.namespaces ≡ s.namespaces → IsPageMore f spot more → IsTrue (is_there s (going_of f)) → page_in n (length f.pages.items) more ≡ Some spot
+page-last s n f more spot same h there =
+    ap (λ (b : Bool). if b then slice_get more.pages.items (length f.pages.items) else None) (ap (is_there n) h.going_is ∙ there-alike s n (going_of f) same ∙ there)
+    ∙ ap (λ (xs : List Spot). slice_get xs (length f.pages.items)) h.pages_are ∙ get-last f.pages.items spot
+
+leads-more : (s n : PlainState) (map : MapTable) (flights new : List (Option Flight)) (queue : ℕ) (f more : Flight) (spot : Spot) (y : Page) (at : Behind Page) → n.namespaces ≡ s.namespaces → queue < length flights → flight_in flights queue ≡ Some f → new ≡ slice_set flights queue (Some more) → IsPageMore f spot more → IsTrue (is_there s (going_of f)) → y.spot ≡ spot → LeadsTo (lead_in s map flights) at → LeadsTo (lead_in n map new) (pointed at queue (length f.pages.items) y)
+leads-more s n map flights new queue f more spot y at same there is new_is h ns page leads (of_block nsid lba) = leads (of_block nsid lba)
+leads-more s n map flights new queue f more spot y at same there is new_is h ns page leads (of_flight q i) =
+    let row : flight_in new q ≡ with_at (flight_in flights) queue (Some more) q = ap (λ (fs : List (Option Flight)). flight_in fs q) new_is ∙ flight_in-set flights queue (Some more) there q in
+    ⊎_elim
+    (λ (e : q ≡ queue).
+    let here : flight_in new q ≡ Some more = row ∙ ap (λ (b : Bool). if b then Some more else flight_in flights q) (eq-eqb q queue e) in
+    ⊎_elim
+    (λ (last : i ≡ length f.pages.items).
+    ap (λ (b : Bool). option_map (λ (z : Page). z.spot) (if b && i == length f.pages.items then Some y else at (of_flight q i))) (eq-eqb q queue e)
+    ∙ ap (λ (b : Bool). option_map (λ (z : Page). z.spot) (if b then Some y else at (of_flight q i))) (eq-eqb i (length f.pages.items) last)
+    ∙ ap Some page
+    ∙ sym (ap (option_and_then (page_in n i)) here ∙ ap (λ (k : ℕ). page_in n k more) last ∙ page-last s n f more spot same h ns))
+    (λ (ne : i ≢ length f.pages.items).
+    ap (λ (b : Bool). option_map (λ (z : Page). z.spot) (if b && i == length f.pages.items then Some y else at (of_flight q i))) (eq-eqb q queue e)
+    ∙ ap (λ (b : Bool). option_map (λ (z : Page). z.spot) (if b then Some y else at (of_flight q i))) (ne_eqb i (length f.pages.items) ne)
+    ∙ leads (of_flight q i)
+    ∙ ap (option_and_then (page_in s i)) (ap (flight_in flights) e ∙ is)
+    ∙ sym (ap (option_and_then (page_in n i)) here ∙ page-more s n f more spot i same h ne))
+    (cases_eq i (length f.pages.items)))
+    (λ (ne : q ≢ queue).
+    ap (λ (b : Bool). option_map (λ (z : Page). z.spot) (if b && i == length f.pages.items then Some y else at (of_flight q i))) (ne_eqb q queue ne)
+    ∙ leads (of_flight q i)
+    ∙ sym (ap (option_and_then (page_in n i)) (row ∙ ap (λ (b : Bool). if b then Some more else flight_in flights q) (ne_eqb q queue ne)) ∙ pages-same s n i (flight_in flights q) same))
+    (cases_eq q queue)
+
+-- who points to a page in the hands of a write
+points-to : (x : Owner) (queue index : ℕ) → x.holder ≡ holders.Flight queue → x.spare.index ≡ index → pointer_of x ≡ of_flight queue index
+points-to x queue index holder is = ap (λ (h : Holder). pointer_in h x.spare) holder ∙ ap (of_flight queue) is
+
+-- ---- the tables
 
 -- the tables with a page more of the flight in a queue
-pub record HasPageMore (c : DriveConfig) (old new : Tables) (queue : ℕ) (g : Going) (f more : Flight) (spot : Spot) (o : Option ℕ) : Type 0 where
+pub record HasPageMore (s : PlainState) (old new : Tables) (queue : ℕ) (f more : Flight) (spot : Spot) (w : Write) (x : Owner) : Type 0 where
   pub setting : new.setting ≡ old.setting
   pub host_blocks : new.sums.host_blocks ≡ old.sums.host_blocks
   pub media_blocks : new.sums.media_blocks ≡ old.sums.media_blocks + 1
   pub erases : new.sums.erases ≡ old.sums.erases
   pub spaces : new.spaces ≡ old.spaces
-  pub unit_pages : new.handles.unit_pages ≡ old.handles.unit_pages
-  pub groups : new.handles.groups ≡ old.handles.groups
-  pub classes : new.handles.classes ≡ old.handles.classes
-  pub references : reference_at new.handles ≡ with_reference (reference_at old.handles) g.rg g.ruh (one_less c spot.unit (reference_at old.handles g.rg g.ruh))
   pub map : new.map ≡ old.map
   pub flights_are : new.flights.items ≡ slice_set old.flights.items queue (Some more)
   pub flight : IsPageMore f spot more
-  pub unit : o ≡ (reference_at old.handles g.rg g.ruh).unit
-  pub used_are : new.used.items ≡ used_after old.used.items g.rg o
+  pub write : write_of f.room.command ≡ Some w
+  pub spare : x.spare ≡ next_spare s (going_of f) w
+  pub holder : x.holder ≡ holders.Flight queue
+  pub puts : PutsPage old.pages new.pages f.rg f.ruh spot x
+  pub fresh : IsFreshPage old.pages f.rg spot
 
-placed-is : (c : DriveConfig) (p : Point) (ticket index unit page : ℕ) → ((told : Bool) → Follows told c p (entries.Placed (record { ticket = ticket; index = index; unit = unit; page = page }))) → IsPlaced c p ticket index unit page
-unfolding Follows
-placed-is c p ticket index unit page h = h true
-
--- the cells after an entry more
-cells-more : (c : DriveConfig) (found : Found) (es : List Entry) (e : Entry) → cells_after c (point_of c found es).state (cells_of c found es) e ≡ cells_of c found (es ++ e ∷ [])
-unfolding point_of
-cells-more c found es e = sym (cells_of-push c found es e)
-
-held-placed : (c : DriveConfig) (found : Found) (es : List Entry) (tables new_tables : Tables) (queue : ℕ) (f more : Flight) (spot : Spot) (o : Option ℕ) →
-    IsHeld c found es tables → flight_in tables.flights.items queue ≡ Some f →
-    ((told : Bool) → Follows told c (point_of c found es) (entries.Placed (record { ticket = f.ticket; index = length f.pages.items; unit = spot.unit; page = spot.page }))) →
-    IsBlankFrom (geometry_of c) (cells_of c found es) spot → (o ≡ None → spot.unit ≡ f.rg * c.units + slice_index tables.used.items f.rg) →
-    HasPageMore c tables new_tables queue (going_of f) f more spot o →
-    IsHeld c found (es ++ entries.Placed (record { ticket = f.ticket; index = length f.pages.items; unit = spot.unit; page = spot.page }) ∷ []) new_tables
-held-placed c found es tables new_tables queue f more spot o h there follows blank first m =
-    let index : ℕ = length f.pages.items in
-    let e : Entry = entries.Placed (record { ticket = f.ticket; index = index; unit = spot.unit; page = spot.page }) in
-    let p : Point = point_of c found es in
-    let q : Point = next c p e in
-    let cells : List Cell = cells_of c found es in
-    let new : List Cell = cells_after c p.state cells e in
-    let flights : List (Option Flight) = tables.flights.items in
-    let used : List ℕ = tables.used.items in
-    let going : p.state.going queue ≡ Some (going_of f) = h.flights_are.going queue ∙ ap (option_map going_of) there in
-    let write_going = h.orderly.state.writes queue (going_of f) going in
-    let within : queue < length flights = omega (arith, write_going.queue_is.1, h.flights_are.rows) in
-    let write = write-is (write_of f.room.command) write_going.write in
-    let step : IsPlaced c p f.ticket index spot.unit spot.page = placed-is c p f.ticket index spot.unit spot.page follows in
-    let same : step.queue ≡ queue = h.orderly.state.tickets step.queue queue step.going (going_of f) step.going_is going step.same in
-    let one : Some step.going ≡ Some (going_of f) = sym step.going_is ∙ ap p.state.going same ∙ going in
-    let is : step.going ≡ going_of f = cc in
-    let group : group_of c spot.unit ≡ f.rg = step.group ∙ ap (λ (g : Going). g.rg) is in
-    let place : IsNextPage c p.state (p.state.references f.rg f.ruh) spot.unit spot.page = subst (λ (g : Going). IsNextPage c p.state (p.state.references g.rg g.ruh) spot.unit spot.page) is step.place in
-    let empty : slice_get cells (page_number (geometry_of c) spot) ≡ Some Blank = blank.blank spot.page (omega arith) step.spot.1 in
-    let placed : IsPlacedFor c p q cells new queue index f spot write.0 = placed-for c p cells queue index f spot write.0 h.orderly.state write_going.queue_is.0 write_going.queue_is.1 going write.1 empty in
-    let unit_is : o ≡ (p.state.references f.rg f.ruh).unit = m.unit ∙ sym (ap (λ (x : Reference). x.unit) (h.handles_are.references f.rg f.ruh)) in
-    let units : AreUnitsOf c (es ++ e ∷ []) q.state (slice_set cells (page_number (geometry_of c) spot) (next_page c p.state (going_of f) write.0)) (used_after used f.rg (p.state.references f.rg f.ruh).unit) =
-    units-placed c es p.state q.state cells used f.ticket index f.rg f.ruh spot (next_page c p.state (going_of f) write.0) h.orderly.state h.units_are h.config.ranges.units.0 write_going.group group step.spot.1 place (λ none. first (unit_is ∙ none)) blank placed.references in
-    let units_now : AreUnitsOf c (es ++ e ∷ []) q.state new new_tables.used.items =
-    subst (λ (xs : List Cell). AreUnitsOf c (es ++ e ∷ []) q.state xs new_tables.used.items) (sym placed.cells_are)
-    (subst (λ (ys : List ℕ). AreUnitsOf c (es ++ e ∷ []) q.state (slice_set cells (page_number (geometry_of c) spot) (next_page c p.state (going_of f) write.0)) ys) (ap (used_after used f.rg) (sym unit_is) ∙ sym m.used_are) units) in
-    let flights_now : AreFlightsOf c q new (slice_set flights queue (Some more)) = flights-placed c p q cells new flights queue f more spot write.0 h.orderly.state within placed write.1 empty step.spot there m.flight h.flights_are in
-    let not_its : (nsid lba : ℕ) (b : Block) → p.state.blocks nsid lba ≡ Some b → b.page ≢ written f.ticket index = λ nsid lba b e same_page.
-    (h.standing.blocks nsid lba b e).ended f.ticket index queue (going_of f) same_page going refl in
-    held-at c found (es ++ e ∷ []) q new new_tables (sym (point_of-push c found es e)) (cells-more c found es e)
+flights-more : (c : DriveConfig) (p : Point) (index : ℕ) (flights new : List (Option Flight)) (queue : ℕ) (f more : Flight) (spot : Spot) → IsOrderlyState c p.state → (placed : IsPlaced c p f.ticket index spot.unit spot.page) → placed.queue ≡ queue → placed.going ≡ going_of f → queue < length flights → flight_in flights queue ≡ Some f → new ≡ slice_set flights queue (Some more) → IsPageMore f spot more →
+    AreFlightsOf c p.state flights → AreFlightsOf c (next c p (placed_entry f.ticket index spot)).state new
+flights-more c p index flights new queue f more spot orderly placed queue_is going_is there is new_is h flights_are =
+    let n : PlainState = (next c p (placed_entry f.ticket index spot)).state in
+    let a : IsAlike p.state n = placed-alike c p f.ticket index spot in
+    subst (λ (xs : List (Option Flight)). AreFlightsOf c n xs) (sym new_is)
     (record {
-      config = h.config;
-      orderly = orderly-next true c p e h.config h.orderly (follows true);
-      standing = standing-next true c p e h.orderly h.standing (follows true);
-      setting_is = subst (λ (x : Setting). IsSettingOf q.state x) (sym m.setting) (setting-grown p q cells new (written f.ticket index) tables.setting placed.grown h.setting_is);
-      sums_are = are_sums-push found es e tables.sums new_tables.sums h.sums_are (omega arith) (omega arith) refl (omega (arith, m.host_blocks)) m.media_blocks m.erases;
-      all_units = all_units-grown p q cells new (written f.ticket index) placed.grown h.all_units;
-      spaces_are = subst (λ (x : SpaceTable). AreSpacesOf c q.state x) (sym m.spaces) (spaces-grown c p q cells new (written f.ticket index) tables.spaces placed.grown h.spaces_are);
-      handles_are = handles-placed c p.state q.state tables.handles new_tables.handles f.rg f.ruh spot.unit m.unit_pages m.groups m.classes m.references placed.references (classes-grown c p q cells new (written f.ticket index) placed.grown) h.handles_are;
-      map_is = subst (λ (x : MapTable). IsMapOf c q new x) (sym m.map) (map-grown c p q cells new (written f.ticket index) tables.map placed.grown placed.blocks not_its h.map_is);
-      flights_are = subst (λ (fs : List (Option Flight)). AreFlightsOf c q new fs) (sym m.flights_are) flights_now;
-      units_are = units_now;
+      rows = length-set flights queue (Some more) ∙ flights_are.rows;
+      going = λ k.
+          going-placed c p f.ticket index spot.unit spot.page orderly placed k
+          ∙ ap (λ (q : ℕ). with_at p.state.going q (Some (one_more_placed placed.going)) k) queue_is
+          ∙ ap (λ (g : Going). with_at p.state.going queue (Some (one_more_placed g)) k) going_is
+          ∙ going-set p.state.going flights queue (Some (one_more_placed (going_of f))) (Some more) there (ap (λ (g : Going). Some g) (sym h.going_is)) flights_are.going k;
+      target = flown-set (λ x. IsTrue (is_there n (going_of x)) → IsOnTarget c n (going_of x)) flights queue (Some more) there
+          (λ x e. let one : more ≡ x = cc in subst (λ (y : Flight). IsTrue (is_there n (going_of y)) → IsOnTarget c n (going_of y)) one
+          (subst (λ (g : Going). IsTrue (is_there n g) → IsOnTarget c n g) (sym h.going_is) (flight-alike c p.state n f a (flights_are.target queue f is))))
+          (λ k x e. flight-alike c p.state n x a (flights_are.target k x e));
     })
 
--- the tables after a page more of the flight in a queue
-pub held_placed : (c : DriveConfig) (found : Found) (es longer : List Entry) (tables new_tables : Tables) (queue : ℕ) (g : Going) (f more : Flight) (spot : Spot) (o : Option ℕ) →
-    IsHeld c found es tables → flight_in tables.flights.items queue ≡ Some f → g ≡ going_of f →
-    ((told : Bool) → Follows told c (point_of c found es) (entries.Placed (record { ticket = f.ticket; index = length f.pages.items; unit = spot.unit; page = spot.page }))) →
-    IsBlankFrom (geometry_of c) (cells_of c found es) spot → (o ≡ None → spot.unit ≡ f.rg * c.units + slice_index tables.used.items f.rg) →
-    HasPageMore c tables new_tables queue g f more spot o →
-    longer ≡ es ++ entries.Placed (record { ticket = f.ticket; index = length f.pages.items; unit = spot.unit; page = spot.page }) ∷ [] →
-    IsHeld c found longer new_tables
-held_placed c found es longer tables new_tables queue g f more spot o h there same follows blank first m is =
-    subst (λ (xs : List Entry). IsHeld c found xs new_tables) (sym is)
-    (held-placed c found es tables new_tables queue f more spot o h there follows blank first (subst (λ (k : Going). HasPageMore c tables new_tables queue k f more spot o) same m))
+pub held-placed : (c : DriveConfig) (found : Found) (first : Spot → Option Written) (es : List Entry) (t now : Tables) (queue : ℕ) (f more : Flight) (spot : Spot) (w : Write) (x : Owner) →
+    IsHeld c found first es t → AreJoined t.pages → flight_in t.flights.items queue ≡ Some f →
+    ((told : Bool) → Follows told c (point_of c found es) (placed_entry f.ticket (length f.pages.items) spot)) →
+    HasPageMore (point_of c found es).state t now queue f more spot w x →
+    IsHeld c found first (es ++ placed_entry f.ticket (length f.pages.items) spot ∷ []) now
+unfolding Follows
+held-placed c found first es t now queue f more spot w x h joined is follows m =
+    let index : ℕ = length f.pages.items in
+    let e : Entry = placed_entry f.ticket index spot in
+    let p : Point = point_of c found es in
+    let q : Point = next c p e in
+    let a : IsAlike p.state q.state = placed-alike c p f.ticket index spot in
+    let going : p.state.going queue ≡ Some (going_of f) = h.flights_are.going queue ∙ ap (option_map going_of) is in
+    let write_going = h.orderly.state.writes queue (going_of f) going in
+    let there : queue < length t.flights.items = omega (arith, write_going.queue_is.1, h.flights_are.rows) in
+    let placed : IsPlaced c p f.ticket index spot.unit spot.page = follows true in
+    let queue_is : placed.queue ≡ queue = h.orderly.state.tickets placed.queue queue placed.going (going_of f) placed.going_is going placed.same in
+    let one : Some placed.going ≡ Some (going_of f) = sym placed.going_is ∙ ap p.state.going queue_is ∙ going in
+    let going_is : placed.going ≡ going_of f = cc in
+    let ns : IsTrue (is_there p.state (going_of f)) = ap (is_there p.state) (sym going_is) ∙ placed.there in
+    let references = placed-references c p queue index f spot h.orderly.state write_going.queue_is.0 write_going.queue_is.1 going in
+    let pages = h.pages_are in
+    let y : Page = page_of spot x in
+    let refer : reference_at now.pages.handles ≡ with_reference (reference_at t.pages.handles) f.rg f.ruh (one_less c spot.unit (p.state.references f.rg f.ruh)) =
+    m.puts.handles.references c h.units_are.unit_pages ∙ ap (λ (r : Reference). with_reference (reference_at t.pages.handles) f.rg f.ruh (one_less c spot.unit r)) (sym (h.units_are.references f.rg f.ruh)) in
+    let at_is : pointed pages.at placed.queue placed.going.placed y ≡ pointed pages.at queue index y = ap (λ (k : ℕ). pointed pages.at k placed.going.placed y) queue_is ∙ ap (λ (g : Going). pointed pages.at queue g.placed y) going_is in
+    let new : IsNewPage c p t.pages now.pages placed.queue placed.going w spot x = record {
+      write = ap (λ (g : Going). write_of g.command) going_is ∙ m.write;
+      fresh = m.fresh.fresh;
+      spare = m.spare ∙ ap (λ (g : Going). next_spare p.state g w) (sym going_is);
+      points = points-to x queue index m.holder (ap (λ (s : DataSpare). s.index) m.spare) ∙ ap (λ (k : ℕ). of_flight k index) (sym queue_is) ∙ ap (λ (g : Going). of_flight placed.queue g.placed) (sym going_is);
+      owners = m.puts.owners;
+      next = λ unit. changed-next t.pages.units now.pages.units spot.unit _ m.puts.unit unit ∙ sym (ap (λ (n : ℕ). with_at (next_in t.pages.units) spot.unit (n + 1) unit) m.fresh.fresh);
+    } in
+    held-next true c found first es e t now h (follows true)
+    (record {
+      setting_is = subst (λ (z : Setting). IsSettingOf q.state z) (sym m.setting) (setting-alike p.state q.state t.setting a h.setting_is);
+      spaces_are = subst (λ (z : SpaceTable). AreSpacesOf c q.state z) (sym m.spaces) (spaces-alike c p.state q.state t.spaces a h.spaces_are);
+      map_is = subst (λ (z : MapTable). IsMapOf q.state z) (sym m.map) (map-alike p.state q.state t.map a (placed-blocks c p f.ticket index spot) h.map_is);
+      flights_are = flights-more c p index t.flights.items now.flights.items queue f more spot h.orderly.state placed queue_is going_is there is m.flights_are m.flight h.flights_are;
+      units_are = units-referring c p.state q.state t.pages now.pages f.rg f.ruh (one_less c spot.unit (p.state.references f.rg f.ruh)) a.enabled a.index references.is_lost references.is_worn references.references refer m.puts.handles.rest
+          (puts-alike t.pages now.pages f.rg f.ruh spot x m.fresh.kept m.puts) h.units_are;
+    })
+    (are_sums-push found es e t.sums now.sums h.sums_are (omega arith) (omega arith) (omega arith) (omega (arith, m.host_blocks)) (omega (arith, m.media_blocks)) (omega (arith, m.erases)))
+    (record {
+      at = pointed pages.at placed.queue placed.going.placed y;
+      led = led-placed c p f.ticket index spot (written_by c found first es) pages.at t.pages now.pages w x h.orderly.state h.standing placed new
+          (all-placed c p (record { ticket = f.ticket; index = index; unit = spot.unit; page = spot.page }) placed.queue placed.going.placed y pages.at c.groups (passes_at t.pages) (passes_at now.pages)
+          (λ rg low. inl (passes-same t.pages now.pages m.puts.passes rg))
+          (λ rg low. subst (λ (ps : List GroupPasses). IfSome (passes_at (record t.pages { passes = ps }) rg).pass (λ (pass : Pass). spot.unit ≢ pass.victim)) (sym m.puts.passes) (fresh-apart t.pages f.rg rg spot joined m.fresh (subst (λ (k : ℕ). rg < k) (sym (ap (λ (u : Cut). u.groups) h.units_are.cut)) low)))
+          pages.led.passes)
+          (λ rg. ap (λ (ps : List GroupPasses). copies_at (record t.pages { passes = ps }) rg) m.puts.passes)
+          pages.led;
+      leads = subst (λ (z : MapTable). LeadsTo (lead_in q.state z now.flights.items) (pointed pages.at placed.queue placed.going.placed y)) (sym m.map)
+          (subst (λ (k : Behind Page). LeadsTo (lead_in q.state t.map now.flights.items) k) (sym at_is)
+          (leads-more p.state q.state t.map t.flights.items now.flights.items queue f more spot y pages.at a.namespaces there is m.flights_are m.flight ns refl pages.leads));
+    })

@@ -1,5 +1,5 @@
 -- What entries more make of the sums.
-use Rattle.std.proofs.Common.{◌≡◌, ℕ, ◌+◌, ◌≤◌, List, [], ◌∷◌, ◌++◌, length, arith, length-append, ◌∙◌, sym}
+use Rattle.std.proofs.Common.{◌≡◌, ℕ, ◌+◌, ◌≤◌, List, [], ◌∷◌, ◌++◌, length, arith, length-append}
 use Rattle.std.specs.Prelude.{sum_by}
 use Rattle.std.proofs.lemmas.List.Sums.{sum_by-append, sum_by-cons}
 use Rattle.fdp_base.specs.declared.entry.Entry.{Entry}
@@ -12,7 +12,7 @@ sum-push : (f : Entry → ℕ) (es : List Entry) (e : Entry) → sum_by f (es ++
 sum-push f es e = omega (arith, sum_by-append f es (e ∷ []), sum_by-cons f e [])
 
 -- the sums with what an entry adds to them
-pub are_sums-push : (found : Found) (es : List Entry) (e : Entry) (x y : Sums) → AreSumsOf found es x → host_blocks_of e ≤ 64 → media_blocks_of e ≤ 1 → erases_of e ≡ 0 → y.host_blocks ≡ x.host_blocks + host_blocks_of e → y.media_blocks ≡ x.media_blocks + media_blocks_of e → y.erases ≡ x.erases → AreSumsOf found (es ++ e ∷ []) y
+pub are_sums-push : (found : Found) (es : List Entry) (e : Entry) (x y : Sums) → AreSumsOf found es x → host_blocks_of e ≤ 64 → media_blocks_of e ≤ 1 → erases_of e ≤ 1 → y.host_blocks ≡ x.host_blocks + host_blocks_of e → y.media_blocks ≡ x.media_blocks + media_blocks_of e → y.erases ≡ x.erases + erases_of e → AreSumsOf found (es ++ e ∷ []) y
 are_sums-push found es e x y h host media erased hosts medias same =
     let count : length (es ++ e ∷ []) ≡ length es + 1 = length-append es (e ∷ []) in
     let a = sum-push host_blocks_of es e in
@@ -21,8 +21,8 @@ are_sums-push found es e x y h host media erased hosts medias same =
     record {
       host_blocks_are = omega (arith, a, h.host_blocks_are, hosts);
       media_blocks_are = omega (arith, b, h.media_blocks_are, medias);
-      erases_are = h.erases_are ∙ sym same;
-      no_erases = omega (arith, d, h.no_erases, erased);
+      erases_are = omega (arith, d, h.erases_are, same);
       few_host_blocks = omega (arith, hosts, h.few_host_blocks, host, count);
       few_media_blocks = omega (arith, medias, h.few_media_blocks, media, count);
+      few_erases = omega (arith, same, h.few_erases, erased, count);
     }

@@ -1,4 +1,4 @@
-ghost use Rattle.std.specs.Prelude.{◌≡◌, ◌+◌, ◌<◌, ◌≤◌, [], length, true};
+ghost use Rattle.std.specs.Prelude.{◌≡◌, ◌≢◌, ℕ, ◌+◌, ◌<◌, ◌≤◌, [], IfSome, IsSome, Some, length, true};
 ghost use Rattle.fdp_base.specs.declared.status.TheConstants.Status as statuses;
 ghost use Rattle.fdp_rules.specs.Answer.{bare};
 ghost use Rattle.fdp_rules.specs.PlainState.{Going};
@@ -6,8 +6,15 @@ ghost use Rattle.fdp_rules.specs.Step.{MaySucceed};
 ghost use Rattle.fdp_book.specs.Book.{point_in, state_in};
 ghost use Rattle.fdp_book.specs.Steps.{Completes, IsReady, IsVerdict};
 ghost use Rattle.fdp_book.specs.Flown.{with_pages};
+ghost use Rattle.fdp_book.specs.Taking.{CanTake, MayTake, cleared_of, with_taken};
+ghost use Rattle.fdp_locations.specs.Taken.{taken_first};
+ghost use Rattle.fdp_owners.specs.Owned.{AreOwners};
+ghost use Rattle.fdp_owners.specs.OwnerTable.{owner_at};
+ghost use Rattle.fdp_pages.specs.Steps.{ChangesOwners};
+ghost use Rattle.fdp_pointers.specs.Facts.{Page};
+ghost use Rattle.fdp_pointers.specs.Pointers.{Behind, renamed};
 ghost use Rattle.fdp_book.specs.Tickets.{IsTicketOf};
-ghost use Rattle.fdp_map.specs.MapTable.{mapped_at, size_in};
+ghost use Rattle.fdp_map.specs.MapTable.{mapped_at, size_in, with_mapped};
 
 use super::Book;
 use super::end::{push_host, take_flight};
@@ -16,6 +23,8 @@ use crate::ticket::{Done, Ticket};
 use fdp_base::{Spot, Status};
 use fdp_commands::is_over_budget;
 use fdp_map::{Map, Mapped};
+use fdp_owners::Holder;
+use fdp_pages::Pages;
 
 impl Book {
     /// Whether a write whose pages are all placed may succeed, or the status with which it ends. It looks at each of its blocks.
@@ -38,17 +47,18 @@ impl Book {
     pub fn commit(&mut self, ticket: Ticket, moment: u64) -> Done
         requires may { (g : Going) → IsTicketOf (state_in self.old) ticket g → MaySucceed self.old.config (point_in self.old) g }
         requires ready { IsReady self.old ticket }
-        requires spare { 0 < self.old.spare }
-        ensures { (g : Going) → IsTicketOf (state_in self.old) ticket g → Completes self.old self.new [] ticket.queue g.number g.command (bare statuses.SUCCESS true) moment result }
+        requires room { 0 < self.old.room }
+        ensures pages { ChangesOwners self.old.pages self.new.pages }
+        ensures step { (g : Going) → IsTicketOf (state_in self.old) ticket g → Completes self.old self.new [] ticket.queue g.number g.command (bare statuses.SUCCESS true) moment result }
     {
         let queue = ticket.give_up();
         let flight = take_flight(&mut self.tables.flights, queue);
         let Flight {
             number,
-            ticket: position,
+            ticket: _,
             birth: _,
             rg,
-            ruh,
+            ruh: _,
             pid_valid: _,
             roomiest: _,
             extent,
@@ -56,19 +66,12 @@ impl Book {
             pages,
         } = flight;
         let (command, replies) = room.end(Status::SUCCESS, true);
-        let first = Mapped {
-            spot: Spot { unit: 0, page: 0 },
-            ticket: position,
-            index: 0,
-            generation: self.tables.setting.generation,
-            rg,
-            ruh,
-        };
         put_pages(
             &mut self.tables.map,
+            &mut self.tables.pages,
             extent.nsid,
             extent.slba,
-            first,
+            rg,
             pages.as_slice(),
         );
         let done = push_host(&mut self.log, queue, number, command, replies, moment);
@@ -77,20 +80,48 @@ impl Book {
     }
 }
 
-/// Blocks stand at these pages, from an address on. `first` says what they have in common.
-fn put_pages(map: &mut Map, nsid: u32, slba: u64, first: Mapped, pages: &[Spot])
-    requires range { slba + length pages.now ≤ size_in map.old nsid }
+/// Blocks take over these pages of a write to a group, from an address on. The pages that they had have no owner any more.
+fn put_pages(map: &mut Map, pages: &mut Pages, nsid: u32, slba: u64, rg: u16, spots: &[Spot])
+    requires range { slba + length spots.now ≤ size_in map.old nsid }
     requires size { size_in map.old nsid ≤ 262144 }
-    requires group { first.rg < 16 }
-    ensures blocks { mapped_at map.new ≡ with_pages (mapped_at map.old) nsid slba first pages.now (length pages.now) }
+    requires group { rg < 16 }
+    requires pages { CanTake map.old pages.old nsid slba spots.now }
+    ensures blocks { mapped_at map.new ≡ with_pages (mapped_at map.old) nsid slba rg spots.now (length spots.now) }
     ensures sizes { size_in map.new ≡ size_in map.old }
+    ensures owners { (at : Behind Page) (queue : ℕ) → MayTake at map.old pages.old queue nsid slba spots.now → AreOwners (owner_at pages.new.owners) (renamed (taken_first queue nsid slba (length spots.now)) at) }
+    ensures pages { ChangesOwners pages.old pages.new }
 {
-    for index in 0..pages.len() {
-        let mapped = Mapped {
-            spot: pages[index],
-            index: index as u32,
-            ..first
-        };
-        map.put(nsid, slba + index as u64, mapped);
+    pages.joined();
+    for index in 0..spots.len() {
+        let lba = slba + index as u64;
+        put_page(map, pages, nsid, lba, rg, spots[index]);
+    }
+}
+
+/// A block takes over a page of a write to a group. The page that it had has no owner any more.
+fn put_page(map: &mut Map, pages: &mut Pages, nsid: u32, lba: u64, rg: u16, spot: Spot)
+    requires lba { lba < size_in map.old nsid }
+    requires group { rg < 16 }
+    requires old { IfSome (mapped_at map.old nsid lba) (λ m. IsSome (owner_at pages.old.owners m.spot) × (m.spot ≢ spot)) }
+    requires new { IsSome (owner_at pages.old.owners spot) }
+    ensures blocks { mapped_at map.new ≡ with_mapped (mapped_at map.old) nsid lba (Some (record { spot = spot; rg = rg })) }
+    ensures sizes { size_in map.new ≡ size_in map.old }
+    ensures owners { owner_at pages.new.owners ≡ with_taken (owner_at pages.old.owners) (mapped_at map.old nsid lba) spot }
+    ensures pages { ChangesOwners pages.old pages.new }
+{
+    clear_old(map, pages, nsid, lba);
+    pages.hand_over(spot, Holder::Block);
+    map.put(nsid, lba, Mapped { spot, rg });
+}
+
+/// The page that a block has has no owner any more, if it has one.
+fn clear_old(map: &Map, pages: &mut Pages, nsid: u32, lba: u64)
+    requires { IfSome (mapped_at map.now nsid lba) (λ m. IsSome (owner_at pages.old.owners m.spot)) }
+    ensures owners { owner_at pages.new.owners ≡ cleared_of (owner_at pages.old.owners) (mapped_at map.now nsid lba) }
+    ensures pages { ChangesOwners pages.old pages.new }
+{
+    match map.get(nsid, lba) {
+        Some(old) => pages.clear(old.spot),
+        None => pages.joined(),
     }
 }

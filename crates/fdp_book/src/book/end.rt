@@ -3,27 +3,31 @@ ghost use Rattle.fdp_base.specs.declared.entry.Entry.TheVariants as entries;
 ghost use Rattle.fdp_rules.specs.Answer.{bare};
 ghost use Rattle.fdp_rules.specs.PlainState.{Going};
 ghost use Rattle.fdp_book.specs.Book.{state_in};
-ghost use Rattle.fdp_book.specs.Steps.{Completes, IsFlying};
+ghost use Rattle.fdp_book.specs.Shutting.{IsNextOfHandle, Shuts, ShutsAndEnds};
+ghost use Rattle.fdp_book.specs.Steps.{Completes, IsFlying, IsWaiting};
 ghost use Rattle.fdp_book.specs.Held.{flight_in};
 ghost use Rattle.fdp_book.specs.Logged.{IsLogged};
-ghost use Rattle.fdp_book.specs.Tickets.{IsTicketOf};
+ghost use Rattle.fdp_book.specs.Tickets.{IsNextSpot, IsTicketOf};
+ghost use Rattle.fdp_pages.specs.Steps.{ChangesOwners};
 
 use super::Book;
+use super::forget::forget;
 use crate::flight::Flight;
 use crate::log::Log;
 use crate::room::Replies;
 use crate::ticket::{Done, Ticket};
-use fdp_base::{Command, Entry, Host, Reply, Shut, Status};
+use fdp_base::{Command, Entry, Host, Reply, Shut, Spot, Status};
 
 impl Book {
-    /// A going write ends with this status, and changes nothing.
+    /// A going write ends with this status, and changes nothing. Whether that answer may follow is for the caller to say.
     pub fn end(&mut self, ticket: Ticket, status: Status, moment: u64) -> Done
         requires going { IsFlying self.old ticket }
-        requires spare { 0 < self.old.spare }
-        ensures { (g : Going) → IsTicketOf (state_in self.old) ticket g → Completes self.old self.new [] ticket.queue g.number g.command (bare status false) moment result }
+        requires room { 0 < self.old.room }
+        ensures pages { ChangesOwners self.old.pages self.new.pages }
+        ensures step { (g : Going) → IsTicketOf (state_in self.old) ticket g → Completes self.old self.new [] ticket.queue g.number g.command (bare status false) moment result }
     {
         let queue = ticket.give_up();
-        let flight = take_flight(&mut self.tables.flights, queue);
+        let flight = forget(&mut self.tables, queue).unwrap();
         let (command, replies) = flight.room.end(status, false);
         push_host(
             &mut self.log,
@@ -35,27 +39,31 @@ impl Book {
         )
     }
 
-    /// A going write ends with this status and changes nothing, in the step in which its handle is shut.
-    pub fn end_shut(&mut self, ticket: Ticket, status: Status, moment: u64) -> Done
-        requires going { IsFlying self.old ticket }
-        requires spare { 0 < self.old.spare }
-        ensures { (g : Going) → IsTicketOf (state_in self.old) ticket g → Completes self.old self.new (entries.Shut (record { rg = g.rg; ruh = g.ruh }) ∷ []) ticket.queue g.number g.command (bare status false) moment result }
+    /// A going write ends with this status and changes nothing, since its next page was not programmed: that page is used for nothing,
+    /// and its handle has no unit any more.
+    pub fn end_shut(&mut self, ticket: Ticket, spot: Spot, status: Status, moment: u64) -> Done
+        requires waiting { IsWaiting self.old ticket }
+        requires next { (g : Going) → IsTicketOf (state_in self.old) ticket g → IsNextSpot self.old ticket g spot }
+        requires room { 1 < self.old.room }
+        ensures { (g : Going) → IsTicketOf (state_in self.old) ticket g → ShutsAndEnds self.old self.new ticket g spot status moment result }
     {
-        let queue = ticket.give_up();
-        let flight = take_flight(&mut self.tables.flights, queue);
+        let flight = self.flight(&ticket);
         let (rg, ruh) = (flight.rg, flight.ruh);
-        let (command, replies) = flight.room.end(status, false);
-        self.tables.handles.shut(rg, ruh);
-        let Replies { history, answer } = replies;
-        let host = Entry::Host(Host {
-            queue,
-            number: flight.number,
-            command,
-            reply: history,
-            moment,
-        });
-        self.log.push_both(Entry::Shut(Shut { rg, ruh }), host);
-        done(&self.log, moment, answer)
+        self.shut(&ticket, rg, ruh, spot);
+        self.end(ticket, status, moment)
+    }
+
+    /// The next page of a handle was not programmed.
+    fn shut(&mut self, ticket: &Ticket, rg: u16, ruh: u8, spot: Spot)
+        requires waiting { IsWaiting self.old ticket.now }
+        requires next { (g : Going) → IsTicketOf (state_in self.old) ticket.now g → IsNextOfHandle self.old ticket.now g rg ruh spot }
+        requires room { 0 < self.old.room }
+        ensures { (g : Going) → IsTicketOf (state_in self.old) ticket.now g → Shuts self.old self.new ticket.now g rg ruh spot }
+    {
+        let _ = ticket;
+        self.tables.pages.joined();
+        self.tables.pages.shut(rg, ruh, spot);
+        self.log.push(Entry::Shut(Shut { rg, ruh }));
     }
 }
 
@@ -77,7 +85,7 @@ pub(super) fn push_host(
     replies: Replies,
     moment: u64,
 ) -> Done
-    requires spare { 0 < log.old.spare }
+    requires room { 0 < log.old.room }
     ensures log { IsLogged log.old log.new (entries.Host (record { queue = queue; number = number; command = command; reply = replies.history; moment = moment }) ∷ []) }
     ensures done { result ≡ record { position = log.new.before + length log.new.entries; moment = moment; reply = replies.answer } }
 {

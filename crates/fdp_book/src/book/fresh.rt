@@ -3,8 +3,8 @@ ghost use Rattle.std.specs.Option.{ForSome};
 ghost use Rattle.fdp_base.specs.Config.{IsValidConfig};
 ghost use Rattle.fdp_rules.specs.Effect.{chosen_handles};
 ghost use Rattle.fdp_rules.specs.History.{fresh};
-ghost use Rattle.fdp_book.specs.Book.{first_book};
-ghost use Rattle.fdp_book.specs.Configured.{AreConfiguredSpaces, HasFewHandles, IsConfiguredMap, made_as};
+ghost use Rattle.fdp_book.specs.Book.{AreUnused, IsFirst};
+ghost use Rattle.fdp_book.specs.Configured.{AreConfiguredSpaces, HasFewHandles, IsConfiguredMap, made_as, no_pages};
 ghost use Rattle.fdp_book.specs.Held.{IsHeld};
 ghost use Rattle.fdp_spaces.specs.SpaceTable.{namespace_of};
 
@@ -14,8 +14,8 @@ use crate::log::Log;
 use crate::tables::{Setting, Sums, Tables};
 use arrayvec::ArrayVec;
 use fdp_base::{DriveConfig, HandleList, NamespaceConfig};
-use fdp_handles::Handles;
 use fdp_map::Map;
+use fdp_pages::Pages;
 use fdp_spaces::{Space, SpaceHandles, Spaces};
 use std::alloc::{AllocError, Global};
 
@@ -24,11 +24,11 @@ impl Book {
     /// each of their blocks.
     pub fn fresh(alloc: Global, config: &DriveConfig) -> Result<Book, AllocError>
         requires { IsValidConfig config.now }
-        ensures { IfOk result (λ book. book ≡ first_book config.now) }
+        ensures { IfOk result (λ book. IsFirst config.now book) }
     {
         Ok(Book {
             config: config.copied()?,
-            log: Log::new(alloc, 0),
+            log: Log::new(alloc, 0, config.unit_pages),
             tables: configured_tables(alloc, config)?,
         })
     }
@@ -37,10 +37,12 @@ impl Book {
 /// The tables of a drive as its configuration makes it.
 fn configured_tables(alloc: Global, config: &DriveConfig) -> Result<Tables, AllocError>
     requires { IsValidConfig config.now }
-    ensures held { IfOk result (λ tables. IsHeld config.now (fresh config.now) [] tables) }
-    ensures used { IfOk result (λ tables. tables.used.items ≡ replicate config.now.groups 0) }
+    ensures held { IfOk result (λ tables. IsHeld config.now (fresh config.now) no_pages [] tables) }
+    ensures unused { IfOk result (λ tables. AreUnused config.now tables.pages) }
 {
     let classes = config.classes(config.enabled, config.index);
+    let pages = Pages::new(alloc, classes, config.geometry())?;
+    pages.joined();
     Ok(Tables {
         setting: Setting {
             enabled: config.enabled,
@@ -53,10 +55,9 @@ fn configured_tables(alloc: Global, config: &DriveConfig) -> Result<Tables, Allo
             erases: 0,
         },
         spaces: configured_spaces(alloc, config)?,
-        handles: Handles::new(alloc, classes, config.geometry())?,
         map: configured_map(alloc, config)?,
         flights: no_flights(alloc, usize::from(config.queues) + 1)?,
-        used: no_units(alloc, usize::from(config.groups))?,
+        pages,
     })
 }
 
@@ -157,11 +158,4 @@ fn no_flights(alloc: Global, count: usize) -> Result<Vec<Option<Flight>>, AllocE
         flights.push(None)?;
     }
     Ok(flights)
-}
-
-/// No unit of so many groups was used.
-fn no_units(alloc: Global, count: usize) -> Result<Vec<u32>, AllocError>
-    ensures { IfOk result (λ used. used.items ≡ replicate count 0) }
-{
-    vec![in alloc; 0; count]
 }

@@ -40,8 +40,8 @@ impl Drive for Book {
     }
 
     fn budget(&self, rg: u16) -> u32 {
-        let _ = rg;
-        self.config.budget(self.handles_in_force(), 0)
+        let lost = self.tables.pages.units().lost(rg);
+        self.config.budget(self.handles_in_force(), lost)
     }
 
     fn stored(&self, rg: u16) -> u128 {

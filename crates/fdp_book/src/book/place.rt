@@ -1,21 +1,25 @@
 ghost use Rattle.std.specs.Prelude.{◌≡◌, ◌+◌, ◌<◌, ◌^◌, ◌==◌, ◌≤◌, ℕ, None, Some, length, slice_index};
 ghost use Rattle.fdp_base.specs.CommandKinds.{blocks_written, write_of};
 ghost use Rattle.fdp_rules.specs.PlainState.{Going};
-ghost use Rattle.fdp_rules.specs.Sites.{is_there};
 ghost use Rattle.fdp_book.specs.declared.flight.Flight.{Flight};
 ghost use Rattle.fdp_book.specs.Book.{state_in};
 ghost use Rattle.fdp_book.specs.Steps.{IsFlying, IsWaiting, Places};
-ghost use Rattle.fdp_book.specs.Flown.{HasPageMore, IsFlightAt, IsPlaceFor, IsUnfinished, used_after};
+ghost use Rattle.fdp_book.specs.Flown.{HasPageMore, IsFlightAt, IsUnfinished};
+ghost use Rattle.fdp_book.specs.Places.{IsFreeSpot, IsPlaceFor};
+ghost use Rattle.fdp_units.specs.UnitTable.{IsGroup};
 ghost use Rattle.fdp_book.specs.Held.{going_of};
-ghost use Rattle.fdp_book.specs.Pages.{next_spare};
+ghost use Rattle.fdp_rules.specs.Sites.{is_there as is_going_there};
+ghost use Rattle.fdp_locations.specs.Written.{next_spare};
 ghost use Rattle.fdp_book.specs.Tickets.{ComesTo, IsNextSpot, IsTicketOf};
 ghost use Rattle.fdp_base.specs.declared.command.Write.{Write};
 
 use super::Book;
+use super::forget::is_there;
 use crate::flight::Flight;
 use crate::next_page::NextPage;
 use crate::ticket::Ticket;
 use fdp_base::{DataSpare, Entry, Payload, Placed, Spot};
+use fdp_owners::{Holder, Owner};
 
 impl Book {
     /// What a going write comes to next: its end, or the place and the spare bytes of its next page. It takes a constant time.
@@ -23,6 +27,7 @@ impl Book {
         requires { IsWaiting self.now ticket.now }
         ensures { (g : Going) → IsTicketOf (state_in self.now) ticket.now g → ComesTo self.now ticket.now g result }
     {
+        self.known();
         let flight = self.flight(ticket);
         if !self.is_there(flight) {
             return NextPage::Gone;
@@ -37,6 +42,14 @@ impl Book {
         }
     }
 
+    /// The group that the write of a ticket goes to.
+    pub fn group(&self, ticket: &Ticket) -> u16
+        requires { IsFlying self.now ticket.now }
+        ensures { (g : Going) → IsTicketOf (state_in self.now) ticket.now g → result ≡ g.rg }
+    {
+        self.flight(ticket).rg
+    }
+
     /// What the write of a ticket carries.
     pub fn payload(&self, ticket: &Ticket) -> &Payload
         requires { IsWaiting self.now ticket.now }
@@ -49,15 +62,18 @@ impl Book {
     pub fn place(&mut self, ticket: &Ticket, spot: Spot) -> bool
         requires waiting { IsWaiting self.old ticket.now }
         requires next { (g : Going) → IsTicketOf (state_in self.old) ticket.now g → IsNextSpot self.old ticket.now g spot }
-        requires spare { 0 < self.old.spare }
+        requires room { 0 < self.old.room }
         ensures { (g : Going) → IsTicketOf (state_in self.old) ticket.now g → Places self.old self.new ticket.now g spot result }
     {
+        self.tables.pages.joined();
         let flight = self.flight(ticket);
         let (rg, ruh) = (flight.rg, flight.ruh);
         let index = flight.pages.len() as u32;
-        let unit = self.tables.handles.unit(rg, ruh);
-        take_unit(&mut self.tables.used, rg, unit);
-        self.tables.handles.place(rg, ruh, spot.unit);
+        let owner = Owner {
+            holder: Holder::Flight(ticket.queue),
+            spare: self.next_spare(flight),
+        };
+        self.tables.pages.place(rg, ruh, spot, owner);
         self.log.push(Entry::Placed(Placed {
             ticket: ticket.position,
             index,
@@ -81,39 +97,32 @@ impl Book {
 
     /// Whether the namespace of a write is there, and is the one that it was when the write was started.
     pub(super) fn is_there(&self, flight: &Flight) -> bool
-        ensures { result ≡ is_there (state_in self.now) (going_of flight.now) }
+        ensures { result ≡ is_going_there (state_in self.now) (going_of flight.now) }
     {
-        match self.tables.spaces.birth(flight.extent.nsid) {
-            Some(birth) => birth == flight.birth,
-            None => false,
-        }
+        is_there(&self.tables.spaces, flight)
     }
 
-    /// Where the next page of a handle goes, unless it wants a unit and each of its group is used.
+    /// Where the next page of a handle goes, unless it wants a unit and fewer than three of its group are free.
     fn next_spot(&self, rg: u16, ruh: u8) -> Option<Spot>
-        requires group { rg < self.now.config.groups }
-        requires handle { ruh < 16 }
+        requires group { IsGroup self.now.pages.units rg }
+        requires handle { ruh < length self.now.pages.handles.classes }
         ensures { IsPlaceFor self.now rg ruh result }
     {
-        match self.tables.handles.next_page(rg, ruh) {
+        match self.tables.pages.next_page(rg, ruh) {
             Some(spot) => Some(spot),
-            None => self.unused_spot(rg),
+            None => self.free_spot(rg),
         }
     }
 
-    /// The start of the first unit of a group that was not used.
-    fn unused_spot(&self, rg: u16) -> Option<Spot>
-        requires group { rg < self.now.config.groups }
-        ensures { (ruh : ℕ) → ((state_in self.now).references rg ruh).unit ≡ None → IsPlaceFor self.now rg ruh result }
+    /// The first page of the unit that a handle without one may take: the lowest free one, where three at least are free.
+    fn free_spot(&self, rg: u16) -> Option<Spot>
+        requires { IsGroup self.now.pages.units rg }
+        ensures { IsFreeSpot self.now rg result }
     {
-        let used = self.tables.used[usize::from(rg)];
-        if used < self.config.units {
-            Some(Spot {
-                unit: u32::from(rg) * self.config.units + used,
-                page: 0,
-            })
-        } else {
+        if self.tables.pages.units().free_count(rg) < 3 {
             None
+        } else {
+            self.tables.pages.first_page(rg)
         }
     }
 
@@ -133,18 +142,6 @@ impl Book {
             index: index as u16,
             lba: flight.extent.slba + index as u64,
         }
-    }
-}
-
-/// A unit more of a group is used where a handle of it had none.
-fn take_unit(used: &mut Vec<u32>, rg: u16, unit: Option<u32>)
-    requires group { rg < length used.old.items }
-    requires room { slice_index used.old.items rg + 1 < 2 ^ 32 }
-    ensures { used.new.items ≡ used_after used.old.items rg unit }
-{
-    match unit {
-        Some(_) => (),
-        None => used[usize::from(rg)] += 1,
     }
 }
 

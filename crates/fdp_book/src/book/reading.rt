@@ -2,7 +2,7 @@ ghost use Rattle.fdp_book.specs.Book.{state_in};
 ghost use Rattle.fdp_book.specs.Reading.{StandsAt};
 
 use super::Book;
-use fdp_base::{DataSpare, Spot};
+use fdp_base::Spot;
 
 /// Where a block stands, and the spare bytes of its page.
 #[derive(Clone, Copy, Debug, PartialEq, Eq)]
@@ -16,22 +16,15 @@ impl Book {
     pub fn page_of(&self, nsid: u32, lba: u64) -> Option<Page>
         ensures { StandsAt self.now ((state_in self.now).blocks nsid lba) result }
     {
+        self.tables.pages.joined();
         match self.tables.map.get(nsid, lba) {
-            Some(mapped) => {
-                let spare = DataSpare {
-                    ruh: mapped.ruh,
-                    rg: mapped.rg,
-                    generation: mapped.generation,
-                    ticket: mapped.ticket,
-                    nsid,
-                    index: mapped.index as u16,
-                    lba,
-                };
-                Some(Page {
+            Some(mapped) => match self.tables.pages.owner(mapped.spot) {
+                Some(owner) => Some(Page {
                     spot: mapped.spot,
-                    spare: spare.encode(),
-                })
-            }
+                    spare: owner.spare.encode(),
+                }),
+                None => unreachable!(),
+            },
             None => None,
         }
     }

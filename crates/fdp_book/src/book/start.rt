@@ -3,8 +3,10 @@ ghost use Rattle.fdp_book.specs.Extent.{IsExtentOf};
 ghost use Rattle.fdp_book.specs.Flown.{first_going};
 ghost use Rattle.fdp_book.specs.Held.{going_of};
 ghost use Rattle.fdp_book.specs.Steps.{MayStart, Starts};
+ghost use Rattle.fdp_pages.specs.Steps.{ChangesOwners};
 
 use super::Book;
+use super::forget::drop_flight;
 use crate::extent::{Extent, extent_of};
 use crate::flight::Flight;
 use crate::room::Room;
@@ -24,13 +26,15 @@ impl Book {
         room: Room,
     ) -> Ticket
         requires may { MayStart self.old queue command admission room }
-        requires spare { 0 < self.old.spare }
-        ensures { Starts self.old self.new queue number command result }
+        requires room { 0 < self.old.room }
+        ensures step { Starts self.old self.new queue number command result }
+        ensures pages { ChangesOwners self.old.pages self.new.pages }
     {
         let position = self.log.position() + 1;
         let extent = extent_of(room.command()).unwrap();
         let birth = self.tables.spaces.birth(extent.nsid).unwrap_or(0);
         let flight = new_flight(number, position, birth, admission, extent, room);
+        drop_flight(&mut self.tables, queue);
         self.tables.flights[usize::from(queue)] = Some(flight);
         let Destination { rg, ruh, valid } = admission.target;
         self.log.push(Entry::Started(Started {

@@ -1,4 +1,4 @@
-use Rattle.fdp_moving_book.specs.Book.{BookSeen}
+use Rattle.fdp_book.specs.Book.{BookSeen}
 use Rattle.fdp_relocation.proofs.Moving.{held-moved}
 use Rattle.fdp_relocation.proofs.advance.collect.Goals as goal
 

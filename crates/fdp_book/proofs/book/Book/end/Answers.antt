@@ -1,20 +1,56 @@
-use Rattle.std.proofs.Common.{ap, ◌∙◌}
-use Rattle.fdp_base.specs.declared.entry.Reply.{Reply}
-use Rattle.fdp_book.specs.Book.{BookSeen}
-use Rattle.fdp_book.proofs.Flights.Endings.{left-without, orderly-flight}
-use Rattle.fdp_book.proofs.Held.Ended.{held_unapplied}
-use Rattle.fdp_book.proofs.book.Book.end.Goals as goal
+use Rattle.std.proofs.Common.{◌≡◌, ◌∙◌, ap, false, refl, subst, sym, List, Some, [], ◌∷◌, ◌++◌}
+use Rattle.fdp_base.specs.declared.entry.Entry.{Entry}
+use Rattle.fdp_rules.specs.Answer.{bare}
 use Rattle.fdp_rules.specs.History.{fresh}
-use Rattle.fdp_book.specs.Held.{book_of}
+use Rattle.fdp_book.specs.Book.{BookSeen, IsLonger, state_in}
+use Rattle.fdp_book.specs.Configured.{no_pages}
+use Rattle.fdp_book.specs.declared.flight.Flight.{Flight}
+use Rattle.fdp_book.specs.Held.{IsHeld, book_of, flight_in}
+use Rattle.fdp_book.specs.Steps.{Completes}
+use Rattle.fdp_book.specs.Tickets.{IsTicketOf}
+use Rattle.fdp_book.proofs.Ending.{completed, completes-by, ended-entry, ending, flying-queue, held-ending}
+use Rattle.fdp_book.proofs.Forgetting.{may-forget}
+use Rattle.fdp_locations.proofs.Ended.{host}
+use Rattle.fdp_book.proofs.book.Book.end.Goals as goal
+
+pub forget-requires : goal.forget-requires
+forget-requires c =
+    let old = c.self.inside in
+    let b : BookSeen = book_of old.config (fresh old.config) old.log old.tables in
+    may-forget old.config (fresh old.config) no_pages old.log.entries old.tables c.give_up-queue.result c.self.invariant.held
+    (flying-queue b c.args.self.now old.tables c.give_up-queue.result c.args.ticket c.self.invariant.held c.self.view_is c.give_up-queue.ensures c.requires.going)
+
+abbrev flight : goal.After-push_host → Flight
+flight c = c.unwrap-flight.result
+
+there : (c : goal.After-push_host) → flight_in c.self.inside.tables.flights.items c.give_up-queue.result ≡ Some (flight c)
+there c = sym c.forget.ensures.flight_is ∙ c.unwrap-flight.ensures
+
+longer : (c : goal.After-push_host) → c.push_host.new.log.entries ≡ c.self.inside.log.entries ++ host c.give_up-queue.result (flight c).number (flight c).room.command (bare c.args.status false) c.args.moment ∷ []
+longer c = c.push_host.ensures.log.entries_are
+    ∙ ap (λ (e : Entry). c.self.inside.log.entries ++ e ∷ []) (ended-entry c.give_up-queue.result (flight c).number c.args.moment (flight c) c.end-command.result.0 c.end-command.result.1 (bare c.args.status false) c.end-command.ensures.command c.end-command.ensures.reply)
 
 pub invariant_of-self : goal.invariant_of-self
 invariant_of-self c =
     let old = c.self.inside in
     let b : BookSeen = book_of old.config (fresh old.config) old.log old.tables in
-    let orderly = orderly-flight b old.tables c.give_up-queue.result c.take_flight-flight.result c.self.invariant.held c.take_flight-flight.ensures.flight in
     record {
-      held = held_unapplied old.config (fresh old.config) old.log.entries c.push_host.new.log.entries old.tables c.take_flight-flight.new.flights _ _ _ _ _
-          c.self.invariant.held orderly.queue_is (ap (λ (r : Reply). r.applied) c.end-command.ensures.reply.history_is) c.push_host.ensures.log.entries_are
-          (left-without old.tables.flights.items c.take_flight-flight.new.flights.items c.give_up-queue.result c.end-command.result.0 c.take_flight-flight.result.room.command c.take_flight-flight.ensures.rest c.end-command.ensures.command orderly.write);
+      held = subst (λ (es : List Entry). IsHeld old.config (fresh old.config) no_pages es c.forget.new.tables) (sym (longer c))
+          (held-ending b c.args.self.now old.tables c.forget.new.tables c.give_up-queue.result c.args.ticket (flight c) c.args.status c.args.moment c.forget.result
+          c.self.invariant.held c.self.view_is c.give_up-queue.ensures (there c) c.requires.going c.forget.ensures);
       before_is = c.push_host.ensures.log.before_is ∙ c.self.invariant.before_is;
+      names_are = c.push_host.ensures.log.names_are ∙ c.self.invariant.names_are;
     }
+
+pub returns-clause-step : goal.returns-clause-step
+returns-clause-step c g is =
+    let old = c.self.inside in
+    let b : BookSeen = book_of old.config (fresh old.config) old.log old.tables in
+    let new : BookSeen = book_of old.config (fresh old.config) c.push_host.new.log c.forget.new.tables in
+    let k = ending b c.args.self.now old.tables c.give_up-queue.result c.args.ticket (flight c) c.self.invariant.held c.self.view_is c.give_up-queue.ensures (there c) c.requires.going in
+    let step : IsLonger b new (host c.give_up-queue.result (flight c).number c.end-command.result.0 c.end-command.result.1.history c.args.moment ∷ []) =
+    record { config_is = refl; found_is = refl; entries_are = c.push_host.ensures.log.entries_are; spare_is = c.push_host.ensures.log.spare_is; spent_is = c.push_host.ensures.log.spent_is; room_is = c.push_host.ensures.log.room_is } in
+    subst (λ (y : BookSeen). Completes y new [] c.args.ticket.queue g.number g.command (bare c.args.status false) c.args.moment c.push_host.result) c.self.view_is
+    (completes-by b new [] c.args.ticket (flight c) g (bare c.args.status false) c.args.moment c.push_host.result k.own (subst (λ (y : BookSeen). IsTicketOf (state_in y) c.args.ticket g) (sym c.self.view_is) is)
+    (completed b new c.give_up-queue.result (flight c).number c.args.moment c.args.ticket (flight c) c.end-command.result.0 c.end-command.result.1 (bare c.args.status false) c.push_host.result c.push_host.new.log
+    step c.give_up-queue.ensures c.end-command.ensures.command c.end-command.ensures.reply c.push_host.ensures.done (c.push_host.ensures.log.before_is ∙ c.self.invariant.before_is) refl))

@@ -1,4 +1,4 @@
-use Rattle.std.proofs.Common.{◌≡◌, ℕ, ◌+◌, ◌<◌, [], ◌∷◌, ◌++◌, length, Option, Some, None, slice_set, refl, sym, ◌∙◌, ap, subst}
+use Rattle.std.proofs.Common.{◌≡◌, ℕ, ◌+◌, ◌<◌, [], ◌∷◌, ◌++◌, length, List, Option, Some, None, slice_set, refl, sym, ◌∙◌, ap, subst}
 use Rattle.std.specs.Prelude.{option_map, unwrap_or}
 use Rattle.std.specs.Option.{option_map_or}
 use Rattle.fdp_base.specs.declared.entry.Entry.{Entry}
@@ -19,6 +19,12 @@ use Rattle.fdp_book.specs.Book.{BookSeen, IsLonger, point_in, position_in, state
 use Rattle.fdp_book.specs.Held.{IsHeld, book_of}
 use Rattle.fdp_book.proofs.Held.Started.{IsLetGo, held_started}
 use Rattle.fdp_book.proofs.Flights.LetGo.{IsMadeFor, let-go, starts}
+use Rattle.fdp_book.specs.declared.tables.Tables.{Tables}
+use Rattle.fdp_book.specs.Configured.{no_pages}
+use Rattle.fdp_book.specs.Held.{flight_in}
+use Rattle.fdp_book.proofs.Forgetting.{may-forget, set-twice}
+use Rattle.fdp_rules.specs.Step.{IsQueue}
+use Rattle.std.specs.Vec.{with_item}
 use Rattle.fdp_book.proofs.book.Book.start.Goals as goal
 use Rattle.fdp_rules.specs.History.{fresh}
 
@@ -35,8 +41,8 @@ flight c = c.new_flight-flight.result
 abbrev started-entry : goal.After-push → Entry
 started-entry c = entries.Started (record { queue = c.args.queue; number = c.args.number; command = c.args.command; rg = c.args.admission.target.rg; ruh = c.args.admission.target.ruh; pid_valid = c.args.admission.target.valid })
 
-held : (c : goal.After-push) → IsHeld c.args.self.now.config c.args.self.now.found c.args.self.now.entries c.self.inside.tables
-held c = subst (λ (b : BookSeen). IsHeld b.config b.found b.entries c.self.inside.tables) c.self.view_is c.self.invariant.held
+held : (c : goal.After-push) → IsHeld c.args.self.now.config c.args.self.now.found no_pages c.args.self.now.entries c.self.inside.tables
+held c = subst (λ (b : BookSeen). IsHeld b.config b.found no_pages b.entries c.self.inside.tables) c.self.view_is c.self.invariant.held
 
 abbrev the-write : goal.After-push → Write
 the-write c = c.requires.may.admitted.write
@@ -81,24 +87,46 @@ go c = let-go c.args.self.now c.args.queue c.args.number c.args.command c.args.a
 entry-is : (c : goal.After-push) → started-entry c ≡ entries.Started (record { queue = c.args.queue; number = c.args.number; command = c.args.command; rg = (flight c).rg; ruh = (flight c).ruh; pid_valid = (flight c).pid_valid })
 entry-is c = ap (λ (g : Going). entries.Started (record { queue = c.args.queue; number = c.args.number; command = c.args.command; rg = g.rg; ruh = g.ruh; pid_valid = g.pid_valid })) (sym c.new_flight-flight.ensures.going)
 
+pub drop_flight-requires : goal.drop_flight-requires
+drop_flight-requires c =
+    let old = c.self.inside in
+    may-forget old.config (fresh old.config) no_pages old.log.entries old.tables c.args.queue c.self.invariant.held (subst (λ (b : BookSeen). IsQueue b.config c.args.queue) (sym c.self.view_is) c.requires.may.queue_is)
+
 pub invariant_of-self : goal.invariant_of-self
 invariant_of-self c =
     let old = c.self.inside in
     let go_old : IsLetGo old.config (point_in (book_of old.config (fresh old.config) old.log old.tables)) c.args.queue c.args.number c.args.command (flight c) =
     subst (λ (b : BookSeen). IsLetGo b.config (point_in b) c.args.queue c.args.number c.args.command (flight c)) (sym c.self.view_is) (go c) in
+    let mid : Tables = c.drop_flight.new.tables in
+    let now : Tables = record mid { flights = with_item mid.flights c.from.result (Some (flight c)) } in
+    let forgets = c.drop_flight.ensures in
     record {
-      held = held_started old.config (fresh old.config) old.log.entries c.push.new.self.entries old.tables _ c.args.queue c.args.number c.args.command (flight c)
-          c.self.invariant.held go_old (ap (λ (q : ℕ). slice_set old.tables.flights.items q (Some (flight c))) c.from.ensures) (c.push.ensures.entries_are ∙ ap (λ (e : Entry). old.log.entries ++ e ∷ []) (entry-is c));
+      held = held_started old.config (fresh old.config) no_pages old.log.entries c.push.new.self.entries old.tables mid now c.args.queue c.args.number c.args.command (flight c)
+          c.self.invariant.held go_old
+          (record {
+            old = flight_in old.tables.flights.items c.args.queue;
+            forgets = forgets;
+            flights_are = ap (λ (q : ℕ). slice_set mid.flights.items q (Some (flight c))) c.from.ensures ∙ ap (λ (xs : List (Option Flight)). slice_set xs c.args.queue (Some (flight c))) forgets.flights_are ∙ set-twice old.tables.flights.items c.args.queue None (Some (flight c));
+            setting = ap (λ (t : Tables). t.setting) forgets.rest;
+            sums = ap (λ (t : Tables). t.sums) forgets.rest;
+            spaces = ap (λ (t : Tables). t.spaces) forgets.rest;
+            map = ap (λ (t : Tables). t.map) forgets.rest;
+            pages = refl;
+          })
+          (c.push.ensures.entries_are ∙ ap (λ (e : Entry). old.log.entries ++ e ∷ []) (entry-is c));
       before_is = c.push.ensures.before_is ∙ c.self.invariant.before_is;
+      names_are = c.push.ensures.names_are ∙ c.self.invariant.names_are;
     }
 
-pub returns : goal.returns
-returns c =
+pub returns-clause-step : goal.returns-clause-step
+returns-clause-step c =
     let old = c.self.inside in
-    let new : BookSeen = book_of old.config (fresh old.config) c.push.new.self old.tables in
+    let mid : Tables = c.drop_flight.new.tables in
+    let now : Tables = record mid { flights = with_item mid.flights c.from.result (Some (flight c)) } in
+    let new : BookSeen = book_of old.config (fresh old.config) c.push.new.self now in
     let longer : IsLonger c.args.self.now new (started-entry c ∷ []) =
     subst (λ (b : BookSeen). IsLonger b new (started-entry c ∷ [])) c.self.view_is
-    (record { config_is = refl; found_is = refl; entries_are = c.push.ensures.entries_are; spare_is = c.push.ensures.spare_is; spent_is = c.push.ensures.spent_is }) in
+    (record { config_is = refl; found_is = refl; entries_are = c.push.ensures.entries_are; spare_is = c.push.ensures.spare_is; spent_is = c.push.ensures.spent_is; room_is = c.push.ensures.room_is }) in
     let ticket_is = ap (λ (g : Going). record { queue = c.args.queue; number = c.args.number; position = g.ticket }) (sym c.new_flight-flight.ensures.going) in
     starts c.args.self.now new c.args.queue c.args.number c.args.command (the-write c) (flight c) (record { queue = c.args.queue; number = c.args.number; position = c.position-position.result + 1 }) (held c).orderly (go c) c.requires.may.admitted.command_is (made c)
     (subst (λ (e : Entry). IsLonger c.args.self.now new (e ∷ [])) (entry-is c) longer) ticket_is

@@ -1,0 +1,64 @@
+-- The tables after an entry more, by what it leaves of each.
+use Rattle.std.proofs.Common.{◌≡◌, Bool, List, [], ◌∷◌, ◌++◌, Option, sym, subst}
+use Rattle.fdp_base.specs.declared.config.DriveConfig.{DriveConfig}
+use Rattle.fdp_base.specs.declared.entry.Entry.{Entry}
+use Rattle.fdp_base.specs.declared.entry.Spot.{Spot}
+use Rattle.fdp_book.specs.declared.tables.Tables.{Tables}
+use Rattle.fdp_book.specs.Held.{AreFlightsOf, ArePagesOf, AreSpacesOf, AreSumsOf, IsHeld, IsHeldAt, IsMapOf, IsSettingOf}
+use Rattle.fdp_history.specs.Orderly.{IsOrderly}
+use Rattle.fdp_history.specs.Standing.{IsStanding}
+use Rattle.fdp_history.proofs.Points.{orderly-next}
+use Rattle.fdp_history.proofs.Standing.{standing-next}
+use Rattle.fdp_locations.specs.Located.{AreUnitsOf}
+use Rattle.fdp_locations.specs.Written.{Written, written_after, written_by}
+use Rattle.fdp_locations.proofs.Histories.{written_by-push}
+use Rattle.fdp_rules.proofs.Pushes.{point_of-push}
+use Rattle.fdp_rules.specs.History.{Found, point_of}
+use Rattle.fdp_rules.specs.Next.{next}
+use Rattle.fdp_rules.specs.PlainState.{PlainState}
+use Rattle.fdp_rules.specs.Point.{Point}
+use Rattle.fdp_rules.specs.Step.{Follows}
+
+-- tables that follow a state, but for the sums and the pages
+pub record AreTablesOf (c : DriveConfig) (s : PlainState) (t : Tables) : Type 0 where
+  pub setting_is : IsSettingOf s t.setting
+  pub spaces_are : AreSpacesOf c s t.spaces
+  pub map_is : IsMapOf s t.map
+  pub flights_are : AreFlightsOf c s t.flights.items
+  pub units_are : AreUnitsOf c s t.pages
+
+-- the tables stand for the history where the point and what pages hold are those of it
+pub held-at : (c : DriveConfig) (found : Found) (first : Spot → Option Written) (es : List Entry) (p : Point) (written : Spot → Option Written) (t : Tables) → p ≡ point_of c found es → written ≡ written_by c found first es → IsHeldAt c found es p written t → IsHeld c found first es t
+held-at c found first es p written t point_is written_is h =
+    subst (λ (x : Point). IsHeldAt c found es x (written_by c found first es) t) point_is
+    (subst (λ (x : Spot → Option Written). IsHeldAt c found es p x t) written_is h)
+
+-- an entry more, behind which all is orderly
+pub held-after : (c : DriveConfig) (found : Found) (first : Spot → Option Written) (es : List Entry) (e : Entry) (t now : Tables) → IsHeld c found first es t → IsOrderly c (next c (point_of c found es) e) → IsStanding c (next c (point_of c found es) e) →
+    AreTablesOf c (next c (point_of c found es) e).state now → AreSumsOf found (es ++ e ∷ []) now.sums →
+    ArePagesOf c (next c (point_of c found es) e) (written_after c (point_of c found es).state (written_by c found first es) e) now.map now.flights.items now.pages →
+    IsHeld c found first (es ++ e ∷ []) now
+held-after c found first es e t now h orderly standing tables sums pages =
+    let p : Point = point_of c found es in
+    held-at c found first (es ++ e ∷ []) (next c p e) (written_after c p.state (written_by c found first es) e) now (sym (point_of-push c found es e)) (sym (written_by-push c found first es e))
+    (record {
+      config = h.config;
+      orderly = orderly;
+      standing = standing;
+      setting_is = tables.setting_is;
+      sums_are = sums;
+      spaces_are = tables.spaces_are;
+      map_is = tables.map_is;
+      flights_are = tables.flights_are;
+      units_are = tables.units_are;
+      pages_are = pages;
+    })
+
+-- an entry more that may follow
+pub held-next : (told : Bool) (c : DriveConfig) (found : Found) (first : Spot → Option Written) (es : List Entry) (e : Entry) (t now : Tables) → IsHeld c found first es t → Follows told c (point_of c found es) e →
+    AreTablesOf c (next c (point_of c found es) e).state now → AreSumsOf found (es ++ e ∷ []) now.sums →
+    ArePagesOf c (next c (point_of c found es) e) (written_after c (point_of c found es).state (written_by c found first es) e) now.map now.flights.items now.pages →
+    IsHeld c found first (es ++ e ∷ []) now
+held-next told c found first es e t now h follows tables sums pages =
+    let p : Point = point_of c found es in
+    held-after c found first es e t now h (orderly-next told c p e h.config h.orderly follows) (standing-next told c p e h.orderly h.standing follows) tables sums pages

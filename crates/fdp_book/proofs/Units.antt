@@ -1,3 +1,0 @@
-pub mod Unused
-pub mod UsedMore
-pub mod More

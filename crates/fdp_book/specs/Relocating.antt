@@ -1,0 +1,66 @@
+-- What the steps of relocation make of a book.
+use Rattle.std.specs.Prelude.{◌≡◌, ℕ, ◌+◌, Bool, false, List, [], ◌∷◌, ◌++◌, length, slice_set}
+use Rattle.fdp_base.specs.declared.entry.Entry.{Entry}
+use Rattle.fdp_base.specs.declared.entry.Entry.TheVariants as entries
+use Rattle.fdp_book.specs.declared.tables.Sums.{Sums}
+use Rattle.fdp_book.specs.Book.{BookSeen, IsLonger, point_in}
+use Rattle.fdp_book.specs.Logged.{Logged}
+use Rattle.fdp_collector.specs.declared.step.Lost.TheVariants as lost
+use Rattle.fdp_collector.specs.declared.step.Step.{Step}
+use Rattle.fdp_collector.specs.declared.step.Step.TheVariants as steps
+use Rattle.fdp_collector.specs.Step.{IsStep}
+use Rattle.fdp_flash.specs.FlashState.{FlashState}
+use Rattle.fdp_owners.specs.OwnerTable.{owner_at}
+use Rattle.fdp_pages.specs.PageTables.{copies_at, passes_at, relocation_at}
+use Rattle.fdp_pages.specs.Steps.{HasSize, Recounts, ended_move}
+use Rattle.fdp_rules.specs.Sites.{moved_blocks}
+use Rattle.fdp_rules.specs.Step.{Follows}
+use Rattle.fdp_rules.specs.Totals.{erases, media_blocks}
+use Rattle.fdp_trails.specs.Moves.{owners_moved}
+
+-- the entry that tells of a step of relocation in a group, if one does
+abbrev pub told_by : ℕ → Step → List Entry
+told_by rg steps.Nothing = []
+told_by rg (steps.Copied copy) = entries.Copied copy ∷ []
+told_by rg steps.ReadyToMove = []
+told_by rg (steps.Erased unit) = entries.Erased (record { unit = unit }) ∷ []
+told_by rg steps.EraseDue = []
+told_by rg steps.Starved = entries.Worn (record { rg = rg }) ∷ []
+told_by rg (steps.Fault lost.None) = []
+told_by rg (steps.Fault (lost.Aside unit)) = entries.Aside (record { unit = unit }) ∷ []
+told_by rg (steps.Fault (lost.Retired unit)) = entries.Retired (record { unit = unit }) ∷ []
+
+-- The log and the sums with the entry that tells of a step of relocation in a group, if one does.
+pub record Tells (rg : ℕ) (step : Step) (log now : Logged) (sums new : Sums) : Type 0 where
+  pub entries_are : now.entries ≡ log.entries ++ told_by rg step
+  pub room_is : now.room + length (told_by rg step) ≡ log.room
+  pub log_is : now ≡ record log { entries = now.entries; room = now.room }
+  pub host_blocks_are : new.host_blocks ≡ sums.host_blocks
+  pub media_blocks_are : new.media_blocks ≡ sums.media_blocks + media_blocks (told_by rg step)
+  pub erases_are : new.erases ≡ sums.erases + erases (told_by rg step)
+
+-- each of these entries may follow what stands; they are one at most
+abbrev pub MayFollow : BookSeen → List Entry → Type 0
+MayFollow b [] = Unit {0}
+MayFollow b (e ∷ es) = (told : Bool) → Follows told b.config (point_in b) e
+
+-- A step of relocation in a group, with its calls of the flash: what it makes of the pages, and the entry that tells of it. Whose
+-- the pages are, what handles reference, and the passes of other groups stay.
+pub record Relocates (old new : BookSeen) (before after : FlashState) (rg : ℕ) (may_erase : Bool) (step : Step) : Type 0 where
+  pub is : IsStep old.pages.owners old.pages.handles.classes rg may_erase (relocation_at old.pages rg) (relocation_at new.pages rg) before after step
+  pub rest : new.pages ≡ record old.pages { units = new.pages.units; passes = slice_set old.pages.passes rg (passes_at new.pages rg) }
+  pub longer : IsLonger old new (told_by rg step)
+  pub move_is : new.may_move ≡ old.may_move
+  pub follows : MayFollow old (told_by rg step)
+
+-- The pass of a group is moved: each copy whose old page is live gets its owner, and the entry lists the blocks among them. The pass goes
+-- on without copies. The step under way may not move another.
+pub record MovesPass (old new : BookSeen) (rg : ℕ) : Type 0 where
+  pub longer : IsLonger old new (entries.Moved (record { rg = rg; blocks = moved_blocks (point_in old) rg }) ∷ [])
+  pub move_is : new.may_move ≡ false
+  pub follows : (told : Bool) → Follows told old.config (point_in old) (entries.Moved (record { rg = rg; blocks = moved_blocks (point_in old) rg }))
+  pub owners : owner_at new.pages.owners ≡ owners_moved (owner_at old.pages.owners) (copies_at old.pages rg)
+  pub size : HasSize old.pages.owners new.pages.owners
+  pub units : Recounts old.pages.units new.pages.units new.pages.owners
+  pub handles : new.pages.handles ≡ old.pages.handles
+  pub passes : new.pages.passes ≡ slice_set old.pages.passes rg (ended_move (passes_at old.pages rg))

@@ -1,3 +1,0 @@
-pub mod Points
-pub mod PutPages
-pub mod Verdicts

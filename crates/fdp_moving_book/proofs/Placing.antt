@@ -1,4 +1,0 @@
-pub mod Fresh
-pub mod Free
-pub mod Nexts
-pub mod Steps

@@ -1,5 +1,0 @@
-pub mod Tables
-pub mod Stored
-pub mod Counted
-pub mod Emptied
-pub mod Vacant

@@ -1,5 +1,0 @@
-use Rattle.fdp_spots.proofs.Emptied.{IsEmptied}
-use Rattle.fdp_spots.proofs.map.Map.empty.Given as goal
-
-abbrev pub invariant-loop-lba : goal.invariant-loop-lba
-invariant-loop-lba l = IsEmptied l.fn.self l.self l.nsid l.lba
