@@ -1,0 +1,7 @@
+pub mod Told
+pub mod Uses
+pub mod Counted
+pub mod Emptied
+pub mod WornOut
+pub mod Ledger
+pub mod Calls
