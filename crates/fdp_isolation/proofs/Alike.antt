@@ -1,0 +1,26 @@
+-- Two books with one history and one state of the pages keep the same apart.
+use Rattle.std.proofs.Common.{◌≡◌, List, sym, subst}
+use Rattle.fdp_base.specs.declared.config.DriveConfig.{DriveConfig}
+use Rattle.fdp_base.specs.declared.entry.Entry.{Entry}
+use Rattle.fdp_book.specs.Book.{BookSeen}
+use Rattle.fdp_flash.specs.declared.cell.Cell.{Cell}
+use Rattle.fdp_isolation.specs.Isolated.{since_setting}
+use Rattle.fdp_isolation.specs.Laned.{AreLaned, IsLaned}
+use Rattle.fdp_pages.specs.PageTables.{PageTables}
+use Rattle.fdp_pointers.specs.Facts.{HasOnlyPlaced}
+use Rattle.fdp_rules.specs.History.{Found, point_of}
+
+-- what is kept apart, by the parts of a book
+record IsLanedBy (cells : List Cell) (c : DriveConfig) (found : Found) (es : List Entry) (t : PageTables) : Type 0 where
+  pub laned : IsLaned c (point_of c found es).state.generation (since_setting es) t cells
+  pub placed : HasOnlyPlaced (point_of c found es)
+
+pub laned-alike : (b d : BookSeen) (cells : List Cell) → d.config ≡ b.config → d.found ≡ b.found → d.entries ≡ b.entries → d.pages ≡ b.pages → AreLaned b cells → AreLaned d cells
+laned-alike b d cells config found entries pages h =
+    let was : IsLanedBy cells b.config b.found b.entries b.pages = record { laned = h.laned; placed = h.placed } in
+    let now : IsLanedBy cells d.config d.found d.entries d.pages =
+    subst (λ (c : DriveConfig). IsLanedBy cells c d.found d.entries d.pages) (sym config)
+    (subst (λ (f : Found). IsLanedBy cells b.config f d.entries d.pages) (sym found)
+    (subst (λ (es : List Entry). IsLanedBy cells b.config b.found es d.pages) (sym entries)
+    (subst (λ (t : PageTables). IsLanedBy cells b.config b.found b.entries t) (sym pages) was))) in
+    record { laned = now.laned; placed = now.placed }

@@ -1,0 +1,220 @@
+-- What further entries leave of the generation in force, and what they tell of units.
+use Rattle.std.proofs.Common.{◌≡◌, ◌⊎◌, ℕ, Bool, true, false, ◌&&◌, ◌||◌, List, [], ◌∷◌, ◌++◌, Option, refl, sym, ◌∙◌, ap, subst, inl, inr, append_assoc}
+use mathlib.Core.List.{append-nil}
+use Rattle.std.specs.Prelude.{IsTrue, if◌then◌else◌}
+use Rattle.std.specs.List.{list_any}
+use Rattle.std.proofs.lemmas.List.Folds.{list_any-append}
+use Rattle.fdp_base.specs.declared.command.Command.{Command}
+use Rattle.fdp_base.specs.declared.command.Command.TheVariants as commands
+use Rattle.fdp_base.specs.declared.config.DriveConfig.{DriveConfig}
+use Rattle.fdp_base.specs.declared.entry.Entry.{Entry}
+use Rattle.fdp_base.specs.declared.entry.Entry.TheVariants as entries
+use Rattle.fdp_base.specs.declared.entry.Reply.{Reply}
+use Rattle.fdp_base.specs.CommandKinds.{is_write}
+use Rattle.fdp_book.specs.Book.{BookSeen, IsLonger, point_in, state_in, written_in}
+use Rattle.fdp_book.specs.Configured.{no_pages}
+use Rattle.fdp_base.specs.declared.entry.Spot.{Spot}
+use Rattle.fdp_history.specs.Orderly.{IsOrderly}
+use Rattle.fdp_history.proofs.Effects.{fewer-going}
+use Rattle.fdp_isolation.specs.Isolated.{before_erase, empties, is_setting, puts_into, sets_placement, since_setting}
+use Rattle.fdp_locations.specs.Written.{Written, written_after, written_by}
+use Rattle.fdp_locations.proofs.Histories.{written_by-push}
+use Rattle.fdp_pointers.specs.Facts.{HasOnlyPlaced}
+use Rattle.fdp_pointers.proofs.Unplaced.{only-placed-next}
+use Rattle.fdp_rules.specs.Change.{after, changed_by}
+use Rattle.fdp_rules.specs.Effect.{effect_of}
+use Rattle.fdp_rules.specs.History.{Found, point_of}
+use Rattle.fdp_rules.specs.Next.{next}
+use Rattle.fdp_rules.specs.PlainState.{PlainState}
+use Rattle.fdp_rules.specs.Point.{Point}
+use Rattle.fdp_rules.specs.Sites.{traced_by}
+use Rattle.fdp_rules.specs.Step.{Follows}
+use Rattle.fdp_rules.proofs.Pushes.{point_of-push}
+
+pub no : true ≡ false → ⊥
+no e = cc
+
+-- ---- the entries since another configuration came in force
+
+-- no entry of these puts another configuration in force
+abbrev pub AreQuiet : List Entry → Type 0
+AreQuiet es = list_any sets_placement es ≡ false
+
+since-quiet : (es : List Entry) → AreQuiet es → since_setting es ≡ es
+unfolding since_setting
+since-quiet [] quiet = refl
+since-quiet (e ∷ es) quiet = ap (λ (b : Bool). if b then since_setting es else e ∷ es) quiet
+
+-- further ones that put none in force stand behind those since
+pub since-more : (es more : List Entry) → AreQuiet more → since_setting (es ++ more) ≡ since_setting es ++ more
+unfolding since_setting
+since-more [] more quiet = since-quiet more quiet
+since-more (e ∷ es) more quiet =
+    let same : list_any sets_placement ((e ∷ es) ++ more) ≡ list_any sets_placement (e ∷ es) =
+    list_any-append sets_placement (e ∷ es) more ∙ ap (λ (b : Bool). list_any sets_placement (e ∷ es) || b) quiet ∙ or-false (list_any sets_placement (e ∷ es)) in
+    ap (λ (b : Bool). if b then since_setting (es ++ more) else e ∷ es ++ more) same ∙ cases (since-more es more quiet) (list_any sets_placement (e ∷ es)) where
+      or-false : (b : Bool) → (b || false) ≡ b
+      or-false true = refl
+      or-false false = refl
+
+      cases : since_setting (es ++ more) ≡ since_setting es ++ more → (b : Bool) → (if b then since_setting (es ++ more) else e ∷ es ++ more) ≡ (if b then since_setting es else e ∷ es) ++ more
+      cases rest true = rest
+      cases rest false = refl
+
+-- ---- the generation in force
+
+effect-generation : (c : DriveConfig) (s : PlainState) (queue : ℕ) (command : Command) → is_setting command ≡ false → (effect_of c s queue command).generation ≡ s.generation
+unfolding effect_of
+effect-generation c s queue (commands.Write w) other = refl
+effect-generation c s queue (commands.Read r) other = refl
+effect-generation c s queue (commands.Zero z) other = refl
+effect-generation c s queue (commands.Dealloc d) other = refl
+effect-generation c s queue (commands.Flush f) other = refl
+effect-generation c s queue (commands.Delete d) other = refl
+effect-generation c s queue (commands.Status status) other = refl
+effect-generation c s queue (commands.Update u) other = refl
+effect-generation c s queue (commands.Log l) other = refl
+effect-generation c s queue (commands.SetFdp set) other = absurd (no other)
+effect-generation c s queue (commands.GetFdp g) other = refl
+effect-generation c s queue (commands.SetEvents set) other = refl
+effect-generation c s queue (commands.Create create) other = refl
+effect-generation c s queue (commands.Other o) other = refl
+
+made-generation : (c : DriveConfig) (s : PlainState) (queue : ℕ) (command : Command) (made : Bool) → (is_setting command && made) ≡ false → (if made then effect_of c s queue command else s).generation ≡ s.generation
+made-generation c s queue command false other = refl
+made-generation c s queue command true other = effect-generation c s queue command (first (is_setting command) other) where
+  first : (b : Bool) → (b && true) ≡ false → b ≡ false
+  first true e = absurd (no e)
+  first false e = refl
+
+pub generation-next : (c : DriveConfig) (p : Point) (e : Entry) → sets_placement e ≡ false → (next c p e).state.generation ≡ p.state.generation
+unfolding next after changed_by
+generation-next c p (entries.Host h) other = made-generation c p.state h.queue h.command h.reply.applied other
+generation-next c p (entries.Started s) other = refl
+generation-next c p (entries.Placed placed) other = refl
+generation-next c p (entries.Copied copied) other = refl
+generation-next c p (entries.Moved m) other = refl
+generation-next c p (entries.Erased e) other = refl
+generation-next c p (entries.Retired r) other = refl
+generation-next c p (entries.Aside a) other = refl
+generation-next c p (entries.Shut s) other = refl
+generation-next c p (entries.Worn w) other = refl
+generation-next c p entries.Reopened other = refl
+
+-- ---- a book with further entries
+
+pub point-one : (old new : BookSeen) (e : Entry) → IsLonger old new (e ∷ []) → point_in new ≡ next old.config (point_in old) e
+point-one old new e h =
+    ap (λ (c : DriveConfig). point_of c new.found new.entries) h.config_is
+    ∙ ap (λ (f : Found). point_of old.config f new.entries) h.found_is
+    ∙ ap (point_of old.config old.found) h.entries_are
+    ∙ point_of-push old.config old.found old.entries e
+
+pub point-two : (old new : BookSeen) (a b : Entry) → IsLonger old new (a ∷ b ∷ []) → point_in new ≡ next old.config (next old.config (point_in old) a) b
+point-two old new a b h =
+    ap (λ (c : DriveConfig). point_of c new.found new.entries) h.config_is
+    ∙ ap (λ (f : Found). point_of old.config f new.entries) h.found_is
+    ∙ ap (point_of old.config old.found) (h.entries_are ∙ sym (append_assoc old.entries (a ∷ []) (b ∷ [])))
+    ∙ point_of-push old.config old.found (old.entries ++ a ∷ []) b
+    ∙ ap (λ (p : Point). next old.config p b) (point_of-push old.config old.found old.entries a)
+
+pub point-none : (old new : BookSeen) → IsLonger old new [] → point_in new ≡ point_in old
+point-none old new h =
+    ap (λ (c : DriveConfig). point_of c new.found new.entries) h.config_is
+    ∙ ap (λ (f : Found). point_of old.config f new.entries) h.found_is
+    ∙ ap (point_of old.config old.found) (h.entries_are ∙ append-nil old.entries)
+
+-- what pages hold
+pub written-one : (old new : BookSeen) (e : Entry) → IsLonger old new (e ∷ []) → written_in new ≡ written_after old.config (state_in old) (written_in old) e
+written-one old new e h =
+    ap (λ (c : DriveConfig). written_by c new.found no_pages new.entries) h.config_is
+    ∙ ap (λ (f : Found). written_by old.config f no_pages new.entries) h.found_is
+    ∙ ap (written_by old.config old.found no_pages) h.entries_are
+    ∙ written_by-push old.config old.found no_pages old.entries e
+
+pub written-two : (old new : BookSeen) (a b : Entry) → IsLonger old new (a ∷ b ∷ []) → written_in new ≡ written_after old.config (next old.config (point_in old) a).state (written_after old.config (state_in old) (written_in old) a) b
+written-two old new a b h =
+    ap (λ (c : DriveConfig). written_by c new.found no_pages new.entries) h.config_is
+    ∙ ap (λ (f : Found). written_by old.config f no_pages new.entries) h.found_is
+    ∙ ap (written_by old.config old.found no_pages) (h.entries_are ∙ sym (append_assoc old.entries (a ∷ []) (b ∷ [])))
+    ∙ written_by-push old.config old.found no_pages (old.entries ++ a ∷ []) b
+    ∙ ap (λ (p : Point). written_after old.config p.state (written_by old.config old.found no_pages (old.entries ++ a ∷ [])) b) (point_of-push old.config old.found old.entries a)
+    ∙ ap (λ (w : Spot → Option Written). written_after old.config (next old.config (point_in old) a).state w b) (written_by-push old.config old.found no_pages old.entries a)
+
+pub since-longer : (old new : BookSeen) (es : List Entry) → IsLonger old new es → AreQuiet es → since_setting new.entries ≡ since_setting old.entries ++ es
+since-longer old new es h quiet = ap since_setting h.entries_are ∙ since-more old.entries es quiet
+
+-- ---- what entries tell of a unit
+
+pub put-before : (unit : ℕ) (es more : List Entry) → list_any (puts_into unit) more ≡ false → IsTrue (list_any (puts_into unit) (es ++ more)) → IsTrue (list_any (puts_into unit) es)
+put-before unit es more none put = cases (list_any (puts_into unit) es) (sym (list_any-append (puts_into unit) es more ∙ ap (λ (b : Bool). list_any (puts_into unit) es || b) none) ∙ put) where
+  cases : (b : Bool) → (b || false) ≡ true → b ≡ true
+  cases true e = refl
+  cases false e = absurd (no (sym e))
+
+pub put-cases : (unit : ℕ) (es : List Entry) (e : Entry) → IsTrue (list_any (puts_into unit) (es ++ e ∷ [])) → IsTrue (list_any (puts_into unit) es) ⊎ IsTrue (puts_into unit e)
+put-cases unit es e put = cases (list_any (puts_into unit) es) (puts_into unit e) (sym (list_any-append (puts_into unit) es (e ∷ [])) ∙ put) where
+  cases : (a b : Bool) → (a || (b || false)) ≡ true → (a ≡ true) ⊎ (b ≡ true)
+  cases true b h = inl refl
+  cases false true h = inr refl
+  cases false false h = absurd (no (sym h))
+
+pub emptied-before : (unit : ℕ) (es more : List Entry) → list_any (empties unit) (es ++ more) ≡ false → list_any (empties unit) es ≡ false
+emptied-before unit es more none = cases (list_any (empties unit) es) (sym (list_any-append (empties unit) es more) ∙ none) where
+  cases : (b : Bool) → (b || list_any (empties unit) more) ≡ false → b ≡ false
+  cases true e = absurd (no e)
+  cases false e = refl
+
+-- the entries before the erase of a unit, with further ones: of a unit that was not erased, and of one that was
+pub before-none : (unit : ℕ) (es more : List Entry) → list_any (empties unit) es ≡ false → before_erase unit (es ++ more) ≡ es ++ before_erase unit more
+unfolding before_erase
+before-none unit [] more none = refl
+before-none unit (e ∷ es) more none = step (before-none unit es more) (empties unit e) refl where
+  step : (list_any (empties unit) es ≡ false → before_erase unit (es ++ more) ≡ es ++ before_erase unit more) → (b : Bool) → empties unit e ≡ b → (if empties unit e then [] else e ∷ before_erase unit (es ++ more)) ≡ e ∷ es ++ before_erase unit more
+  step rest true is = absurd (no (sym (ap (λ (b : Bool). b || list_any (empties unit) es) is) ∙ none))
+  step rest false is =
+      ap (λ (b : Bool). if b then [] else e ∷ before_erase unit (es ++ more)) is
+      ∙ ap (λ (xs : List Entry). e ∷ xs) (rest (sym (ap (λ (b : Bool). b || list_any (empties unit) es) is) ∙ none))
+
+pub before-some : (unit : ℕ) (es more : List Entry) → list_any (empties unit) es ≡ true → before_erase unit (es ++ more) ≡ before_erase unit es
+unfolding before_erase
+before-some unit [] more some = absurd (no (sym some))
+before-some unit (e ∷ es) more some = step (before-some unit es more) (empties unit e) refl where
+  step : (list_any (empties unit) es ≡ true → before_erase unit (es ++ more) ≡ before_erase unit es) → (b : Bool) → empties unit e ≡ b → (if empties unit e then [] else e ∷ before_erase unit (es ++ more)) ≡ (if empties unit e then [] else e ∷ before_erase unit es)
+  step rest true is = ap (λ (b : Bool). if b then [] else e ∷ before_erase unit (es ++ more)) is ∙ sym (ap (λ (b : Bool). if b then [] else e ∷ before_erase unit es) is)
+  step rest false is =
+      ap (λ (b : Bool). if b then [] else e ∷ before_erase unit (es ++ more)) is
+      ∙ ap (λ (xs : List Entry). e ∷ xs) (rest (sym (ap (λ (b : Bool). b || list_any (empties unit) es) is) ∙ some))
+      ∙ sym (ap (λ (b : Bool). if b then [] else e ∷ before_erase unit es) is)
+
+-- ---- pages of going writes
+
+-- after the end of a command, whatever it answers, each page of a going write that stands somewhere was placed
+pub only-placed-host : (c : DriveConfig) (p : Point) (queue number : ℕ) (command : Command) (reply : Reply) (moment : ℕ) → HasOnlyPlaced p → HasOnlyPlaced (next c p (entries.Host (record { queue = queue; number = number; command = command; reply = reply; moment = moment })))
+unfolding next after changed_by traced_by
+only-placed-host c p queue number command reply moment h = λ k i g spot going site. h k i g spot (fewer-going p.state queue (is_write command) k g going) site
+
+-- ---- a step
+
+-- these entries put no other configuration in force, and leave the generation; each page of a going write that stands was placed
+pub record IsQuietStep (old new : BookSeen) (es : List Entry) : Type 0 where
+  pub longer : IsLonger old new es
+  pub quiet : AreQuiet es
+  pub generation : (state_in new).generation ≡ (state_in old).generation
+  pub placed : HasOnlyPlaced (point_in new)
+
+pub quiet-none : (old new : BookSeen) → IsLonger old new [] → HasOnlyPlaced (point_in old) → IsQuietStep old new []
+quiet-none old new longer placed = record {
+  longer = longer;
+  quiet = refl;
+  generation = ap (λ (p : Point). p.state.generation) (point-none old new longer);
+  placed = subst HasOnlyPlaced (sym (point-none old new longer)) placed;
+}
+
+pub quiet-one : (told : Bool) (old new : BookSeen) (e : Entry) → IsLonger old new (e ∷ []) → sets_placement e ≡ false → IsOrderly old.config (point_in old) → Follows told old.config (point_in old) e → HasOnlyPlaced (point_in old) → IsQuietStep old new (e ∷ [])
+quiet-one told old new e longer none orderly follows placed = record {
+  longer = longer;
+  quiet = ap (λ (b : Bool). b || false) none;
+  generation = ap (λ (p : Point). p.state.generation) (point-one old new e longer) ∙ generation-next old.config (point_in old) e none;
+  placed = subst HasOnlyPlaced (sym (point-one old new e longer)) (only-placed-next told old.config (point_in old) e orderly follows placed);
+}

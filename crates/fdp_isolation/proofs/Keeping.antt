@@ -1,0 +1,128 @@
+-- What a step keeps apart, by what it does to the tables and to the cells.
+use Rattle.std.proofs.Common.{◌≡◌, ◌≢◌, ◌⊎◌, ℕ, false, List, ◌++◌, Option, Some, sym, ◌∙◌, ap, arith, subst, ⊎_elim}
+use Rattle.std.specs.Prelude.{IsTrue, slice_index_or}
+use Rattle.std.specs.List.{list_any}
+use Rattle.std.proofs.lemmas.Bool.{cases_eq}
+use Rattle.fdp_base.specs.declared.config.Class.{Class}
+use Rattle.fdp_base.specs.declared.config.DriveConfig.{DriveConfig}
+use Rattle.fdp_base.specs.declared.entry.Entry.{Entry}
+use Rattle.fdp_base.specs.declared.entry.Spot.{Spot}
+use Rattle.fdp_book.specs.Book.{BookSeen, state_in}
+use Rattle.fdp_flash.specs.declared.cell.Cell.{Cell}
+use Rattle.fdp_handles.specs.HandleTable.{HandleTable, reference_at}
+use Rattle.fdp_image.specs.Isolation.{EachPage}
+use Rattle.fdp_isolation.specs.Isolated.{puts_into, since_setting}
+use Rattle.fdp_isolation.specs.Laned.{AreLaned, GoesOneWay, IsLaned, lane_by}
+use Rattle.fdp_isolation.proofs.Entries.{IsQuietStep, put-before, since-longer}
+use Rattle.fdp_isolation.proofs.Pages.{KeepsPages, each-both, each-kept}
+use Rattle.fdp_owners.specs.declared.owner.Owner.{Owner}
+use Rattle.fdp_owners.specs.OwnerTable.{owner_at}
+use Rattle.fdp_pages.specs.PageTables.{PageTables, no_passes, passes_at, unit_of}
+use Rattle.fdp_pages.specs.Steps.{ChangesOwners}
+use Rattle.fdp_passes.specs.declared.lane.Lane.{Lane}
+use Rattle.fdp_passes.specs.GroupPasses.{GroupPasses, target_at}
+use Rattle.fdp_rules.specs.Sites.{group_of}
+
+-- each owner knows the generation in force, and the group of its page
+abbrev pub AreInForce : DriveConfig → ℕ → (Spot → Option Owner) → Type 0
+AreInForce c generation owners = (spot : Spot) (x : Owner) → owners spot ≡ Some x → (x.spare.generation ≡ generation) × (x.spare.rg ≡ group_of c spot.unit)
+
+-- no further unit is filled by a handle, or gets copies
+pub record FillsNoMore (t now : PageTables) : Type 0 where
+  pub classes : now.handles.classes ≡ t.handles.classes
+  pub filled : (rg ruh unit : ℕ) → unit_of now rg ruh ≡ Some unit → unit_of t rg ruh ≡ Some unit
+  pub targets : (rg unit : ℕ) (lane : Lane) → target_at (passes_at now rg) lane ≡ Some unit → target_at (passes_at t rg) lane ≡ Some unit
+
+-- where only owners change
+pub owners-fill : (t now : PageTables) → ChangesOwners t now → FillsNoMore t now
+owners-fill t now h = record {
+  classes = ap (λ (x : HandleTable). x.classes) h.handles;
+  filled = λ rg ruh unit e. ap (λ (x : HandleTable). (reference_at x rg ruh).unit) (sym h.handles) ∙ e;
+  targets = λ rg unit lane e. ap (λ (xs : List GroupPasses). target_at (slice_index_or xs rg no_passes) lane) (sym h.passes) ∙ e;
+}
+
+-- a unit goes one way still
+way-kept : (c : DriveConfig) (generation : ℕ) (classes : List Class) (old new : List Cell) (unit : ℕ) → KeepsPages c old new unit → GoesOneWay c generation classes old unit → GoesOneWay c generation classes new unit
+way-kept c generation classes old new unit keeps h = record { own = h.own; past = h.past; lane = h.lane; pages = each-kept c unit old new _ keeps h.pages }
+
+module _ (c : DriveConfig) (generation : ℕ) (es more : List Entry) (t now : PageTables) (old new : List Cell) where
+  -- ---- no page is put
+
+  pub laned-kept : FillsNoMore t now → ((unit : ℕ) → KeepsPages c old new unit) → ((unit : ℕ) → IsTrue (list_any (puts_into unit) more) → IsTrue (list_any (puts_into unit) es)) → AreInForce c generation (owner_at now.owners)
+      → IsLaned c generation es t old → IsLaned c generation more now new
+  laned-kept fills keeps puts live h = record {
+    units = λ unit is. subst (λ (classes : List Class). GoesOneWay c generation classes new unit) (sym fills.classes) (way-kept c generation t.handles.classes old new unit (keeps unit) (h.units unit is));
+    filled = λ rg ruh unit e. each-kept c unit old new _ (keeps unit) (h.filled rg ruh unit (fills.filled rg ruh unit e));
+    targets = λ rg unit lane e.
+        each-kept c unit old new _ (keeps unit) (subst (λ (classes : List Class). EachPage c old unit (λ x. (x.generation ≡ generation) × (lane_by classes x ≡ lane))) (sym fills.classes) (h.targets rg unit lane (fills.targets rg unit lane e)));
+    put = λ unit put. each-kept c unit old new _ (keeps unit) (h.put unit (puts unit put));
+    live = live;
+  }
+
+-- ---- a page is put into a unit at most
+
+-- the pages of a unit name its group and the generation in force, and go one way
+abbrev pub GoesWay : DriveConfig → ℕ → List Class → List Cell → ℕ → Lane → Type 0
+GoesWay c generation classes cells unit lane = EachPage c cells unit (λ x. (x.rg ≡ group_of c unit) × (x.generation ≡ generation) × (lane_by classes x ≡ lane))
+
+-- no further unit but this one is filled by a handle, or gets copies; if a handle fills this one its pages name the handle, and if it is
+-- a target it is that of this lane
+pub record FillsUnit (c : DriveConfig) (t now : PageTables) (cells : List Cell) (unit : ℕ) (lane : Lane) : Type 0 where
+  pub classes : now.handles.classes ≡ t.handles.classes
+  pub filled : (rg ruh other : ℕ) → unit_of now rg ruh ≡ Some other → other ≢ unit → unit_of t rg ruh ≡ Some other
+  pub filled_here : (rg ruh : ℕ) → unit_of now rg ruh ≡ Some unit → EachPage c cells unit (λ x. x.ruh ≡ ruh)
+  pub targets : (rg other : ℕ) (way : Lane) → target_at (passes_at now rg) way ≡ Some other → other ≢ unit → target_at (passes_at t rg) way ≡ Some other
+  pub targets_here : (rg : ℕ) (way : Lane) → target_at (passes_at now rg) way ≡ Some unit → way ≡ lane
+
+module _ (c : DriveConfig) (generation : ℕ) (es more : List Entry) (t now : PageTables) (old new : List Cell) (unit : ℕ) (lane : Lane) where
+  pub laned-got : FillsUnit c t now new unit lane → ((other : ℕ) → other ≢ unit → KeepsPages c old new other) → GoesWay c generation t.handles.classes new unit lane
+      → ((other : ℕ) → IsTrue (list_any (puts_into other) more) → IsTrue (list_any (puts_into other) es) ⊎ (other ≡ unit)) → AreInForce c generation (owner_at now.owners)
+      → IsLaned c generation es t old → IsLaned c generation more now new
+  laned-got fills keeps way puts live h = record {
+    units = λ other is. subst (λ (classes : List Class). GoesOneWay c generation classes new other) (sym fills.classes) (⊎_elim
+        (λ (same : other ≡ unit). subst (GoesOneWay c generation t.handles.classes new) (sym same) (record {
+          own = generation;
+          past = omega arith;
+          lane = lane;
+          pages = λ page spare bytes low e. let x = way page spare bytes low e in (x.0, x.1, (x.2.0, x.2.1, λ same. x.2.2));
+        }))
+        (λ (ne : other ≢ unit). way-kept c generation t.handles.classes old new other (keeps other ne) (h.units other is))
+        (cases_eq other unit));
+    filled = λ rg ruh other e. ⊎_elim
+        (λ (same : other ≡ unit). subst (λ (u : ℕ). EachPage c new u (λ x. (x.generation ≡ generation) × (x.ruh ≡ ruh))) (sym same)
+        (each-both c unit new _ _ in-force (fills.filled_here rg ruh (e ∙ ap (λ (u : ℕ). Some u) same))))
+        (λ (ne : other ≢ unit). each-kept c other old new _ (keeps other ne) (h.filled rg ruh other (fills.filled rg ruh other e ne)))
+        (cases_eq other unit);
+    targets = λ rg other own e. subst (λ (classes : List Class). EachPage c new other (λ x. (x.generation ≡ generation) × (lane_by classes x ≡ own))) (sym fills.classes) (⊎_elim
+        (λ (same : other ≡ unit). subst (λ (u : ℕ). EachPage c new u (λ x. (x.generation ≡ generation) × (lane_by t.handles.classes x ≡ own))) (sym same)
+        (subst (λ (l : Lane). EachPage c new unit (λ x. (x.generation ≡ generation) × (lane_by t.handles.classes x ≡ l))) (sym (fills.targets_here rg own (e ∙ ap (λ (u : ℕ). Some u) same)))
+        (λ page spare bytes low e. let x = way page spare bytes low e in (x.0, x.1, (x.2.1, x.2.2)))))
+        (λ (ne : other ≢ unit). each-kept c other old new _ (keeps other ne) (h.targets rg other own (fills.targets rg other own e ne)))
+        (cases_eq other unit));
+    put = λ other put. ⊎_elim
+        (λ (same : other ≡ unit). subst (λ (u : ℕ). EachPage c new u (λ x. x.generation ≡ generation)) (sym same) in-force)
+        (λ (ne : other ≢ unit). each-kept c other old new _ (keeps other ne) (h.put other (⊎_elim (λ was. was) (λ (same : other ≡ unit). absurd (ne same)) (puts other put))))
+        (cases_eq other unit);
+    live = live;
+  } where
+    in-force : EachPage c new unit (λ x. x.generation ≡ generation)
+    in-force page spare bytes low e = let x = way page spare bytes low e in (x.0, x.1, x.2.1)
+
+-- ---- books
+
+-- what is kept apart after a step
+pub laned-longer : (old new : BookSeen) (es : List Entry) (cells : List Cell) → IsQuietStep old new es → IsLaned old.config (state_in old).generation (since_setting old.entries ++ es) new.pages cells → AreLaned new cells
+laned-longer old new es cells step laned = record {
+  laned = subst (λ (c : DriveConfig). IsLaned c (state_in new).generation (since_setting new.entries) new.pages cells) (sym step.longer.config_is)
+      (subst (λ (g : ℕ). IsLaned old.config g (since_setting new.entries) new.pages cells) (sym step.generation)
+      (subst (λ (xs : List Entry). IsLaned old.config (state_in old).generation xs new.pages cells) (sym (since-longer old new es step.longer step.quiet)) laned));
+  placed = step.placed;
+}
+
+-- and where no page is put, and the owners are in force
+pub laned-still : (old new : BookSeen) (es : List Entry) (cells now : List Cell) → IsQuietStep old new es → FillsNoMore old.pages new.pages → ((unit : ℕ) → KeepsPages old.config cells now unit) → ((unit : ℕ) → list_any (puts_into unit) es ≡ false)
+    → AreInForce old.config (state_in old).generation (owner_at new.pages.owners) → AreLaned old cells → AreLaned new now
+laned-still old new es cells now step fills keeps none live was =
+    laned-longer old new es now step
+    (laned-kept old.config (state_in old).generation (since_setting old.entries) (since_setting old.entries ++ es) old.pages new.pages cells now fills keeps
+    (λ unit put. put-before unit (since_setting old.entries) es (none unit) put) live was.laned)

@@ -1,0 +1,111 @@
+-- Each step of a host, and the move of a pass, leaves alone what had been used.
+use Rattle.std.proofs.Common.{◌≡◌, ◌≢◌, ℕ, Bool, false, List, [], ◌∷◌, refl, sym, ◌∙◌, ap, inl, ne_eqb}
+use Rattle.std.specs.Prelude.{◌||◌, IsTrue}
+use Rattle.std.specs.List.{list_any}
+use Rattle.fdp_base.specs.declared.command.Command.{Command}
+use Rattle.fdp_base.specs.declared.command.Write.{Write}
+use Rattle.fdp_base.specs.declared.config.DriveConfig.{DriveConfig}
+use Rattle.fdp_base.specs.declared.entry.Entry.{Entry}
+use Rattle.fdp_base.specs.declared.entry.Entry.TheVariants as entries
+use Rattle.fdp_base.specs.declared.entry.Reply.{Reply}
+use Rattle.fdp_base.specs.declared.entry.Spot.{Spot}
+use Rattle.fdp_base.specs.declared.status.Status.{Status}
+use Rattle.fdp_base.specs.Placement.{geometry_of}
+use Rattle.fdp_base.specs.Spare.{data_spare}
+use Rattle.fdp_book.specs.declared.ticket.Done.{Done}
+use Rattle.fdp_book.specs.declared.ticket.Ticket.{Ticket}
+use Rattle.fdp_book.specs.Book.{BookSeen, state_in}
+use Rattle.fdp_book.specs.Relocating.{MovesPass}
+use Rattle.fdp_book.specs.Shutting.{ShutsAndEnds}
+use Rattle.fdp_book.specs.Steps.{Completes, IsServed, Places, Starts}
+use Rattle.fdp_book.specs.Tickets.{IsNextSpot, IsTicketOf}
+use Rattle.fdp_collector.proofs.Kept.{changed-other}
+use Rattle.fdp_flash.specs.declared.cell.Cell.{Cell}
+use Rattle.fdp_flash.specs.Cells.{ProgramMayLeave}
+use Rattle.fdp_flash.proofs.Pages.{program_other_unit}
+use Rattle.fdp_isolation.specs.Alone.{AreLeftAlone, gets_none}
+use Rattle.fdp_isolation.specs.Isolated.{IsWornDown, is_setting, puts_into}
+use Rattle.fdp_isolation.specs.Laned.{IsKnown}
+use Rattle.fdp_isolation.proofs.Answered.{served-quiet}
+use Rattle.fdp_isolation.proofs.Entries.{no}
+use Rattle.fdp_isolation.proofs.Leaving.{LeavesUnit, alone-step}
+use Rattle.fdp_isolation.proofs.Placed.{and-false, next-write}
+use Rattle.fdp_locations.specs.Written.{next_spare}
+use Rattle.fdp_owners.specs.OwnerTable.{OwnerTable}
+use Rattle.fdp_pages.specs.PageTables.{PageTables}
+use Rattle.fdp_pages.specs.Steps.{ChangesOwners, Recounts}
+use Rattle.fdp_pages.proofs.Next.{next-page}
+use Rattle.fdp_rules.specs.PlainState.{Going}
+use Rattle.fdp_units.specs.declared.data_unit.DataUnit.{DataUnit}
+use Rattle.fdp_units.specs.declared.state.UnitState.{UnitState}
+use Rattle.fdp_units.specs.declared.state.UnitState.TheVariants.{Free, Referenced, Target, Closed, Retired, Aside}
+use Rattle.fdp_units.specs.DataUnits.{is_free, is_referenced}
+use Rattle.fdp_units.specs.UnitTable.{Changes, UnitTable, state_at}
+
+-- ---- no page is put
+
+recounted : (t now : UnitTable) (o : OwnerTable) (unit : ℕ) → Recounts t now o → IsTrue (gets_none (state_at t unit)) → IsTrue (gets_none (state_at now unit))
+recounted t now o unit h full = ap (λ (x : DataUnit). gets_none x.state) (h.kept unit) ∙ full
+
+-- where only owners change
+owners-leave : (c : DriveConfig) (t now : PageTables) (es : List Entry) (cells : List Cell) (unit : ℕ) → Recounts t.units now.units now.owners → list_any (puts_into unit) es ≡ false → IsTrue (gets_none (state_at t.units unit)) → LeavesUnit c t now es cells cells unit
+owners-leave c t now es cells unit recounts none full = record { none = none; stands = λ kept. recounted t.units now.units now.owners unit recounts full; worn = λ kept page low. inl refl }
+
+pub alone-answered : (first : List Cell) (old new : BookSeen) (queue number : ℕ) (command : Command) (reply : Reply) (moment : ℕ) (done : Done) (cells : List Cell) → Completes old new [] queue number command reply moment done → ChangesOwners old.pages new.pages → IsServed command
+    → AreLeftAlone first old cells → AreLeftAlone first new cells
+alone-answered first old new queue number command reply moment done cells completes changes served h =
+    let e : Entry = entries.Host (record { queue = queue; number = number; command = command; reply = reply; moment = moment }) in
+    alone-step first old new (e ∷ []) cells cells completes.step (served-quiet command reply.applied served) (λ unit full. owners-leave old.config old.pages new.pages (e ∷ []) cells unit changes.units refl full) h
+
+pub alone-started : (first : List Cell) (old new : BookSeen) (queue number : ℕ) (command : Command) (ticket : Ticket) (cells : List Cell) → Starts old new queue number command ticket → ChangesOwners old.pages new.pages
+    → AreLeftAlone first old cells → AreLeftAlone first new cells
+alone-started first old new queue number command ticket cells starts changes h =
+    alone-step first old new _ cells cells starts.step refl (λ unit full. owners-leave old.config old.pages new.pages _ cells unit changes.units refl full) h
+
+pub alone-moved : (first : List Cell) (old new : BookSeen) (rg : ℕ) (cells : List Cell) → MovesPass old new rg
+    → AreLeftAlone first old cells → AreLeftAlone first new cells
+alone-moved first old new rg cells moves h =
+    alone-step first old new _ cells cells moves.longer refl (λ unit full. owners-leave old.config old.pages new.pages _ cells unit moves.units refl full) h
+
+-- ---- a page of a host
+
+-- a unit that gets no page is neither free nor filled by a handle
+none-apart : (state : UnitState) → IsTrue (gets_none state) → IsTrue (is_free state || is_referenced state) → ⊥
+none-apart Free full opened = no (sym full)
+none-apart Referenced full opened = no (sym full)
+none-apart Target full opened = no (sym opened)
+none-apart Closed full opened = no (sym opened)
+none-apart Retired full opened = no (sym opened)
+none-apart Aside full opened = no (sym opened)
+
+module _ (old : BookSeen) (ticket : Ticket) (g : Going) (w : Write) (spot : Spot) (bytes : List ℕ) (cells now : List Cell) (known : IsKnown old) (is : IsTicketOf (state_in old) ticket g) (next : IsNextSpot old ticket g spot) (left : ProgramMayLeave (geometry_of old.config) cells spot (data_spare (next_spare (state_in old) g w)) bytes now) (unit : ℕ) (full : IsTrue (gets_none (state_at old.pages.units unit))) where
+  pub other-unit : unit ≢ spot.unit
+  other-unit same = none-apart (state_at old.pages.units unit) full (ap (λ (u : ℕ). is_free (state_at old.pages.units u) || is_referenced (state_at old.pages.units u)) same ∙ (next-page old.pages g.rg g.ruh spot known.joined next.may).state)
+
+  pub other-worn : IsWornDown (geometry_of old.config) unit cells now
+  other-worn page low = inl (program_other_unit (geometry_of old.config) cells spot (data_spare (next_spare (state_in old) g w)) bytes now unit left (next-write old ticket g w spot known is next).inside (λ same. other-unit (sym same)) page low)
+
+  pub other-stands : (t : UnitTable) (x : DataUnit) → Changes old.pages.units t spot.unit x → IsTrue (gets_none (state_at t unit))
+  other-stands t x change = ap (λ (y : DataUnit). gets_none y.state) (changed-other old.pages.units t spot.unit unit x change other-unit) ∙ full
+
+pub alone-placed : (first : List Cell) (old new : BookSeen) (ticket : Ticket) (g : Going) (w : Write) (spot : Spot) (last : Bool) (bytes : List ℕ) (cells now : List Cell) → IsKnown old
+    → IsTicketOf (state_in old) ticket g → IsNextSpot old ticket g spot → Places old new ticket g spot last
+    → ProgramMayLeave (geometry_of old.config) cells spot (data_spare (next_spare (state_in old) g w)) bytes now
+    → AreLeftAlone first old cells → AreLeftAlone first new now
+alone-placed first old new ticket g w spot last bytes cells now known is next places left h =
+    alone-step first old new (entries.Placed (record { ticket = ticket.position; index = g.placed; unit = spot.unit; page = spot.page }) ∷ []) cells now places.step refl (λ unit full. record {
+      none = ap (λ (b : Bool). b || false) (ne_eqb spot.unit unit (λ same. other-unit old ticket g w spot bytes cells now known is next left unit full (sym same)));
+      stands = λ kept. other-stands old ticket g w spot bytes cells now known is next left unit full new.pages.units _ places.puts.unit;
+      worn = λ kept. other-worn old ticket g w spot bytes cells now known is next left unit full;
+    }) h
+
+pub alone-shut : (first : List Cell) (old new : BookSeen) (ticket : Ticket) (g : Going) (w : Write) (spot : Spot) (status : Status) (moment : ℕ) (done : Done) (bytes : List ℕ) (cells now : List Cell) → IsKnown old
+    → IsTicketOf (state_in old) ticket g → IsNextSpot old ticket g spot → ShutsAndEnds old new ticket g spot status moment done
+    → ProgramMayLeave (geometry_of old.config) cells spot (data_spare (next_spare (state_in old) g w)) bytes now
+    → AreLeftAlone first old cells → AreLeftAlone first new now
+alone-shut first old new ticket g w spot status moment done bytes cells now known is next shuts left h =
+    alone-step first old new _ cells now shuts.completes.step (ap (λ (b : Bool). b || false) (and-false (is_setting g.command))) (λ unit full. record {
+      none = refl;
+      stands = λ kept. recounted shuts.middle.units new.pages.units new.pages.owners unit shuts.left.units (other-stands old ticket g w spot bytes cells now known is next left unit full shuts.middle.units _ shuts.shut.unit);
+      worn = λ kept. other-worn old ticket g w spot bytes cells now known is next left unit full;
+    }) h

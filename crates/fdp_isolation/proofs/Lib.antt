@@ -1,0 +1,17 @@
+pub mod Spares
+pub mod Pages
+pub mod Entries
+pub mod Keeping
+pub mod Owning
+pub mod Filling
+pub mod Answered
+pub mod Started
+pub mod Placed
+pub mod Copying
+pub mod Relocated
+pub mod Moved
+pub mod Promised
+pub mod Alike
+pub mod Leaving
+pub mod LeftAlone
+pub mod LeftByRelocation

@@ -1,0 +1,165 @@
+-- What is kept apart at first, and what it promises.
+use Rattle.std.proofs.Common.{◌≡◌, ℕ, zero, suc, ◌*◌, ◌<◌, true, false, List, [], Option, Some, None, slice_get, refl, sym, ◌∙◌, ap, subst, arith, ⊎_elim, div-lt_iff_lt-mul}
+use Rattle.std.specs.Prelude.{IsTrue, slice_index_or}
+use Rattle.std.specs.List.{list_any}
+use Rattle.std.specs.Option.{option_map_or}
+use Rattle.std.proofs.lemmas.Option.{get_or_from_slice_get}
+use Rattle.fdp_base.specs.declared.config.Class.{Class}
+use Rattle.fdp_base.specs.declared.config.Class.TheVariants.{Initial, Persistent}
+use Rattle.fdp_base.specs.declared.config.DriveConfig.{DriveConfig}
+use Rattle.fdp_base.specs.declared.entry.Entry.{Entry}
+use Rattle.fdp_base.specs.declared.entry.Spot.{Spot}
+use Rattle.fdp_base.specs.declared.spare.DataSpare.{DataSpare}
+use Rattle.fdp_base.specs.Placement.{geometry_of}
+use Rattle.fdp_base.specs.Spare.{data_spare}
+use Rattle.fdp_book.specs.Book.{BookSeen, IsFirst, point_in, state_in, written_in}
+use Rattle.fdp_flash.specs.declared.cell.Cell.{Cell}
+use Rattle.fdp_flash.specs.Cells.{IsBlankUnit}
+use Rattle.fdp_image.specs.CheckpointFields.{is_persistent}
+use Rattle.fdp_image.specs.Isolation.{EachPage, IsIsolated}
+use Rattle.fdp_image.specs.Roomy.{page_in}
+use Rattle.fdp_isolation.specs.Isolated.{IsIsolatedDrive, has_live, puts_into, since_setting}
+use Rattle.fdp_isolation.specs.Laned.{AreLaned, GoesOneWay, StandsOver, IsKnown, lane_by}
+use Rattle.fdp_isolation.proofs.Filling.{data-unit, target-unit}
+use Rattle.fdp_isolation.proofs.Pages.{HasNoPage, blank-unit-none, each-both, each-none, each-weaker}
+use Rattle.fdp_isolation.proofs.Spares.{Says, spare-says}
+use Rattle.fdp_locations.specs.Located.{next_in}
+use Rattle.fdp_locations.proofs.Owned.{owned-written}
+use Rattle.fdp_owners.specs.declared.owner.Owner.{Owner}
+use Rattle.fdp_owners.specs.OwnerTable.{owner_at}
+use Rattle.fdp_passes.specs.declared.lane.Lane.TheVariants.{Own, Shared}
+use Rattle.fdp_passes.specs.GroupPasses.{lane_of}
+use Rattle.fdp_pointers.specs.Facts.{HasOnlyPlaced}
+use Rattle.fdp_pointers.proofs.Live.{live-is}
+use Rattle.fdp_pointers.proofs.Rows.{any-found, or-cases}
+use Rattle.fdp_pointers.proofs.Unplaced.{only-placed-first}
+use Rattle.fdp_rules.specs.History.{point_of}
+use Rattle.fdp_rules.specs.Sites.{group_of, is_live}
+use Rattle.fdp_rules.specs.Step.{IsDataUnit}
+
+-- ---- a fresh drive
+
+pub no-entries : since_setting [] ≡ []
+unfolding since_setting
+no-entries = refl
+
+-- the cells of a fresh drive, whose data units are blank
+pub laned-fresh : (c : DriveConfig) (b : BookSeen) (cells : List Cell) → IsKnown b → IsFirst c b → ((unit : ℕ) → IsDataUnit c unit → IsBlankUnit (geometry_of c) cells unit) → AreLaned b cells
+laned-fresh c b cells known first blank = record {
+  laned = record {
+    units = λ unit is. record { own = 0; past = omega arith; lane = Shared; pages = each-none b.config unit cells _ (none unit is) };
+    filled = λ rg ruh unit e. each-none b.config unit cells _ (none unit (data-unit b.config (state_in b) b.pages unit known.units (known.joined.filled.fills rg ruh unit e).stands.is_unit));
+    targets = λ rg unit lane e. each-none b.config unit cells _ (none unit (data-unit b.config (state_in b) b.pages unit known.units (target-unit b.pages rg unit lane known.joined e).is_unit));
+    put = λ unit put. absurd (false-true (sym (ap (list_any (puts_into unit)) (ap since_setting first.entries_are ∙ no-entries)) ∙ put));
+    live = λ spot x e. absurd (never x (sym (first.unused.owners spot) ∙ e));
+  };
+  placed = subst (λ (es : List Entry). HasOnlyPlaced (point_of b.config b.found es)) (sym first.entries_are) (only-placed-first b.config b.found);
+} where
+  false-true : false ≡ true → ⊥
+  false-true e = cc
+
+  never : (x : Owner) → None ≡ Some x → ⊥
+  never x e = cc
+
+  none : (unit : ℕ) → IsDataUnit b.config unit → HasNoPage b.config cells unit
+  none unit is = blank-unit-none b.config cells unit (subst (λ (d : DriveConfig). IsBlankUnit (geometry_of d) cells unit) (sym first.config_is) (blank unit (subst (λ (d : DriveConfig). IsDataUnit d unit) first.config_is is)))
+
+-- ---- lanes
+
+-- where data of a persistently isolated handle goes goes only that
+pub alone-in-lane : (classes : List Class) (a b : ℕ) → IsTrue (option_map_or is_persistent (slice_get classes a) false) → lane_of (slice_index_or classes a Initial) a ≡ lane_of (slice_index_or classes b Initial) b → b ≡ a
+alone-in-lane classes a b apart same = cases (slice_get classes a) refl apart where
+  own : (x : Class) → lane_of Persistent a ≡ lane_of x b → b ≡ a
+  own Initial e = absurd (different e) where
+    different : Own a ≡ Shared → ⊥
+    different d = cc
+  own Persistent e = sym (number e) where
+    number : Own a ≡ Own b → a ≡ b
+    number d = cc
+
+  cases : (o : Option Class) → slice_get classes a ≡ o → option_map_or is_persistent o false ≡ true → b ≡ a
+  cases None is e = absurd (false-true e) where
+    false-true : false ≡ true → ⊥
+    false-true d = cc
+  cases (Some Initial) is e = absurd (false-true e) where
+    false-true : false ≡ true → ⊥
+    false-true d = cc
+  cases (Some Persistent) is e =
+      let class : slice_index_or classes a Initial ≡ Persistent = get_or_from_slice_get classes a Persistent Initial is in
+      own (slice_index_or classes b Initial) (sym (ap (λ (x : Class). lane_of x a) class) ∙ same)
+
+-- ---- isolation
+
+pub group-below : (c : DriveConfig) (unit : ℕ) → IsDataUnit c unit → group_of c unit < c.groups
+group-below c unit is = (div-lt_iff_lt-mul (some c.units is)).1 is where
+  some : (units : ℕ) → unit < c.groups * units → 0 < units
+  some zero low = absurd (omega (arith, low))
+  some (suc k) low = omega arith
+
+module _ (b : BookSeen) (cells : List Cell) (kept : StandsOver b cells) (h : AreLaned b cells) where
+  -- a unit with a page that has an owner goes one way in the generation in force
+  owned-own : (spot : Spot) (x : Owner) → owner_at b.pages.owners spot ≡ Some x → (is : IsDataUnit b.config spot.unit) → (h.laned.units spot.unit is).own ≡ (state_in b).generation
+  owned-own spot x e is =
+      let force = h.laned.live spot x e in
+      let held = owned-written b.config (point_in b) (written_in b) kept.known.led.at b.pages kept.known.led.led spot x e in
+      let group : held.page.spare.rg ≡ group_of b.config spot.unit = ap (λ (y : DataSpare). y.rg) held.spare ∙ force.1 in
+      let below = group-below b.config spot.unit is in
+      let few = kept.known.config.ranges.groups in
+      let generation : held.page.spare.generation ≡ (state_in b).generation = ap (λ (y : DataSpare). y.generation) held.spare ∙ force.0 in
+      let low = kept.known.generation in
+      let says : Says (data_spare held.page.spare) held.page.spare = spare-says held.page.spare (omega (arith, group, below, few.1)) (omega (arith, generation, low)) in
+      let named = (h.laned.units spot.unit is).pages spot.page (data_spare held.page.spare) held.page.bytes (kept.holds.lie spot held.page held.is).page (kept.holds.whole spot held.page held.is) in
+      let same : named.0 ≡ says.said = one (sym named.1 ∙ says.is) in
+      sym named.2.1 ∙ ap (λ (y : DataSpare). y.generation) same ∙ says.generation ∙ generation where
+        one : {y z : DataSpare} → Some y ≡ Some z → y ≡ z
+        one d = cc
+
+  module _ (unit : ℕ) (is : IsDataUnit b.config unit) where
+    abbrev InForce : Type 0
+    InForce = EachPage b.config cells unit (λ x. x.generation ≡ (state_in b).generation)
+
+    abbrev way : GoesOneWay b.config (state_in b).generation b.pages.handles.classes cells unit
+    way = h.laned.units unit is
+
+    abbrev Named : DataSpare → Type 0
+    Named x = (x.rg ≡ group_of b.config unit) × (x.generation ≡ way.own) × (way.own ≡ (state_in b).generation → lane_by b.pages.handles.classes x ≡ way.lane)
+
+    -- a unit with a live page
+    live-force : IsTrue (has_live b.config (point_in b) unit) → InForce
+    live-force live =
+        let found = any-found (λ page. is_live b.config (point_in b) (page_in unit page)) 0 b.config.unit_pages live in
+        let led = kept.known.led.led in
+        let to = (live-is b.config (point_in b) (next_in b.pages.units) kept.known.led.at kept.known.orderly.state led.table h.placed (page_in unit found.0)).0 found.1 in
+        let owner = led.owned.owned to.0 to.1 to.2 in
+        let own = owned-own (page_in unit found.0) owner.owner (ap (owner_at b.pages.owners) (sym to.3) ∙ owner.is_owner) is in
+        each-weaker b.config unit cells _ _ (λ x named. named.1 ∙ own) (h.laned.units unit is).pages
+
+    -- where the pages of a unit name the generation in force it is isolated
+    force-isolated : InForce → IsIsolated b.config (state_in b) cells unit
+    force-isolated force = record {
+      generation = force;
+      alone = λ page spare bytes low e.
+          let x = both page spare bytes low e in (
+            x.0,
+            x.1,
+            λ keeps other others content below f.
+                let y = both other others content below f in (
+                  y.0,
+                  y.1,
+                  alone-in-lane b.pages.handles.classes x.0.ruh y.0.ruh (subst (λ (classes : List Class). IsTrue (option_map_or is_persistent (slice_get classes x.0.ruh) false)) kept.known.units.classes keeps)
+                      (lane x.0 x.2 ∙ sym (lane y.0 y.2)),
+                ),
+          );
+    } where
+      both : EachPage b.config cells unit (λ x. Named x × (x.generation ≡ (state_in b).generation))
+      both = each-both b.config unit cells _ _ way.pages force
+
+      lane : (x : DataSpare) → Named x × (x.generation ≡ (state_in b).generation) → lane_by b.pages.handles.classes x ≡ way.lane
+      lane x named = named.0.2 (sym named.0.1 ∙ named.1)
+
+-- what is kept apart is isolated
+pub isolated : (b : BookSeen) (cells : List Cell) → StandsOver b cells → AreLaned b cells → IsIsolatedDrive b.config (point_in b) b.entries cells
+isolated b cells kept h = record {
+  grouped = λ unit is. let way = h.laned.units unit is in record { generation = way.own; pages = each-weaker b.config unit cells _ _ (λ x named. (named.0, named.1)) way.pages };
+  apart = λ unit is used. force-isolated b cells kept h unit is (⊎_elim (live-force b cells kept h unit is) (h.laned.put unit) (or-cases (has_live b.config (point_in b) unit) (list_any (puts_into unit) (since_setting b.entries)) used));
+}

@@ -1,0 +1,71 @@
+-- How the pages of a drive keep its data apart: what each step keeps of the cells, beside the tables of the pages.
+use Rattle.std.specs.Prelude.{◌≡◌, ℕ, ◌^◌, ◌≤◌, ◌<◌, IsTrue, List, Some, slice_index_or}
+use Rattle.std.specs.List.{list_any}
+use Rattle.fdp_base.specs.declared.config.Class.{Class}
+use Rattle.fdp_base.specs.declared.config.Class.TheVariants.{Initial}
+use Rattle.fdp_base.specs.declared.config.DriveConfig.{DriveConfig}
+use Rattle.fdp_base.specs.declared.entry.Entry.{Entry}
+use Rattle.fdp_base.specs.declared.entry.Spot.{Spot}
+use Rattle.fdp_base.specs.declared.spare.DataSpare.{DataSpare}
+use Rattle.fdp_base.specs.Config.{IsValidConfig}
+use Rattle.fdp_base.specs.Placement.{geometry_of}
+use Rattle.fdp_book.specs.Book.{BookSeen, IsLed, point_in, state_in, written_in}
+use Rattle.fdp_flash.specs.declared.cell.Cell.{Cell}
+use Rattle.fdp_history.specs.Orderly.{IsOrderly}
+use Rattle.fdp_image.specs.Isolation.{EachPage}
+use Rattle.fdp_isolation.specs.Isolated.{puts_into, since_setting}
+use Rattle.fdp_locations.specs.Located.{AreUnitsOf}
+use Rattle.fdp_locations.specs.Stored.{HoldsWritten}
+use Rattle.fdp_owners.specs.declared.owner.Owner.{Owner}
+use Rattle.fdp_owners.specs.OwnerTable.{owner_at}
+use Rattle.fdp_pages.specs.Joined.{AreJoined}
+use Rattle.fdp_pages.specs.PageTables.{PageTables, passes_at, unit_of}
+use Rattle.fdp_passes.specs.declared.lane.Lane.{Lane}
+use Rattle.fdp_passes.specs.GroupPasses.{lane_of, target_at}
+use Rattle.fdp_pointers.specs.Facts.{HasOnlyPlaced}
+use Rattle.fdp_rules.specs.Sites.{group_of}
+use Rattle.fdp_rules.specs.Step.{IsDataUnit}
+
+-- ---- what is known of a book beside its cells
+
+-- a book in order, its tables joined and led to; the generation has the width of its field
+pub record IsKnown (b : BookSeen) : Type 0 where
+  pub config : IsValidConfig b.config
+  pub orderly : IsOrderly b.config (point_in b)
+  pub units : AreUnitsOf b.config (state_in b) b.pages
+  pub joined : AreJoined b.pages
+  pub led : IsLed b
+  pub generation : (state_in b).generation < 2 ^ 32
+
+-- and cells that hold what was written
+pub record StandsOver (b : BookSeen) (cells : List Cell) : Type 0 where
+  pub known : IsKnown b
+  pub holds : HoldsWritten (geometry_of b.config) cells (written_in b) b.pages.units
+
+-- ---- lanes
+
+-- the way of the data that a spare names: that of its handle
+abbrev pub lane_by : List Class → DataSpare → Lane
+lane_by classes x = lane_of (slice_index_or classes x.ruh Initial) x.ruh
+
+-- the whole pages of a unit name its group, and all one generation, that in force or an earlier one; where it is that in force all go one way
+pub record GoesOneWay (c : DriveConfig) (generation : ℕ) (classes : List Class) (cells : List Cell) (unit : ℕ) : Type 0 where
+  pub own : ℕ
+  pub past : own ≤ generation
+  pub lane : Lane
+  pub pages : EachPage c cells unit (λ x. (x.rg ≡ group_of c unit) × (x.generation ≡ own) × (own ≡ generation → lane_by classes x ≡ lane))
+
+-- What is kept apart, where this generation is in force and these are the entries since: each unit goes one way; the whole pages of one
+-- that a handle fills name the handle, those of a target go the way of its lane, and both name the generation in force; so do those of
+-- a unit into which one of these entries put a page, and the spare that the owner of a live page knows.
+pub record IsLaned (c : DriveConfig) (generation : ℕ) (es : List Entry) (t : PageTables) (cells : List Cell) : Type 0 where
+  pub units : (unit : ℕ) → IsDataUnit c unit → GoesOneWay c generation t.handles.classes cells unit
+  pub filled : (rg ruh unit : ℕ) → unit_of t rg ruh ≡ Some unit → EachPage c cells unit (λ x. (x.generation ≡ generation) × (x.ruh ≡ ruh))
+  pub targets : (rg unit : ℕ) (lane : Lane) → target_at (passes_at t rg) lane ≡ Some unit → EachPage c cells unit (λ x. (x.generation ≡ generation) × (lane_by t.handles.classes x ≡ lane))
+  pub put : (unit : ℕ) → IsTrue (list_any (puts_into unit) es) → EachPage c cells unit (λ x. x.generation ≡ generation)
+  pub live : (spot : Spot) (x : Owner) → owner_at t.owners spot ≡ Some x → (x.spare.generation ≡ generation) × (x.spare.rg ≡ group_of c spot.unit)
+
+-- a book and its cells; each page of a going write that stands somewhere was placed
+pub record AreLaned (b : BookSeen) (cells : List Cell) : Type 0 where
+  pub laned : IsLaned b.config (state_in b).generation (since_setting b.entries) b.pages cells
+  pub placed : HasOnlyPlaced (point_in b)

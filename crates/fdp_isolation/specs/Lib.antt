@@ -1,0 +1,3 @@
+pub mod Isolated
+pub mod Laned
+pub mod Alone

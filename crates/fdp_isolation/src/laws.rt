@@ -1,0 +1,23 @@
+ghost use Rattle.std.specs.Prelude.{List, ℕ};
+ghost use Rattle.fdp_base.specs.declared.config.DriveConfig.{DriveConfig};
+ghost use Rattle.fdp_base.specs.Placement.{geometry_of};
+ghost use Rattle.fdp_book.specs.Book.{BookSeen, IsFirst, point_in};
+ghost use Rattle.fdp_flash.specs.declared.cell.Cell.{Cell};
+ghost use Rattle.fdp_flash.specs.Cells.{IsBlankUnit};
+ghost use Rattle.fdp_isolation.specs.Alone.{AreLeftAlone};
+ghost use Rattle.fdp_isolation.specs.Isolated.{IsIsolatedDrive, LeavesUsed, since_setting};
+ghost use Rattle.fdp_isolation.specs.Laned.{AreLaned, StandsOver, IsKnown};
+ghost use Rattle.fdp_rules.specs.Step.{IsDataUnit};
+
+/// Where the pages of a book are kept apart, and its cells hold what was written, its data is isolated; and units that were left alone got
+/// no page.
+pub fn what_is_kept_apart_is_isolated()
+    ensures isolated { (b : BookSeen) (cells : List Cell) → StandsOver b cells → AreLaned b cells → IsIsolatedDrive b.config (point_in b) b.entries cells }
+    ensures used { (first : List Cell) (b : BookSeen) (cells : List Cell) → AreLeftAlone first b cells → LeavesUsed b.config first (since_setting b.entries) cells }
+{}
+
+/// So it is on a fresh drive, whose data units are blank.
+pub fn fresh_drives_are_kept_apart()
+    ensures laned { (c : DriveConfig) (b : BookSeen) (cells : List Cell) → IsKnown b → IsFirst c b → ((unit : ℕ) → IsDataUnit c unit → IsBlankUnit (geometry_of c) cells unit) → AreLaned b cells }
+    ensures alone { (c : DriveConfig) (b : BookSeen) (cells : List Cell) → StandsOver b cells → IsFirst c b → AreLeftAlone cells b cells }
+{}

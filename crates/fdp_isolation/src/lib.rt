@@ -1,0 +1,6 @@
+//! Isolation: what the whole pages of a unit have in common, after each step of a drive.
+#![tactic(auto)]
+
+mod laws;
+
+pub use laws::{fresh_drives_are_kept_apart, what_is_kept_apart_is_isolated};
