@@ -1,42 +1,86 @@
--- How a group begins a command: it refuses it, reads for it, or lets it go.
-use Rattle.std.proofs.Common.{◌≡◌, ℕ, Bool, true, false, List, [], ◌∷◌, ◌++◌, refl, ap, sym, ◌∙◌, subst, inl, inr, ◌||◌, Some, None}
-use Rattle.std.specs.List.{list_any}
+-- How a group begins a command: it refuses it, reads for it, or starts it.
+use Rattle.std.proofs.Common.{◌≡◌, ℕ, ◌<◌, arith, Bool, true, false, ◌||◌, List, [], ◌∷◌, ◌++◌, refl, ap, sym, ◌∙◌, subst, inl, inr, Some, None}
+use Rattle.std.specs.Prelude.{IsTrue}
+use Rattle.std.specs.List.{list_all, list_any}
 use Rattle.std.proofs.lemmas.Bool.{false≢true}
+use Rattle.std.proofs.lemmas.List.{append-nil}
 use Rattle.std.proofs.lemmas.List.Folds.{list_any-append}
 use Rattle.fdp_base.specs.declared.command.Command.{Command}
 use Rattle.fdp_base.specs.declared.command.Command.TheVariants as commands
+use Rattle.fdp_base.specs.declared.command.Read.{Read}
 use Rattle.fdp_base.specs.declared.entry.Entry.TheVariants as entries
 use Rattle.fdp_base.specs.declared.entry.Reply.{Reply}
 use Rattle.fdp_base.specs.declared.entry.Spot.{Spot}
 use Rattle.fdp_base.specs.declared.status.Status.{Status}
-use Rattle.fdp_base.specs.declared.status.TheConstants.Status as statuses
-use Rattle.fdp_rules.specs.Answer.{bare}
-use Rattle.fdp_rules.specs.Change.{after, changed_by, is_media_error}
 use Rattle.fdp_base.specs.CommandKinds.{IsWellFormed}
-use Rattle.fdp_rules.specs.Refusal.{refusal_of}
-use Rattle.fdp_rules.specs.Step.{Follows, IsQueue}
-use Rattle.fdp_flash.specs.FlashState.{Call, FlashState, IsWellFormed as IsFlashFormed}
-use Rattle.fdp_base.specs.declared.command.Read.{Read}
 use Rattle.fdp_book.specs.declared.room.Replies.{Replies}
 use Rattle.fdp_book.specs.declared.ticket.Done.{Done}
 use Rattle.fdp_book.specs.declared.ticket.Ticket.{Ticket}
-use Rattle.fdp_core.specs.Answers.{EndsAtOnce, Starts}
-use Rattle.fdp_book.specs.Book.{BookSeen, point_in, state_in}
-use Rattle.fdp_book.specs.Steps as book
-use Rattle.fdp_core.specs.Calls.{MakesCalls, fetch_at, has_failed}
-use Rattle.fdp_core.specs.Fetches.{Fetches, MakesFetches, fetches_of, pages_of}
-use Rattle.fdp_core.specs.Media.{IsReadFrom}
-use Rattle.fdp_core.specs.ReadSteps.{Reads}
-use Rattle.fdp_book.specs.Room.{read_reply}
-use Rattle.fdp_core.specs.Seen.{Matches, Seen, failed_in}
-use Rattle.fdp_core.specs.Sound.{IsSound}
+use Rattle.fdp_book.specs.Book.{BookSeen, IsLed, point_in, state_in}
 use Rattle.fdp_book.specs.Stages.{IsFree}
-use Rattle.fdp_core.proofs.CallsMade.{calls-same, failed-last}
-use Rattle.fdp_core.proofs.Adds.{EndsSo, adds, completes, ends-well, matches-quiet}
-use Rattle.fdp_core.proofs.Ended.{sound-ended}
-use Rattle.fdp_book.proofs.Histories.Follows.{accepted-blocks, media-ended, new-moment, read-follows, refused-fine, refused-follows, unread-follows}
+use Rattle.fdp_book.specs.Steps as book
+use Rattle.fdp_book.proofs.Histories.Follows.{accepted-blocks, read-follows, refused-fine, refused-follows, unread-follows}
+use Rattle.fdp_calls.specs.Calls.{FailedAt, MakesCalls, fetch_at, has_failed}
+use Rattle.fdp_calls.specs.Media.{IsReadFrom}
+use Rattle.fdp_calls.proofs.Made.{counted_more-none, failed-last}
+use Rattle.fdp_core.specs.Answers.{EndsAtOnce, Starts}
+use Rattle.fdp_core.specs.Fetches.{Fetches, MakesFetches, fetches_of, pages_of}
+use Rattle.fdp_core.specs.ReadSteps.{Reads, ReadsAll}
+use Rattle.fdp_core.specs.Seen.{HasMoments, Seen}
+use Rattle.fdp_core.specs.Sound.{IsSound}
+use Rattle.fdp_core.proofs.Apart.{apart-answered, apart-started, known-begun}
+use Rattle.fdp_core.proofs.Ends.{no-fetches}
+use Rattle.fdp_core.proofs.Grown.{adds, completes, host, matches-none}
+use Rattle.fdp_core.proofs.Places.{moment-new}
 use Rattle.fdp_core.proofs.Reading.{length-blocks_from}
-use Rattle.fdp_core.proofs.Sound.{sound-as, sound-orderly, sound-push}
+use Rattle.fdp_core.proofs.Sound.{IsSameFlash, begun, same-flash, sound-begun, sound-told}
+use Rattle.fdp_flash.specs.FlashState.{Call, FlashState, IsWellFormed as IsFlashFormed}
+use Rattle.fdp_history.specs.OrderlyState.{IsOrderlyState}
+use Rattle.fdp_isolation.specs.Laned.{IsKnown}
+use Rattle.fdp_isolation.proofs.Owning.{MayEnd}
+use Rattle.fdp_ledger.specs.declared.counts.Counts.{Counts}
+use Rattle.fdp_ledger.specs.Calls.{MayTell, OnlyFetches, is_fetch}
+use Rattle.fdp_ledger.specs.Ledger.{IsLedger}
+use Rattle.fdp_ledger.proofs.Blank.{emptied-read, erased-none}
+use Rattle.fdp_ledger.specs.Told.{tells_failure}
+use Rattle.fdp_ledger.proofs.Answered.{ledger-answered}
+use Rattle.fdp_ledger.proofs.Moments.{may-tell}
+use Rattle.fdp_ledger.proofs.Started.{ledger-started}
+use Rattle.fdp_pages.specs.Steps.{ChangesOwners}
+use Rattle.fdp_rules.specs.Answer.{bare}
+use Rattle.fdp_rules.specs.Change.{is_media_error}
+use Rattle.fdp_rules.specs.Refusal.{refusal_of}
+use Rattle.fdp_rules.specs.Step.{Follows, IsQueue}
+
+-- ---- a step that completes a command
+
+-- what a step needs that only answers: the flash was read from, or not called; the answer may follow, and a media error has its fault
+record MayAnswer (handed : Counts) (f n : FlashState) (b : BookSeen) (queue number : ℕ) (command : Command) (reply : Reply) (moment : ℕ) : Type 0 where
+  known : IsKnown b
+  served : book.IsServed command
+  flash : IsSameFlash f n
+  fetches : OnlyFetches f n
+  follows : (IsTrue (is_media_error reply.status) → HasMoments n) → Follows n.told b.config (point_in b) (host queue number command reply moment)
+  told : IsTrue (is_media_error reply.status) → MayTell handed b n moment
+  ending : MayEnd b.config (point_in b) queue number command reply moment
+
+sound-answered : (handed : Counts) (f n : FlashState) (b d : BookSeen) (block : List ℕ) (queue number : ℕ) (command : Command) (reply : Reply) (moment : ℕ) (done : Done) →
+    IsSound handed f b block → MayAnswer handed f n b queue number command reply moment → IsLed d → book.Completes (begun b) d [] queue number command reply moment done → ChangesOwners b.pages d.pages → IsSound handed n d block
+sound-answered handed f n b d block queue number command reply moment done so may led ends owners =
+    let was = sound-begun handed f b block so in
+    sound-told handed f n (begun b) d (host queue number command reply moment) block block was may.flash ends.step owners refl may.follows
+    (ledger-answered handed (begun b) d f n queue number command reply moment done ends owners may.fetches
+    (λ error. let t = may.told error in record { fault = t.fault; until = t.until }) was.ledger)
+    (apart-answered f n (begun b) d queue number command reply moment done (known-begun b may.known) led may.flash ends owners may.served may.ending was.apart)
+    refl
+
+-- an answer of no media error tells of no failed call
+quiet : (queue number : ℕ) (command : Command) (reply : Reply) (moment : ℕ) → is_media_error reply.status ≡ false → list_any tells_failure (host queue number command reply moment ∷ []) ≡ false
+quiet queue number command reply moment fine = none-of (is_media_error reply.status) fine
+  where
+    none-of : (b : Bool) → b ≡ false → ((b || false || false) || false) ≡ false
+    none-of true e = e
+    none-of false e = refl
 
 -- ---- refusals
 
@@ -48,53 +92,64 @@ pub record IsRefusal (b : BookSeen) (queue number : ℕ) (command : Command) (st
   pub refused : refusal_of b.config (point_in b) command ≡ Some status
   pub reply_is : reply ≡ bare status false
 
-pub sound-refused : (f : FlashState) (b d : BookSeen) (failed : Bool) (block : List ℕ) (queue number : ℕ) (command : Command) (status : Status) (reply : Reply) (moment : ℕ) (done : Done) →
-    IsSound f b.config b.found b.entries failed block → failed ≡ false → IsRefusal b queue number command status reply →
-    book.Completes b d [] queue number command reply moment done → IsSound f d.config d.found d.entries failed block
-sound-refused f b d failed block queue number command status reply moment done so well is completed =
-    sound-ended f b.config d.config b.found d.found b.entries d.entries failed block queue number moment command (bare status false) so well completed.step.config_is completed.step.found_is
-    (completed.step.entries_are ∙ ap (λ (r : Reply). b.entries ++ entries.Host (record { queue = queue; number = number; command = command; reply = r; moment = moment }) ∷ []) is.reply_is)
-    (inl (refused-follows f.told b.config (point_in b) queue number command status moment is.queue_is is.formed is.free is.refused)) (refused-fine b.config (point_in b) command status is.refused)
+refusal-fine : (b : BookSeen) (queue number : ℕ) (command : Command) (status : Status) (reply : Reply) → IsRefusal b queue number command status reply → is_media_error reply.status ≡ false
+refusal-fine b queue number command status reply is = ap (λ (r : Reply). is_media_error r.status) is.reply_is ∙ refused-fine b.config (point_in b) command status is.refused
 
-pub begins-refused : {F : Type 0} (state : F → FlashState) (old new : Seen F) (queue number : ℕ) (command : Command) (status : Status) (reply : Reply) (moment : ℕ) (done : Done) (block : List ℕ) →
-    IsSound (state new.flash) new.book.config new.book.found new.book.entries (failed_in new.book) block → new.handed ≡ old.handed → new.flash ≡ old.flash → (failed_in new.book) ≡ false → IsRefusal old.book queue number command status reply →
-    book.Completes old.book new.book [] queue number command reply moment done → moment ≡ (state new.flash).moment →
-    EndsAtOnce state old new queue number command done
-begins-refused {F} state old new queue number command status reply moment done block so handed same well is completed moment_is =
-    let told : done.reply ≡ bare status false = ap (λ (d : Done). d.reply) completed.done_is ∙ is.reply_is in
-    let fine : is_media_error reply.status ≡ false = ap (λ (r : Reply). is_media_error r.status) is.reply_is ∙ refused-fine old.book.config (point_in old.book) command status is.refused in
+pub sound-refused : (handed : Counts) (f : FlashState) (b d : BookSeen) (block : List ℕ) (queue number : ℕ) (command : Command) (status : Status) (reply : Reply) (moment : ℕ) (done : Done) →
+    IsSound handed f b block → IsKnown b → IsLed d → book.IsServed command → IsRefusal b queue number command status reply → book.Completes (begun b) d [] queue number command reply moment done → ChangesOwners b.pages d.pages → IsSound handed f d block
+sound-refused handed f b d block queue number command status reply moment done so known led served is ends owners =
+    sound-answered handed f f b d block queue number command reply moment done so (record {
+      known = known;
+      served = served;
+      flash = same-flash f;
+      fetches = no-fetches f;
+      follows = λ _. subst (λ (r : Reply). Follows f.told b.config (point_in b) (host queue number command r moment)) (sym is.reply_is) (refused-follows f.told b.config (point_in b) queue number command status moment is.queue_is is.formed is.free is.refused);
+      told = λ wrong. absurd (false≢true (sym (refusal-fine b queue number command status reply is) ∙ wrong));
+      ending = inl (ap (λ (r : Reply). r.applied) is.reply_is);
+    }) led ends owners
+
+pub begins-refused : {F : Type 0} (state : F → FlashState) (old new : Seen F) (queue number : ℕ) (command : Command) (status : Status) (reply : Reply) (moment : ℕ) (done : Done) → 0 < old.book.spare → new.handed ≡ old.handed → new.flash ≡ old.flash →
+    IsRefusal old.book queue number command status reply → book.Completes (begun old.book) new.book [] queue number command reply moment done → moment ≡ (state new.flash).moment → EndsAtOnce state old new queue number command done
+begins-refused state old new queue number command status reply moment done spare handed same is ends moment_is =
+    let fine = refusal-fine old.book queue number command status reply is in
     record {
-      completes = (completes state old new [] queue number command reply moment done block so handed completed moment_is
-          (subst (λ (x : F). EndsSo (state x) (state new.flash) [] reply (failed_in new.book)) same (ends-well (state new.flash) reply (failed_in new.book) well fine))).0;
-      came = inl (record { status = status; refused = is.refused; reply_is = told; uncalled = same });
+      calls = [];
+      completes = completes state old new [] queue number command reply moment [] done spare (record {
+        longer = ends.step;
+        done_is = ends.done_is;
+        handed = handed;
+        matches = matches-none state old.flash new.flash (host queue number command reply moment ∷ []) same refl (quiet queue number command reply moment fine) (λ unit. refl);
+        moment_is = moment_is;
+        failed = sym fine;
+        media = λ wrong. absurd (false≢true (sym fine ∙ wrong));
+      });
+      came = inl (record { status = status; refused = is.refused; reply_is = ap (λ (d : Done). d.reply) ends.done_is ∙ is.reply_is; none = refl; uncalled = same });
     }
 
--- ---- writes that are let go
+-- ---- writes that are started
 
-pub sound-started : (f : FlashState) (b d : BookSeen) (failed : Bool) (block : List ℕ) (queue number : ℕ) (command : Command) (ticket : Ticket) →
-    IsSound f b.config b.found b.entries failed block → book.Starts b d queue number command ticket → IsSound f d.config d.found d.entries failed block
-unfolding after changed_by
-sound-started f b d failed block queue number command ticket so is =
+pub sound-started : (handed : Counts) (f : FlashState) (b d : BookSeen) (block : List ℕ) (queue number : ℕ) (command : Command) (ticket : Ticket) →
+    IsSound handed f b block → IsKnown b → IsLed d → book.Starts (begun b) d queue number command ticket → ChangesOwners b.pages d.pages → IsSound handed f d block
+sound-started handed f b d block queue number command ticket so known led is owners =
     let e = entries.Started (record { queue = queue; number = number; command = command; rg = is.target.rg; ruh = is.target.ruh; pid_valid = is.target.valid }) in
-    sound-as f b.config d.config b.found d.found (b.entries ++ e ∷ []) d.entries failed block is.step.config_is is.step.found_is is.step.entries_are
-    (sound-push f f b.config b.found b.entries e failed failed block block so refl refl (inl (is.follows f.told)) so.cells so.healthy so.buffer)
+    let was = sound-begun handed f b block so in
+    sound-told handed f f (begun b) d e block block was (same-flash f) is.step owners refl (λ _. is.follows f.told)
+    (ledger-started handed (begun b) d f queue number command ticket is owners was.ledger)
+    (apart-started f (begun b) d queue number command ticket (known-begun b known) led is owners was.apart) refl
 
-pub begins-started : {F : Type 0} (state : F → FlashState) (old new : Seen F) (queue number : ℕ) (command : Command) (ticket : Ticket) (block : List ℕ) →
-    IsSound (state new.flash) new.book.config new.book.found new.book.entries (failed_in new.book) block → new.handed ≡ old.handed → new.flash ≡ old.flash → (failed_in new.book) ≡ false →
-    refusal_of old.book.config (point_in old.book) command ≡ None → book.Starts old.book new.book queue number command ticket →
-    Starts state old new queue number command ticket
-begins-started {F} state old new queue number command ticket block so handed same well accepted is =
+pub begins-started : {F : Type 0} (state : F → FlashState) (old new : Seen F) (queue number : ℕ) (command : Command) (ticket : Ticket) → 0 < old.book.spare → new.handed ≡ old.handed → new.flash ≡ old.flash →
+    refusal_of old.book.config (point_in old.book) command ≡ None → book.Starts (begun old.book) new.book queue number command ticket → Starts state old new queue number command ticket
+begins-started state old new queue number command ticket spare handed same accepted is =
     let e = entries.Started (record { queue = queue; number = number; command = command; rg = is.target.rg; ruh = is.target.ruh; pid_valid = is.target.valid }) in
     record {
       accepted = accepted;
       few = accepted-blocks old.book.config (point_in old.book) command accepted;
       target = is.target;
       target_is = is.target_is;
-      step = adds state old new (e ∷ []) [] block so handed is.step (calls-same state old.flash new.flash same) (subst (λ (x : F). Matches (state x) (state new.flash) (e ∷ [])) same (matches-quiet (state new.flash) e refl refl));
+      step = adds state old new (e ∷ []) [] refl spare is.step handed (matches-none state old.flash new.flash (e ∷ []) same refl refl (λ unit. refl));
       ticket_is = is.ticket_is;
       going = is.going;
       uncalled = same;
-      well = well;
     }
 
 -- ---- reads
@@ -105,46 +160,6 @@ pub record IsRead (b : BookSeen) (queue : ℕ) (command : Command) (x : Read) : 
   pub queue_is : IsQueue b.config queue
   pub formed : IsWellFormed b.config command
   pub accepted : refusal_of b.config (point_in b) command ≡ None
-
--- a read, over the flash that it left
-sound-host : (f g : FlashState) (b d : BookSeen) (failed : Bool) (block : List ℕ) (queue number nsid slba count : ℕ) (reply : Reply) (moment : ℕ) →
-    IsSound f b.config b.found b.entries false block → IsReadFrom f g → d.config ≡ b.config → d.found ≡ b.found →
-    d.entries ≡ b.entries ++ entries.Host (record { queue = queue; number = number; command = commands.Read (record { nsid = nsid; slba = slba; count = count }); reply = reply; moment = moment }) ∷ [] →
-    Follows f.told b.config (point_in b) (entries.Host (record { queue = queue; number = number; command = commands.Read (record { nsid = nsid; slba = slba; count = count }); reply = reply; moment = moment })) → (failed ≡ false → is_media_error reply.status ≡ false) → IsSound g d.config d.found d.entries failed block
-sound-host f g b d failed block queue number nsid slba count reply moment so reads same began longer step fine =
-    let e = entries.Host (record { queue = queue; number = number; command = commands.Read (record { nsid = nsid; slba = slba; count = count }); reply = reply; moment = moment }) in
-    sound-as g b.config d.config b.found d.found (b.entries ++ e ∷ []) d.entries failed block same began longer
-    (sound-push f g b.config b.found b.entries e false failed block block so reads.kept.geometry reads.kept.told (inl step)
-    (λ _ tells. reads.cells tells ∙ so.cells refl tells)
-    (λ well. media-ended b.config (state_in b) queue number (commands.Read (record { nsid = nsid; slba = slba; count = count })) reply moment (fine well) (so.healthy refl)) so.buffer)
-
-sound-by : (f g : FlashState) (b d : BookSeen) (failed : Bool) (block : List ℕ) (queue number : ℕ) (x : Read) (replies : Replies) (moment : ℕ) →
-    IsSound f b.config b.found b.entries false block → IsReadFrom f g → IsRead b queue (commands.Read x) x → Reads f b x replies failed → d.config ≡ b.config → d.found ≡ b.found →
-    d.entries ≡ b.entries ++ entries.Host (record { queue = queue; number = number; command = commands.Read x; reply = replies.history; moment = moment }) ∷ [] → IsSound g d.config d.found d.entries failed block
-sound-by f g b d true block queue number x replies moment so reads is h same began longer =
-    sound-host f g b d true block queue number x.nsid x.slba x.count (bare statuses.UNRECOVERED_READ_ERROR false) moment so reads same began
-    (longer ∙ ap (λ (r : Reply). b.entries ++ entries.Host (record { queue = queue; number = number; command = commands.Read x; reply = r; moment = moment }) ∷ []) h.history_is)
-    (unread-follows f.told b.config (point_in b) queue number x.nsid x.slba x.count moment is.queue_is is.formed is.accepted (new-moment (state_in b) moment (so.healthy refl)))
-    (λ wrong. absurd (false≢true (sym wrong)))
-sound-by f g b d false block queue number x replies moment so reads is h same began longer =
-    let orderly = (sound-orderly f b.config b.found b.entries false block so).state in
-    sound-host f g b d false block queue number x.nsid x.slba x.count (read_reply h.bytes) moment so reads same began
-    (longer ∙ ap (λ (r : Reply). b.entries ++ entries.Host (record { queue = queue; number = number; command = commands.Read x; reply = r; moment = moment }) ∷ []) h.twice.history_is)
-    (read-follows f.told b.config (point_in b) queue number x.nsid x.slba x.count h.bytes moment is.queue_is is.formed is.accepted (h.size ∙ sym (length-blocks_from b x.nsid x.slba x.count orderly)) h.blocks)
-    (λ _. refl)
-
--- the reply to a read is a media error exactly where a fetch failed
-pub read-told : (f : FlashState) (b : BookSeen) (x : Read) (replies : Replies) (failed : Bool) → Reads f b x replies failed → is_media_error replies.history.status ≡ failed
-read-told f b x replies true h = ap (λ (r : Reply). is_media_error r.status) h.history_is
-read-told f b x replies false h = ap (λ (r : Reply). is_media_error r.status) h.twice.history_is
-
-pub sound-read : (f g : FlashState) (b d : BookSeen) (was failed : Bool) (block : List ℕ) (queue number : ℕ) (command : Command) (x : Read) (replies : Replies) (moment : ℕ) (done : Done) →
-    IsSound f b.config b.found b.entries was block → was ≡ false → IsReadFrom f g → IsRead b queue command x → Reads f b x replies failed →
-    book.Completes b d [] queue number command replies.history moment done → IsSound g d.config d.found d.entries failed block
-sound-read f g b d was failed block queue number command x replies moment done so well reads is h completed =
-    sound-by f g b d failed block queue number x replies moment (subst (λ w. IsSound f b.config b.found b.entries w block) well so) reads
-    (subst (λ (y : Command). IsRead b queue y x) is.command_is is) h completed.step.config_is completed.step.found_is
-    (completed.step.entries_are ∙ ap (λ (y : Command). b.entries ++ entries.Host (record { queue = queue; number = number; command = y; reply = replies.history; moment = moment }) ∷ []) is.command_is)
 
 all-well : (pages : List Spot) → list_any has_failed (fetches_of pages) ≡ false
 all-well [] = refl
@@ -157,50 +172,109 @@ last-failed calls page = list_any-append has_failed calls (fetch_at page true �
     or-true true = refl
     or-true false = refl
 
-reads-end : (f g : FlashState) (b : BookSeen) (x : Read) (replies : Replies) (failed : Bool) → IsFlashFormed g → IsReadFrom f g → Reads f b x replies failed → MakesFetches f g b x failed → EndsSo f g [] replies.history failed
-reads-end f g b x replies true formed reads h m = record {
-  calls = m.calls;
-  made = m.made;
-  fails = sym (ap (list_any has_failed) m.fetches.calls_are ∙ last-failed (fetches_of (pages_of b x.nsid x.slba m.fetches.index)) m.fetches.page);
-  programs = reads.programs;
-  unplaced = refl;
-  is_error = ap (λ (r : Reply). is_media_error r.status) (sym h.history_is);
-  quiet = refl;
-  media = λ _. failed-last f g (fetches_of (pages_of b x.nsid x.slba m.fetches.index)) (fetch_at m.fetches.page true) formed (subst (MakesCalls f g) m.fetches.calls_are m.made) refl;
-}
-reads-end f g b x replies false formed reads h m = record {
-  calls = m.calls;
-  made = m.made;
-  fails = sym (ap (list_any has_failed) m.fetches ∙ all-well (pages_of b x.nsid x.slba x.count));
-  programs = reads.programs;
-  unplaced = refl;
-  is_error = ap (λ (r : Reply). is_media_error r.status) (sym h.twice.history_is);
-  quiet = refl;
-  media = λ wrong. absurd (false≢true wrong);
-}
+all-fetches : (pages : List Spot) (rest : List Call) → IsTrue (list_all is_fetch rest) → IsTrue (list_all is_fetch (fetches_of pages ++ rest))
+all-fetches [] rest h = h
+all-fetches (page ∷ pages) rest h = all-fetches pages rest h
 
--- a read with these calls
-made-calls : (f g : FlashState) (b : BookSeen) (x : Read) (replies : Replies) (failed : Bool) (formed : IsFlashFormed g) (reads : IsReadFrom f g) (h : Reads f b x replies failed) (m : MakesFetches f g b x failed) → (reads-end f g b x replies failed formed reads h m).calls ≡ m.calls
-unfolding reads-end
-made-calls f g b x replies true formed reads h m = refl
-made-calls f g b x replies false formed reads h m = refl
+-- the calls of a read are fetches, of which one failed or none
+only-fetches : (f n : FlashState) (b : BookSeen) (x : Read) (failed : Bool) → IsReadFrom f n → (m : MakesFetches f n b x failed) → IsTrue (list_all is_fetch m.calls)
+only-fetches f n b x true reads m = subst (λ (cs : List Call). IsTrue (list_all is_fetch cs)) (sym m.fetches.calls_are) (all-fetches (pages_of b x.nsid x.slba m.fetches.index) (fetch_at m.fetches.page true ∷ []) refl)
+only-fetches f n b x false reads m =
+    subst (λ (cs : List Call). IsTrue (list_all is_fetch cs)) (sym (m.fetches ∙ sym (append-nil (fetches_of (pages_of b x.nsid x.slba x.count))))) (all-fetches (pages_of b x.nsid x.slba x.count) [] refl)
 
-pub read-completes : {F : Type 0} (state : F → FlashState) (old new : Seen F) (queue number : ℕ) (command : Command) (x : Read) (replies : Replies) (moment : ℕ) (done : Done) (block : List ℕ) →
-    IsFlashFormed (state new.flash) → IsSound (state new.flash) new.book.config new.book.found new.book.entries (failed_in new.book) block → new.handed ≡ old.handed → IsRead old.book queue command x →
-    IsReadFrom (state old.flash) (state new.flash) → Reads (state old.flash) old.book x replies (failed_in new.book) → MakesFetches (state old.flash) (state new.flash) old.book x (failed_in new.book) →
-    book.Completes old.book new.book [] queue number command replies.history moment done → moment ≡ (state new.flash).moment →
-    EndsAtOnce state old new queue number command done
-read-completes state old new queue number command x replies moment done block formed so handed is reads h m completed moment_is =
-    let ends = reads-end (state old.flash) (state new.flash) old.book x replies (failed_in new.book) formed reads h m in
-    let k = completes state old new [] queue number command replies.history moment done block so handed completed moment_is ends in
-    let calls = k.1 ∙ made-calls (state old.flash) (state new.flash) old.book x replies (failed_in new.book) formed reads h m in
+failed-told : (f n : FlashState) (b : BookSeen) (x : Read) (failed : Bool) (m : MakesFetches f n b x failed) → list_any has_failed m.calls ≡ failed
+failed-told f n b x true m = ap (list_any has_failed) m.fetches.calls_are ∙ last-failed (fetches_of (pages_of b x.nsid x.slba m.fetches.index)) m.fetches.page
+failed-told f n b x false m = ap (list_any has_failed) m.fetches ∙ all-well (pages_of b x.nsid x.slba x.count)
+
+-- the reply to a read is a media error exactly where a fetch failed
+read-told : (f : FlashState) (b : BookSeen) (x : Read) (replies : Replies) (failed : Bool) → Reads f b x replies failed → is_media_error replies.history.status ≡ failed
+read-told f b x replies true h = ap (λ (r : Reply). is_media_error r.status) h.history_is
+read-told f b x replies false h = ap (λ (r : Reply). is_media_error r.status) h.twice.history_is
+
+-- the last fetch failed, at the moment of the flash
+fetch-failed : (f n : FlashState) (b : BookSeen) (x : Read) (failed : Bool) → failed ≡ true → IsFlashFormed n → MakesFetches f n b x failed → FailedAt f n n.moment
+fetch-failed f n b x false e formed m = absurd (false≢true e)
+fetch-failed f n b x true e formed m =
+    failed-last f n (fetches_of (pages_of b x.nsid x.slba m.fetches.index)) (fetch_at m.fetches.page true) formed (subst (MakesCalls f n) m.fetches.calls_are m.made) refl
+
+-- the answer to a read may follow
+read-may-follow : (handed : Counts) (f n : FlashState) (b : BookSeen) (queue number : ℕ) (x : Read) (replies : Replies) (failed : Bool) → IsLedger handed b f → IsOrderlyState b.config (state_in b) → IsFlashFormed n → IsRead b queue (commands.Read x) x → IsReadFrom f n →
+    Reads f b x replies failed → MakesFetches f n b x failed → (IsTrue (is_media_error replies.history.status) → HasMoments n) → Follows n.told b.config (point_in b) (host queue number (commands.Read x) replies.history n.moment)
+read-may-follow handed f n b queue number x replies true ledger orderly formed is reads h m moments =
+    subst (λ (r : Reply). Follows n.told b.config (point_in b) (host queue number (commands.Read x) r n.moment)) (sym h.history_is)
+    (unread-follows n.told b.config (point_in b) queue number x.nsid x.slba x.count n.moment is.queue_is is.formed is.accepted
+    (moment-new handed b f n n.moment ledger reads.kept.moment (fetch-failed f n b x true refl formed m) (moments (ap (λ (r : Reply). is_media_error r.status) h.history_is))))
+read-may-follow handed f n b queue number x replies false ledger orderly formed is reads h m moments =
+    subst (λ (r : Reply). Follows n.told b.config (point_in b) (host queue number (commands.Read x) r n.moment)) (sym h.twice.history_is)
+    (read-follows n.told b.config (point_in b) queue number x.nsid x.slba x.count h.bytes n.moment is.queue_is is.formed is.accepted
+    (h.size ∙ sym (length-blocks_from b x.nsid x.slba x.count orderly)) (λ tells. h.blocks (sym reads.kept.told ∙ tells)))
+
+read-may-end : (handed : Counts) (f n : FlashState) (b : BookSeen) (queue number : ℕ) (x : Read) (replies : Replies) (failed : Bool) → IsLedger handed b f → IsOrderlyState b.config (state_in b) → IsFlashFormed n → IsRead b queue (commands.Read x) x → IsReadFrom f n →
+    Reads f b x replies failed → MakesFetches f n b x failed → MayEnd b.config (point_in b) queue number (commands.Read x) replies.history n.moment
+read-may-end handed f n b queue number x replies true ledger orderly formed is reads h m = inl (ap (λ (r : Reply). r.applied) h.history_is)
+read-may-end handed f n b queue number x replies false ledger orderly formed is reads h m =
+    inr (n.told, read-may-follow handed f n b queue number x replies false ledger orderly formed is reads h m (λ wrong. absurd (false≢true (sym (read-told f b x replies false h) ∙ wrong))))
+
+same-by : (f n : FlashState) → IsReadFrom f n → IsSameFlash f n
+same-by f n reads = record { geometry = reads.kept.geometry; told = reads.kept.told; moment = reads.kept.moment; cells = reads.cells }
+
+-- a media error of a read has its fault
+read-fault : (handed : Counts) (f n : FlashState) (b : BookSeen) (x : Read) (failed : Bool) → failed ≡ true → IsLedger handed b f → IsFlashFormed n → MakesFetches f n b x failed → MayTell handed b n n.moment
+read-fault handed f n b x failed e ledger formed m =
+    may-tell handed b b f n [] n.moment (record { config_is = refl; found_is = refl; entries_are = sym (append-nil b.entries); spare_is = refl; spent_is = refl; room_is = omega arith }) refl
+    m.made.run.faults (m.made.fault (failed-told f n b x failed m ∙ e)).rose (fetch-failed f n b x failed e formed m) ledger
+
+pub sound-read : (handed : Counts) (f n : FlashState) (b d : BookSeen) (block : List ℕ) (queue number : ℕ) (command : Command) (x : Read) (replies : Replies) (moment : ℕ) (done : Done) →
+    IsSound handed f b block → IsKnown b → IsLed d → IsFlashFormed n → IsRead b queue command x → ReadsAll f n b x replies → moment ≡ n.moment →
+    book.Completes (begun b) d [] queue number command replies.history moment done → ChangesOwners b.pages d.pages → IsSound handed n d block
+sound-read handed f n b d block queue number command x replies moment done so known led formed is h moment_is ends owners =
+    sound-answered handed f n b d block queue number command replies.history moment done so (record {
+      known = known;
+      served = subst book.IsServed (sym is.command_is) refl;
+      flash = same-by f n h.read;
+      fetches = record { calls = h.fetches.calls; made = h.fetches.made; fetches = only-fetches f n b x h.failed h.read h.fetches; read = h.read };
+      follows = λ moments. subst (λ (m : ℕ). Follows n.told b.config (point_in b) (host queue number command replies.history m)) (sym moment_is)
+          (subst (λ (y : Command). Follows n.told b.config (point_in b) (host queue number y replies.history n.moment)) (sym is.command_is)
+          (read-may-follow handed f n b queue number x replies h.failed so.ledger known.orderly.state formed (subst (λ (y : Command). IsRead b queue y x) is.command_is is) h.read h.told h.fetches moments));
+      told = λ error. subst (MayTell handed b n) (sym moment_is) (read-fault handed f n b x h.failed (sym (read-told f b x replies h.failed h.told) ∙ error) so.ledger formed h.fetches);
+      ending = subst (λ (m : ℕ). MayEnd b.config (point_in b) queue number command replies.history m) (sym moment_is)
+          (subst (λ (y : Command). MayEnd b.config (point_in b) queue number y replies.history n.moment) (sym is.command_is)
+          (read-may-end handed f n b queue number x replies h.failed so.ledger known.orderly.state formed (subst (λ (y : Command). IsRead b queue y x) is.command_is is) h.read h.told h.fetches));
+    }) led ends owners
+
+pub read-completes : {F : Type 0} (state : F → FlashState) (old new : Seen F) (queue number : ℕ) (command : Command) (x : Read) (replies : Replies) (moment : ℕ) (done : Done) → 0 < old.book.spare → new.handed ≡ old.handed → IsFlashFormed (state new.flash) → IsRead old.book queue command x →
+    ReadsAll (state old.flash) (state new.flash) old.book x replies → moment ≡ (state new.flash).moment → book.Completes (begun old.book) new.book [] queue number command replies.history moment done → EndsAtOnce state old new queue number command done
+read-completes state old new queue number command x replies moment done spare handed formed is h moment_is ends =
+    let f = state old.flash in
+    let n = state new.flash in
+    let told : list_any has_failed h.fetches.calls ≡ h.failed = failed-told f n old.book x h.failed h.fetches in
+    let error = read-told f old.book x replies h.failed h.told in
     record {
-      completes = k.0;
+      calls = h.fetches.calls;
+      completes = completes state old new [] queue number command replies.history moment h.fetches.calls done spare (record {
+        longer = ends.step;
+        done_is = ends.done_is;
+        handed = handed;
+        matches = record {
+          made = h.fetches.made;
+          programs = h.read.programs ∙ sym (counted_more-none f.programs);
+          failed = λ tells. told ∙ sym error ∙ told-of (is_media_error replies.history.status) tells;
+          erased = λ tells. erased-none f.geometry n.cells _ (λ unit. refl);
+          emptied = emptied-read f n _ h.read;
+        };
+        moment_is = moment_is;
+        failed = told ∙ sym error;
+        media = λ wrong. subst (FailedAt f n) (sym moment_is) (fetch-failed f n old.book x h.failed (sym error ∙ wrong) formed h.fetches);
+      });
       came = inr (record {
         accepted = is.accepted;
         read = x;
         command_is = is.command_is;
-        fetches = subst (λ (cs : List Call). Fetches old.book x cs (failed_in new.book)) (sym calls) m.fetches;
-        cells = reads.cells;
+        fetches = subst (Fetches old.book x h.fetches.calls) (sym told) h.fetches.fetches;
+        cells = h.read.cells;
       });
     }
+  where
+    told-of : (b : Bool) → IsTrue ((b || false || false) || false) → b ≡ true
+    told-of true e = refl
+    told-of false e = absurd (false≢true e)

@@ -1,60 +1,60 @@
 -- How a group ends a write whose pages are placed.
-use Rattle.std.proofs.Common.{◌≡◌, ℕ, Bool, true, false, List, [], refl, ap, subst, inl, inr, Err}
+use Rattle.std.proofs.Common.{◌≡◌, ℕ, true, false, List, [], ap, sym, ◌∙◌, subst, inl, inr, Err}
+use Rattle.std.proofs.lemmas.Bool.{false≢true}
 use Rattle.fdp_base.specs.declared.status.Status.{Status}
 use Rattle.fdp_base.specs.declared.status.TheConstants.Status as statuses
+use Rattle.fdp_book.specs.declared.ticket.Done.{Done}
+use Rattle.fdp_book.specs.declared.ticket.Ticket.{Ticket}
+use Rattle.fdp_book.specs.Book.{BookSeen, IsLed, point_in, state_in}
+use Rattle.fdp_book.specs.Steps as book
+use Rattle.fdp_book.specs.Tickets.{IsTicketOf}
+use Rattle.fdp_book.proofs.Histories.Follows.{write-succeeds}
+use Rattle.fdp_core.specs.Answers.{Commits, EndsAlone}
+use Rattle.fdp_core.specs.Ending.{MayEnd}
+use Rattle.fdp_core.specs.Seen.{Seen}
+use Rattle.fdp_core.specs.Sound.{IsSound}
+use Rattle.fdp_core.proofs.Apart.{known-begun}
+use Rattle.fdp_core.proofs.Ends.{may-follow, sound-ended}
+use Rattle.fdp_core.proofs.Sound.{begun, sound-begun}
+use Rattle.fdp_flash.specs.FlashState.{FlashState}
+use Rattle.fdp_history.specs.Orderly.{IsOrderly}
+use Rattle.fdp_isolation.specs.Laned.{IsKnown}
+use Rattle.fdp_ledger.specs.declared.counts.Counts.{Counts}
+use Rattle.fdp_pages.specs.Steps.{ChangesOwners}
 use Rattle.fdp_rules.specs.Answer.{bare}
 use Rattle.fdp_rules.specs.Change.{is_media_error}
 use Rattle.fdp_rules.specs.PlainState.{Going}
-use Rattle.fdp_rules.specs.Step.{MaySucceed}
-use Rattle.fdp_flash.specs.FlashState.{FlashState}
-use Rattle.fdp_book.specs.declared.ticket.Done.{Done}
-use Rattle.fdp_book.specs.declared.ticket.Ticket.{Ticket}
-use Rattle.fdp_core.specs.Answers.{Commits, EndsAlone}
-use Rattle.fdp_book.specs.Book.{BookSeen, point_in, state_in}
-use Rattle.fdp_book.specs.Steps as book
-use Rattle.fdp_core.specs.Seen.{Seen, failed_in}
-use Rattle.fdp_core.specs.Sound.{IsSound}
-use Rattle.fdp_book.specs.Tickets.{IsTicketOf}
-use Rattle.fdp_core.proofs.Ended.{ends-alone, going-orderly, sound-end}
-use Rattle.fdp_book.proofs.Histories.Follows.{write-succeeds}
+use Rattle.fdp_rules.specs.Step.{IsEnd, MaySucceed}
 
-pub sound-ok : (f : FlashState) (b d : BookSeen) (failed : Bool) (block : List ℕ) (ticket : Ticket) (g : Going) (moment : ℕ) (done : Done) →
-    IsSound f b.config b.found b.entries failed block → failed ≡ false → IsTicketOf (state_in b) ticket g → MaySucceed b.config (point_in b) g →
-    book.Completes b d [] ticket.queue g.number g.command (bare statuses.SUCCESS true) moment done → IsSound f d.config d.found d.entries failed block
-sound-ok f b d failed block ticket g moment done so well is may completed =
-    let write = (going-orderly f b.config b.found b.entries failed block ticket.queue g so is.going_is).write in
-    sound-end f b d failed block ticket g (bare statuses.SUCCESS true) moment done so well is (inr (inr (inl (may, write-succeeds f.told b.config (point_in b) g.command write)))) refl completed
+-- a write that may succeed does
+may-succeed : (f : FlashState) (b : BookSeen) (ticket : Ticket) (g : Going) → IsOrderly b.config (point_in b) → IsTicketOf (state_in b) ticket g → MaySucceed b.config (point_in b) g → IsEnd f.told b.config (point_in b) g (bare statuses.SUCCESS true) f.moment
+may-succeed f b ticket g orderly is may = inr (inr (inl (may, write-succeeds f.told b.config (point_in b) g.command (orderly.state.writes ticket.queue g is.going_is).write)))
 
-pub sound-err : (f : FlashState) (b d : BookSeen) (failed : Bool) (block : List ℕ) (ticket : Ticket) (g : Going) (status : Status) (moment : ℕ) (done : Done) →
-    IsSound f b.config b.found b.entries failed block → failed ≡ false → IsTicketOf (state_in b) ticket g → book.IsVerdict b g (Err status) →
-    book.Completes b d [] ticket.queue g.number g.command (bare status false) moment done → IsSound f d.config d.found d.entries failed block
-sound-err f b d failed block ticket g status moment done so well is verdict completed =
-    elim verdict [
-      | inl gone ↦ sound-end f b d failed block ticket g (bare status false) moment done so well is (inl (gone.0, ap (λ (x : Status). bare x false) gone.1)) (ap is_media_error gone.1) completed
-      | inr over ↦ sound-end f b d failed block ticket g (bare status false) moment done so well is (inr (inl (over.0, over.1, ap (λ (x : Status). bare x false) over.2))) (ap is_media_error over.2) completed
-    ]
+pub sound-ok : (handed : Counts) (f : FlashState) (b d : BookSeen) (block : List ℕ) (ticket : Ticket) (g : Going) (done : Done) →
+    IsSound handed f b block → IsKnown b → IsLed d → IsTicketOf (state_in b) ticket g → MaySucceed b.config (point_in b) g →
+    book.Completes (begun b) d [] ticket.queue g.number g.command (bare statuses.SUCCESS true) f.moment done → ChangesOwners b.pages d.pages → IsSound handed f d block
+sound-ok handed f b d block ticket g done so known led is may ends owners =
+    sound-ended handed f (begun b) d block ticket g (bare statuses.SUCCESS true) done (sound-begun handed f b block so) (known-begun b known) led is (λ _. may-succeed f b ticket g known.orderly is may) (λ wrong. absurd (false≢true wrong))
+    (inr (f.told, may-follow f b ticket g (bare statuses.SUCCESS true) known.orderly is (λ _. may-succeed f b ticket g known.orderly is may) (λ wrong. absurd (false≢true wrong)))) ends owners
 
--- no such end is a media error
+-- a verdict against a write is one that may follow, and no media error
+pub verdict-ends : {F : Type 0} (state : F → FlashState) (s : Seen F) (g : Going) (status : Status) → book.IsVerdict s.book g (Err status) → MayEnd state s g status
+verdict-ends state s g status (inl gone) = record {
+  legal = λ _. inl (gone.0, ap (λ (x : Status). bare x false) gone.1);
+  fault = λ wrong. absurd (false≢true (ap is_media_error (sym gone.1) ∙ wrong));
+}
+verdict-ends state s g status (inr over) = record {
+  legal = λ _. inr (inl (over.0, over.1, ap (λ (x : Status). bare x false) over.2));
+  fault = λ wrong. absurd (false≢true (ap is_media_error (sym over.2) ∙ wrong));
+}
+
 pub verdict-fine : (b : BookSeen) (g : Going) (status : Status) → book.IsVerdict b g (Err status) → is_media_error status ≡ false
 verdict-fine b g status (inl gone) = ap is_media_error gone.1
 verdict-fine b g status (inr over) = ap is_media_error over.2
 
-pub commits-ok : {F : Type 0} (state : F → FlashState) (old new : Seen F) (ticket : Ticket) (g : Going) (moment : ℕ) (done : Done) (block : List ℕ) →
-    IsSound (state new.flash) new.book.config new.book.found new.book.entries (failed_in new.book) block → new.handed ≡ old.handed → new.flash ≡ old.flash → (failed_in new.book) ≡ false →
-    MaySucceed old.book.config (point_in old.book) g → book.Completes old.book new.book [] ticket.queue g.number g.command (bare statuses.SUCCESS true) moment done →
-    moment ≡ (state new.flash).moment → Commits state old new ticket g done
-commits-ok state old new ticket g moment done block so handed same well may completed moment_is =
-    inr (inr (may, ends-alone state old new ticket g (bare statuses.SUCCESS true) moment done block so handed same well completed moment_is refl))
+pub commits-err : {F : Type 0} (state : F → FlashState) (old new : Seen F) (ticket : Ticket) (g : Going) (status : Status) (done : Done) → book.IsVerdict old.book g (Err status) → EndsAlone state old new ticket g (bare status false) done → Commits state old new ticket g done
+commits-err state old new ticket g status done (inl gone) ends = inl (gone.0, subst (λ (x : Status). EndsAlone state old new ticket g (bare x false) done) gone.1 ends)
+commits-err state old new ticket g status done (inr over) ends = inr (inl (over.0, over.1, subst (λ (x : Status). EndsAlone state old new ticket g (bare x false) done) over.2 ends))
 
-pub commits-err : {F : Type 0} (state : F → FlashState) (old new : Seen F) (ticket : Ticket) (g : Going) (status : Status) (moment : ℕ) (done : Done) (block : List ℕ) →
-    IsSound (state new.flash) new.book.config new.book.found new.book.entries (failed_in new.book) block → new.handed ≡ old.handed → new.flash ≡ old.flash → (failed_in new.book) ≡ false →
-    book.IsVerdict old.book g (Err status) → book.Completes old.book new.book [] ticket.queue g.number g.command (bare status false) moment done →
-    moment ≡ (state new.flash).moment → Commits state old new ticket g done
-commits-err {F} state old new ticket g status moment done block so handed same well verdict completed moment_is =
-    elim verdict [
-      | inl gone ↦ inl (gone.0, ends-as statuses.INVALID_NAMESPACE gone.1 refl)
-      | inr over ↦ inr (inl (over.0, over.1, ends-as statuses.CAPACITY_EXCEEDED over.2 refl))
-    ]
-  where
-    ends-as : (x : Status) → status ≡ x → is_media_error x ≡ false → EndsAlone state old new ticket g (bare x false) done
-    ends-as x e fine = ends-alone state old new ticket g (bare x false) moment done block so handed same well (subst (λ (y : Status). book.Completes old.book new.book [] ticket.queue g.number g.command (bare y false) moment done) e completed) moment_is fine
+pub commits-ok : {F : Type 0} (state : F → FlashState) (old new : Seen F) (ticket : Ticket) (g : Going) (done : Done) → MaySucceed old.book.config (point_in old.book) g → EndsAlone state old new ticket g (bare statuses.SUCCESS true) done → Commits state old new ticket g done
+commits-ok state old new ticket g done may ends = inr (inr (may, ends))

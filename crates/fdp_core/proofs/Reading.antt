@@ -1,6 +1,6 @@
 -- How blocks are read, one behind another.
 use Rattle.std.proofs.Common.{◌≡◌, ℕ, zero, suc, ◌+◌, ◌-◌, ◌*◌, ◌<◌, ◌≤◌, true, false, IsTrue, List, [], ◌∷◌, ◌++◌, length, take, drop, replicate, refl, ap, sym, ◌∙◌, subst, arith, Some, None, Option, length-append}
-use Rattle.std.specs.Prelude.{flat_map, option_and_then, slice_get, Result, Ok, Err, OnOk, OnErr}
+use Rattle.std.specs.Prelude.{flat_map, option_and_then, Result, Ok, Err, OnOk, OnErr}
 use Rattle.std.specs.List.{cons_option, filter_map}
 use Rattle.std.specs.Option.{option_map_or}
 use Rattle.std.proofs.lemmas.Grind.{flat_map-append}
@@ -9,29 +9,24 @@ use Rattle.std.proofs.lemmas.List.Elements.{filter_map-append}
 use Rattle.std.proofs.lemmas.Slice.{drop-put_mid, take-put_mid}
 use borrow.Rule.Slice.PartMut.{put_mid}
 use Rattle.fdp_base.specs.declared.config.DriveConfig.{DriveConfig}
-use Rattle.fdp_base.specs.declared.config.Geometry.{Geometry}
 use Rattle.fdp_base.specs.declared.entry.Spot.{Spot}
 use Rattle.fdp_rules.specs.Answer.{read_block}
 use Rattle.fdp_rules.specs.LogPages.{zeros}
 use Rattle.fdp_base.specs.Numbers.{numbers_from}
-use Rattle.fdp_base.specs.Placement.{geometry_of}
 use Rattle.fdp_rules.specs.PlainState.{Block, PlainState}
-use Rattle.fdp_flash.specs.declared.cell.Cell.{Cell}
+use Rattle.fdp_collector.specs.Copying.{Holds}
 use Rattle.fdp_flash.specs.FlashState.{Call, FlashState}
-use Rattle.fdp_flash.specs.Layout.{page_number}
 use Rattle.fdp_history.specs.OrderlyState.{IsOrderlyState}
 use Rattle.fdp_book.specs.declared.book.reading.Page.{Page}
 use Rattle.fdp_base.specs.declared.command.Read.{Read}
 use Rattle.fdp_book.specs.Book.{BookSeen, point_in, state_in}
-use Rattle.fdp_core.specs.Calls.{MakesCalls, fetch_at}
+use Rattle.fdp_calls.specs.Calls.{IsKept, IsWholeAt, MakesCalls, fetch_at}
 use Rattle.fdp_core.specs.Fetches.{FailsToFetch, MakesFetches, fetches_of, page_of, pages_of}
-use Rattle.fdp_core.specs.Media.{IsReadFrom, IsWholeAt}
-use Rattle.fdp_book.specs.Pages.{cells_of}
+use Rattle.fdp_calls.specs.Media.{IsReadFrom}
 use Rattle.fdp_book.specs.Reading.{IsPageOf, StandsAt}
 use Rattle.fdp_core.specs.ReadSteps.{blocks_from}
-use Rattle.fdp_core.specs.Seen.{IsKept}
-use Rattle.fdp_core.proofs.CallsMade.{calls-joined, calls-none}
-use Rattle.fdp_core.proofs.Adds.{kept-same}
+use Rattle.fdp_core.specs.Seen.{HoldsHistory}
+use Rattle.fdp_calls.proofs.Made.{calls-joined, calls-none}
 
 -- ---- calls that read, one after another
 
@@ -45,7 +40,7 @@ kept-joined a b c p q = record {
 }
 
 pub read-none : (a : FlashState) → IsReadFrom a a
-read-none a = record { kept = kept-same a; programs = refl; cells = λ _. refl }
+read-none a = record { kept = record { geometry = refl; told = refl; reliable = refl; moment = omega arith; faults = omega arith }; programs = refl; cells = λ _. refl }
 
 pub read-joined : (a b c : FlashState) → IsReadFrom a b → IsReadFrom b c → IsReadFrom a c
 read-joined a b c p q = record {
@@ -61,10 +56,10 @@ stands-as b None page h = absurd h
 stands-as b (Some x) page h = (x, refl, h)
 
 -- the page of a block is whole, with the spare that is asked for
-pub whole-there : (f : FlashState) (b : BookSeen) (block : Option Block) (page : Page) → f.geometry ≡ geometry_of b.config → (IsTrue f.told → f.cells ≡ cells_of b.config b.found b.entries) → StandsAt b block (Some page) → IsTrue f.told → IsWholeAt f page.spot page.spare
-whole-there f b block page geometry cells h tells =
-    let stands = stands-as b block page h in
-    (stands.0.bytes, ap (λ (cs : List Cell). slice_get cs (page_number f.geometry page.spot)) (cells tells) ∙ ap (λ (x : Geometry). slice_get (cells_of b.config b.found b.entries) (page_number x page.spot)) geometry ∙ stands.2.whole)
+pub whole-there : (f : FlashState) (b : BookSeen) (block : Option Block) (page : Page) → HoldsHistory f b → StandsAt b block (Some page) → IsTrue f.told → IsWholeAt f page.spot page.spare
+whole-there f b block page stored h tells =
+    let is = (stands-as b block page h).2 in
+    (is.written.bytes, subst (λ (xs : List ℕ). Holds f.geometry f.cells page.spot xs is.written.bytes) is.spare ((stored tells).whole page.spot is.written is.holds))
 
 -- ---- the fetches
 

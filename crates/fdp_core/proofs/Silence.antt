@@ -1,11 +1,18 @@
 -- The entries of a step are those of one queue: all others are silent in them.
-use Rattle.std.proofs.Common.{◌≢◌, ℕ, Bool, cond, List, [], ◌∷◌, ◌++◌, refl, ap, sym, ◌∙◌, arith, ne_eqb, None, Some}
+use Rattle.std.proofs.Common.{◌≡◌, ◌≢◌, ℕ, Bool, cond, nat_eq, List, [], ◌∷◌, ◌++◌, refl, ap, sym, ◌∙◌, arith, ne_eqb, Option, None, Some}
+use Rattle.std.specs.Prelude.{option_and_then}
 use Rattle.std.specs.List.{All, cons_option}
-use Rattle.std.proofs.lemmas.List.Elements.{All-append, All-cons, All-nil, filter_map-append}
+use Rattle.std.specs.Option.{option_map_or}
+use Rattle.std.proofs.lemmas.List.Elements.{All-append, All-cons, All-head, All-nil, All-tail, filter_map-append}
 use Rattle.fdp_base.specs.declared.command.Command.{Command}
 use Rattle.fdp_base.specs.declared.entry.Entry.{Entry}
 use Rattle.fdp_base.specs.declared.entry.Entry.TheVariants as entries
+use Rattle.fdp_base.specs.declared.config.DriveConfig.{DriveConfig}
+use Rattle.fdp_base.specs.declared.entry.Host.{Host}
 use Rattle.fdp_base.specs.declared.entry.Reply.{Reply}
+use Rattle.fdp_base.specs.declared.entry.Started.{Started}
+use Rattle.fdp_base.specs.EntryKinds.{host_of, started_of}
+use Rattle.fdp_relocation.specs.Entries.{AreRelocationIn, IsRelocationIn}
 use Rattle.fdp_rules.specs.Queue.{completed, completed_by, starting_queue}
 use Rattle.fdp_core.specs.Silence.{OthersStaySilent}
 
@@ -26,7 +33,7 @@ silent-joined queue es fs first second other some ne =
       starts = All-append (λ e. starting_queue e ≢ other) es fs p.starts q.starts;
     }
 
--- a write is let go
+-- a write is started
 pub silent-started : (queue number : ℕ) (command : Command) (rg ruh : ℕ) (valid : Bool) → OthersStaySilent queue (entries.Started (record { queue = queue; number = number; command = command; rg = rg; ruh = ruh; pid_valid = valid }) ∷ [])
 silent-started queue number command rg ruh valid other some ne = record { completes = refl; starts = starts-one other _ (λ same. ne (sym same)) }
 
@@ -48,3 +55,41 @@ silent-placed queue ticket index unit page other some ne = record { completes = 
 -- a handle is shut, for whichever queue
 pub silent-shut : (queue rg ruh : ℕ) → OthersStaySilent queue (entries.Shut (record { rg = rg; ruh = ruh }) ∷ [])
 silent-shut queue rg ruh other some ne = record { completes = refl; starts = starts-one other _ (λ same. omega arith) }
+
+-- ---- relocation
+
+-- an entry of relocation completes nothing, and starts nothing
+record IsQuiet (e : Entry) : Type 0 where
+  host : host_of e ≡ None
+  started : started_of e ≡ None
+
+quiet : (c : DriveConfig) (rg : ℕ) (e : Entry) → IsRelocationIn c rg e → IsQuiet e
+quiet c rg (entries.Host h) is = absurd is
+quiet c rg (entries.Started s) is = absurd is
+quiet c rg (entries.Placed p) is = absurd is
+quiet c rg (entries.Copied x) is = record { host = refl; started = refl }
+quiet c rg (entries.Moved m) is = record { host = refl; started = refl }
+quiet c rg (entries.Erased e) is = record { host = refl; started = refl }
+quiet c rg (entries.Retired r) is = record { host = refl; started = refl }
+quiet c rg (entries.Aside a) is = record { host = refl; started = refl }
+quiet c rg (entries.Shut s) is = absurd is
+quiet c rg (entries.Worn w) is = record { host = refl; started = refl }
+quiet c rg entries.Reopened is = absurd is
+
+-- steps of relocation complete nothing
+pub relocation-completes : (queue : ℕ) (c : DriveConfig) (rg : ℕ) (es : List Entry) → AreRelocationIn c rg es → completed queue es ≡ []
+relocation-completes queue c rg [] all = refl
+relocation-completes queue c rg (e ∷ es) all =
+    ap (λ (o : Option Host). cons_option (option_and_then (λ (h : Host). cond (nat_eq h.queue queue) (Some (h.number, h.command)) None) o) (completed queue es)) (quiet c rg e (All-head (IsRelocationIn c rg) e es all)).host
+    ∙ relocation-completes queue c rg es (All-tail (IsRelocationIn c rg) e es all)
+
+-- steps of relocation, for whichever queue
+pub silent-relocation : (queue : ℕ) (c : DriveConfig) (rg : ℕ) (es : List Entry) → AreRelocationIn c rg es → OthersStaySilent queue es
+silent-relocation queue c rg [] all other some ne = silent-none queue other some ne
+silent-relocation queue c rg (e ∷ es) all other some ne =
+    let rest = silent-relocation queue c rg es (All-tail (IsRelocationIn c rg) e es all) other some ne in
+    let none = (quiet c rg e (All-head (IsRelocationIn c rg) e es all)).started in
+    record {
+      completes = relocation-completes other c rg (e ∷ es) all;
+      starts = All-cons (λ x. starting_queue x ≢ other) e es (λ same. omega (arith, some, sym (ap (λ (o : Option Started). option_map_or (λ (s : Started). s.queue) o 0) none) ∙ same)) rest.starts;
+    }

@@ -1,74 +1,74 @@
--- What an entry more leaves of how a group stands for its history.
-use Rattle.std.proofs.Common.{◌≡◌, ℕ, Bool, true, false, IsTrue, List, [], ◌∷◌, ◌++◌, length, ap, sym, ◌∙◌, subst, refl, ◌||◌}
-use Rattle.std.specs.List.{list_any}
-use Rattle.std.proofs.lemmas.List.Folds.{list_any-append}
-use Rattle.fdp_base.specs.declared.entry.Entry.TheVariants as entries
-use Rattle.fdp_base.specs.declared.command.Command.{Command}
-use Rattle.fdp_base.specs.declared.entry.Reply.{Reply}
-use Rattle.fdp_rules.specs.Change.{is_media_error}
-use Rattle.fdp_core.specs.Seen.{failed_in, tells_failure}
-use Rattle.fdp_book.specs.Book.{BookSeen}
+-- What stays of how a group stands for its history.
+use Rattle.std.proofs.Common.{◌≡◌, ℕ, ◌+◌, ◌-◌, ◌≤◌, true, List, [], ◌∷◌, length, Option, refl, sym, ◌∙◌, ap, subst, arith}
+use Rattle.std.specs.Prelude.{IsTrue}
 use Rattle.fdp_base.specs.declared.config.DriveConfig.{DriveConfig}
+use Rattle.fdp_base.specs.declared.config.Geometry.{Geometry}
 use Rattle.fdp_base.specs.declared.entry.Entry.{Entry}
-use Rattle.fdp_rules.specs.Change.{after}
-use Rattle.fdp_rules.specs.History.{Found, point_of}
-use Rattle.fdp_rules.specs.Next.{next}
-use Rattle.fdp_rules.specs.Point.{Point}
-use Rattle.fdp_rules.proofs.Pushes.{point_of-push}
-use Rattle.fdp_flash.specs.FlashState.{FlashState}
-use Rattle.fdp_history.specs.Orderly.{IsOrderly}
-use Rattle.fdp_book.specs.Pages.{cells_after, cells_of}
+use Rattle.fdp_base.specs.declared.entry.Spot.{Spot}
+use Rattle.fdp_base.specs.Placement.{geometry_of}
+use Rattle.fdp_book.specs.Book.{BookSeen, IsLonger, point_in, state_in, written_in}
+use Rattle.fdp_core.specs.Seen.{HasMoments, HoldsHistory, KeepsApart}
 use Rattle.fdp_core.specs.Sound.{IsSound}
-use Rattle.fdp_book.specs.UsedOnce.{IsLegalOnce, IsStepOnce}
-use Rattle.fdp_core.proofs.LegalOnce.{orderly-legal_once}
-use Rattle.fdp_book.proofs.Histories.Longer.{cells_of-push, legal_once-push}
+use Rattle.fdp_core.proofs.Pushed.{legal-one, written-one}
+use Rattle.fdp_flash.specs.declared.cell.Cell.{Cell}
+use Rattle.fdp_flash.specs.FlashState.{FlashState}
+use Rattle.fdp_isolation.proofs.Alike.{laned-alike}
+use Rattle.fdp_ledger.specs.declared.counts.Counts.{Counts}
+use Rattle.fdp_ledger.specs.Ledger.{IsLedger}
+use Rattle.fdp_ledger.specs.Told.{is_media_reply}
+use Rattle.fdp_ledger.proofs.Alike.{ledger-alike}
+use Rattle.fdp_locations.specs.Stored.{HoldsWritten}
+use Rattle.fdp_locations.specs.Written.{Written, written_after}
+use Rattle.fdp_pages.specs.Steps.{ChangesOwners}
+use Rattle.fdp_relocation.proofs.Moving.{blank-recounted}
+use Rattle.fdp_rules.specs.Step.{Follows}
 
--- an equal history of an equal drive
-pub sound-as : (f : FlashState) (c d : DriveConfig) (x y : Found) (es fs : List Entry) (failed : Bool) (block : List ℕ) → d ≡ c → y ≡ x → fs ≡ es → IsSound f c x es failed block → IsSound f d y fs failed block
-sound-as f c d x y es fs failed block p r q h =
-    subst (λ (k : DriveConfig). IsSound f k y fs failed block) (sym p)
-    (subst (λ (k : Found). IsSound f c k fs failed block) (sym r) (subst (λ (xs : List Entry). IsSound f c x xs failed block) (sym q) h))
+-- a step that has begun: it may add 300 entries, one of them that of a move
+abbrev pub begun : BookSeen → BookSeen
+begun b = record b { spare = b.spare - 1; spent = b.spent + 1; room = 300; may_move = true }
 
--- an entry more
-pub sound-push : (f g : FlashState) (c : DriveConfig) (found : Found) (es : List Entry) (e : Entry) (was failed : Bool) (old block : List ℕ) →
-    IsSound f c found es was old → g.geometry ≡ f.geometry → g.told ≡ f.told → IsStepOnce f.told c found es e →
-    (failed ≡ false → IsTrue f.told → g.cells ≡ cells_after c (point_of c found es).state (cells_of c found es) e) →
-    (failed ≡ false → (after c (point_of c found es).state e).media ≡ []) →
-    length block ≡ c.block → IsSound g c found (es ++ e ∷ []) failed block
-unfolding next point_of
-sound-push f g c found es e was failed old block so geometry told step cells healthy buffer = record {
-  config = so.config;
-  begun = so.begun;
-  geometry = geometry ∙ so.geometry;
-  legal = subst (λ (t : Bool). IsLegalOnce t c found (es ++ e ∷ [])) (sym told) (legal_once-push f.told c found es e so.legal step);
-  cells = λ well tells. cells well (sym told ∙ tells) ∙ sym (cells_of-push c found es e);
-  healthy = λ well. ap (λ (p : Point). p.state.media) (point_of-push c found es e) ∙ healthy well;
-  buffer = buffer;
+-- the flash as it is, or after calls that read: the same one, with the same cells
+pub record IsSameFlash (f n : FlashState) : Type 0 where
+  pub geometry : n.geometry ≡ f.geometry
+  pub told : n.told ≡ f.told
+  pub moment : f.moment ≤ n.moment
+  pub cells : IsTrue f.told → n.cells ≡ f.cells
+
+pub same-flash : (f : FlashState) → IsSameFlash f f
+same-flash f = record { geometry = refl; told = refl; moment = omega arith; cells = λ _. refl }
+
+-- ---- what is held
+
+-- no page changed, and no unit but for how many of its pages are live
+pub held-still : (f n : FlashState) (b d : BookSeen) → IsSameFlash f n → ChangesOwners b.pages d.pages → written_in d ≡ written_in b → HoldsHistory f b → HoldsHistory n d
+held-still f n b d same owners written holds tells =
+    let told : IsTrue f.told = sym same.told ∙ tells in
+    let was = holds told in
+    let here : HoldsWritten f.geometry f.cells (written_in b) d.pages.units =
+    record { lie = was.lie; whole = was.whole; blank = blank-recounted f.geometry f.cells b.pages.units d.pages.units d.pages.owners owners.units was.blank } in
+    subst (λ (g : Geometry). HoldsWritten g n.cells (written_in d) d.pages.units) (sym same.geometry)
+    (subst (λ (cs : List Cell). HoldsWritten f.geometry cs (written_in d) d.pages.units) (sym (same.cells told))
+    (subst (λ (w : Spot → Option Written). HoldsWritten f.geometry f.cells w d.pages.units) (sym written) here))
+
+-- ---- an entry more that writes no page
+
+pub sound-told : (handed : Counts) (f n : FlashState) (b d : BookSeen) (e : Entry) (block now : List ℕ) →
+    IsSound handed f b block → IsSameFlash f n → IsLonger b d (e ∷ []) → ChangesOwners b.pages d.pages →
+    written_after b.config (state_in b) (written_in b) e ≡ written_in b →
+    ((IsTrue (is_media_reply e) → HasMoments n) → Follows n.told b.config (point_in b) e) → IsLedger handed d n → KeepsApart n d →
+    length now ≡ length block → IsSound handed n d now
+sound-told handed f n b d e block now so same longer owners written follows ledger apart size = record {
+  geometry = same.geometry ∙ so.geometry ∙ ap geometry_of (sym longer.config_is);
+  legal = legal-one f n b d e longer same.told same.moment so.legal follows;
+  stored = held-still f n b d same owners (written-one b d e longer ∙ written) so.stored;
+  apart = apart;
+  ledger = ledger;
+  buffer = size ∙ so.buffer ∙ ap (λ (c : DriveConfig). c.block) (sym longer.config_is);
 }
 
--- all is orderly
-pub sound-orderly : (f : FlashState) (c : DriveConfig) (found : Found) (es : List Entry) (failed : Bool) (block : List ℕ) → IsSound f c found es failed block → IsOrderly c (point_of c found es)
-sound-orderly f c found es failed block so = orderly-legal_once f.told c found es so.config so.begun so.legal
+-- a step that has begun has changed nothing yet
+pub apart-begun : (f : FlashState) (b : BookSeen) → KeepsApart f b → KeepsApart f (begun b)
+apart-begun f b apart tells = laned-alike b (begun b) f.cells refl refl refl refl (apart tells)
 
--- ---- whether a call failed
-
--- whether an entry of a longer history tells of a failed call, where none did before
-pub failed-after : (b d : BookSeen) (es : List Entry) (failed : Bool) → failed_in b ≡ false → d.entries ≡ b.entries ++ es → list_any tells_failure es ≡ failed → failed_in d ≡ failed
-failed-after b d es failed well is told =
-    ap (list_any tells_failure) is ∙ list_any-append tells_failure b.entries es ∙ ap (λ (k : Bool). k || list_any tells_failure es) well ∙ told
-
--- the Host entry of a command tells of a failed call where its reply is a media error
-pub host-told : (queue number : ℕ) (command : Command) (reply : Reply) (moment : ℕ) (failed : Bool) → is_media_error reply.status ≡ failed → list_any tells_failure (entries.Host (record { queue = queue; number = number; command = command; reply = reply; moment = moment }) ∷ []) ≡ failed
-host-told queue number command reply moment failed is = or-none (is_media_error reply.status) ∙ is
-  where
-    or-none : (k : Bool) → (k || false) ≡ k
-    or-none true = refl
-    or-none false = refl
-
--- a group over which no call failed, by the word of another history of which none tells
-pub sound-quiet : (f : FlashState) (b d : BookSeen) (block : List ℕ) → failed_in b ≡ false → failed_in d ≡ false → IsSound f b.config b.found b.entries (failed_in b) block → IsSound f b.config b.found b.entries (failed_in d) block
-sound-quiet f b d block well quiet so = subst (λ (k : Bool). IsSound f b.config b.found b.entries k block) (well ∙ sym quiet) so
-
--- and one over which a call failed
-pub sound-broken : (f : FlashState) (d : BookSeen) (block : List ℕ) → failed_in d ≡ true → IsSound f d.config d.found d.entries true block → IsSound f d.config d.found d.entries (failed_in d) block
-sound-broken f d block broken so = subst (λ (k : Bool). IsSound f d.config d.found d.entries k block) (sym broken) so
+pub sound-begun : (handed : Counts) (f : FlashState) (b : BookSeen) (block : List ℕ) → IsSound handed f b block → IsSound handed f (begun b) block
+sound-begun handed f b block so = record { geometry = so.geometry; legal = so.legal; stored = so.stored; apart = apart-begun f b so.apart; ledger = ledger-alike handed b (begun b) f refl refl refl refl so.ledger; buffer = so.buffer }

@@ -1,9 +1,9 @@
 pub mod Seen
-pub mod Calls
-pub mod Fetches
-pub mod Media
-pub mod ReadSteps
 pub mod Steps
+pub mod Fetches
+pub mod ReadSteps
 pub mod Silence
+pub mod Passes
 pub mod Answers
+pub mod Ending
 pub mod Sound

@@ -8,6 +8,8 @@ use Rattle.fdp_base.specs.declared.command.Read.{Read}
 use Rattle.fdp_book.specs.declared.room.Replies.{Replies}
 use Rattle.fdp_book.specs.Book.{BookSeen, state_in}
 use Rattle.fdp_book.specs.Room.{IsTwice, read_reply}
+use Rattle.fdp_calls.specs.Media.{IsReadFrom}
+use Rattle.fdp_core.specs.Fetches.{MakesFetches}
 
 -- so many blocks of a namespace, from an address on, one behind another
 abbrev pub blocks_from : BookSeen → ℕ → ℕ → ℕ → List ℕ
@@ -23,3 +25,10 @@ pub record HasBlocks (old : FlashState) (b : BookSeen) (x : Read) (replies : Rep
 -- the replies to a read: its blocks, or that a fetch failed
 abbrev pub Reads : FlashState → BookSeen → Read → Replies → Bool → Type 0
 Reads old b x replies failed = MatchBool failed (IsTwice (bare statuses.UNRECOVERED_READ_ERROR false) replies) (HasBlocks old b x replies)
+
+-- a read of blocks: whether or not a fetch failed
+pub record ReadsAll (old new : FlashState) (b : BookSeen) (x : Read) (replies : Replies) : Type 0 where
+  pub failed : Bool
+  pub read : IsReadFrom old new
+  pub told : Reads old b x replies failed
+  pub fetches : MakesFetches old new b x failed

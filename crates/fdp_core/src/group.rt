@@ -1,24 +1,31 @@
-ghost use Rattle.std.specs.Prelude.{◌≡◌, ◌↔◌, ◌+◌, ◌*◌, ◌≤◌, ◌^◌, IsTrue, length, OnOk, OnErr, IfOk};
+ghost use Rattle.std.specs.Prelude.{◌≡◌, ◌↔◌, ◌+◌, ◌*◌, ◌≤◌, ◌<◌, ◌^◌, IsTrue, length, not, OnOk, OnErr, IfOk};
 ghost use Rattle.fdp_base.specs.Config.{IsValidConfig};
-ghost use Rattle.fdp_rules.specs.History.{totals_of};
 ghost use Rattle.fdp_base.specs.Placement.{geometry_of};
-ghost use Rattle.fdp_book.specs.Book.{state_in};
-ghost use Rattle.fdp_book.specs.Pages.{blank_cells};
+ghost use Rattle.fdp_book.specs.Book.{point_in, state_in};
+ghost use Rattle.fdp_book.specs.Stages.{IsFree, IsStage};
 ghost use Rattle.fdp_book.specs.Steps.{IsFlying};
-ghost use Rattle.fdp_book.specs.UsedOnce.{IsLegalOnce};
-ghost use Rattle.fdp_core.specs.Seen.{CountedSince, HoldsHistory, failed_in, new_over};
-ghost use Rattle.fdp_book.specs.Stages.{IsStage};
-ghost use Rattle.fdp_book.specs.Stages.{IsFree};
-ghost use Rattle.fdp_core.specs.Steps.{most_steps};
+ghost use Rattle.fdp_core.specs.Seen.{HoldsHistory, IsLegalOver, IsNewOver};
+ghost use Rattle.fdp_flash.specs.Cells.{IsBlankFlash};
+ghost use Rattle.fdp_isolation.specs.Isolated.{IsIsolatedDrive};
+ghost use Rattle.fdp_ledger.specs.Counted.{CountedSince};
+ghost use Rattle.fdp_locations.specs.Located.{AreUnitsOf};
+ghost use Rattle.fdp_pages.specs.Joined.{AreJoined};
+ghost use Rattle.fdp_rules.specs.History.{totals_of};
+ghost use Rattle.fdp_trails.specs.Toil.{is_live, is_stale, pages_where};
+ghost use Rattle.fdp_units.specs.UnitTable.{toil_of};
 
-use crate::counts::{Counts, counts_of};
 use fdp_base::{DriveConfig, Entry, Totals};
 use fdp_book::{Book, Stage, Ticket};
 use fdp_flash::Flash;
+use fdp_ledger::{Counts, counts_of};
+use fdp_trails::toil_is_what_can_be_won;
 use std::alloc::{AllocError, Global};
 use std::marker::Model;
 
+mod collect;
 mod commit;
+mod end;
+mod pass;
 mod place;
 mod read;
 mod start;
@@ -28,8 +35,6 @@ mod start;
 pub struct Group<F: Flash> {
     flash: F,
     book: Book,
-    /// Whether a call of the flash failed.
-    failed: bool,
     /// What the flash had counted when it was handed in.
     handed: Counts,
     /// A block on its way to the flash.
@@ -41,28 +46,29 @@ impl<F: Flash> Model for Group<F> {
 
     ghost Value = { Seen F };
 
-    ghost use Rattle.fdp_core.specs.Sound.{IsSoundGroup};
+    ghost use Rattle.fdp_core.specs.Sound.{IsSound};
 
     ghost view = { λ g. record { book = g.book; handed = g.handed; flash = g.flash } };
 
-    ghost invariant = { λ g. IsSoundGroup g.handed (F.state g.flash) g.book g.failed g.block.items };
+    ghost invariant = { λ g. IsSound g.handed (F.state g.flash) g.book g.block.items };
 }
 
 impl<F: Flash + Drop> Group<F> {
-    /// The drive as its configuration makes it, over a flash that is blank. It takes a place for each block of its namespaces.
+    /// The drive as its configuration makes it, over a flash that is blank. It takes a place for each block of its namespaces, and for
+    /// each page of data.
     pub fn fresh(alloc: Global, flash: F, config: &DriveConfig) -> Result<Group<F>, AllocError>
         requires config { IsValidConfig config.now }
         requires geometry { (F.state flash).geometry ≡ geometry_of config.now }
-        requires blank { IsTrue (F.state flash).told → (F.state flash).cells ≡ blank_cells config.now }
-        ensures { IfOk result (λ group. group ≡ new_over F.state config.now flash) }
+        requires blank { IsTrue (F.state flash).told → IsBlankFlash (geometry_of config.now) (F.state flash).cells }
+        ensures { IfOk result (λ group. IsNewOver F.state config.now flash group) }
     {
         let block = vec![in alloc; 0; config.block as usize]?;
         let book = Book::fresh(alloc, config)?;
+        book.known();
         let handed = counts_of(&flash);
         Ok(Group {
             flash,
             book,
-            failed: false,
             handed,
             block,
         })
@@ -78,7 +84,7 @@ impl<F: Flash> Group<F> {
         self.book.config()
     }
 
-    /// Takes the memory for so many steps. Each call of `start`, `place` and `commit` is one step.
+    /// Takes the memory for so many steps. Each call of `start`, `place`, `commit` and `collect` that adds an entry is one step.
     pub fn reserve(&mut self, steps: u32) -> Result<(), AllocError>
         requires { self.old.book.spent + steps ≤ 2 ^ 30 }
         ensures ok { OnOk result (steps ≤ self.new.book.spare) }
@@ -103,21 +109,16 @@ impl<F: Flash> Group<F> {
         self.book.spent()
     }
 
-    /// The most steps of a command: the first, one for each of its blocks, and the last.
-    pub fn most_steps(&self) -> u32
-        ensures { result ≡ most_steps self.now.book.config }
-    {
-        u32::from(self.book.config().blocks_per_command) + 2
-    }
-
     /// The history, oldest entry first.
     pub fn entries(&self) -> &[Entry]
         ensures entries { result.now ≡ self.now.book.entries }
-        ensures few { length result.now ≤ 300 * self.now.book.spent + 1 }
-        ensures legal { IsLegalOnce (F.state self.now.flash).told self.now.book.config self.now.book.found self.now.book.entries }
+        ensures few { length result.now ≤ 300 * self.now.book.spent }
+        ensures legal { IsLegalOver (F.state self.now.flash) self.now.book }
         ensures cells { HoldsHistory (F.state self.now.flash) self.now.book }
+        ensures apart { IsTrue (F.state self.now.flash).told → IsIsolatedDrive self.now.book.config (point_in self.now.book) self.now.book.entries (F.state self.now.flash).cells }
         ensures counted { CountedSince self.now.handed (F.state self.now.flash) self.now.book.entries }
     {
+        self.book.known();
         self.book.entries()
     }
 
@@ -135,11 +136,25 @@ impl<F: Flash> Group<F> {
         self.book.totals()
     }
 
-    /// Whether a call of the flash failed: some entry tells of it. No step may follow.
-    pub fn failed(&self) -> bool
-        ensures { result ≡ failed_in self.now.book }
+    /// The work that relocation has in a group: the pages that are not live of its closed units, and of its targets those that were used.
+    /// These are all pages that can be won there, and no live ones.
+    pub fn toil(&self, rg: u16) -> u64
+        requires { rg < self.now.book.config.groups }
+        ensures toil { result ≡ toil_of self.now.book.pages.units rg }
+        ensures least { pages_where self.now.book.pages.units rg (is_stale self.now.book.pages.units self.now.book.pages.owners) ≤ result }
+        ensures most { result ≤ pages_where self.now.book.pages.units rg (λ spot. not (is_live self.now.book.pages.owners spot)) }
     {
-        self.failed
+        self.book.known();
+        toil_is_what_can_be_won();
+        u64::from(self.book.toil(rg))
+    }
+
+    /// How the tables of the pages stand for the history: the handles and the units are those of the state, and all tables agree.
+    pub fn known(&self)
+        ensures units { AreUnitsOf self.now.book.config (state_in self.now.book) self.now.book.pages }
+        ensures joined { AreJoined self.now.book.pages }
+    {
+        self.book.known();
     }
 
     /// How far the write of a ticket has come. It takes a constant time.
@@ -161,26 +176,23 @@ impl<F: Flash> Group<F> {
         requires { IsFlying self.old.book ticket }
         ensures { self.new ≡ self.old }
     {
-        let _ = &self.failed;
-        let Ticket {
-            queue: _,
-            number: _,
-            position: _,
-        } = ticket;
+        let _ = &self.block;
+        let _queue = ticket.give_up();
     }
 
     /// Gives the flash and the history back.
     pub fn finish(self) -> (F, Vec<Entry>)
         ensures flash { result.0 ≡ self.flash }
         ensures entries { result.1.items ≡ self.book.entries }
-        ensures legal { IsLegalOnce (F.state self.flash).told self.book.config self.book.found self.book.entries }
+        ensures legal { IsLegalOver (F.state self.flash) self.book }
         ensures cells { HoldsHistory (F.state self.flash) self.book }
+        ensures apart { IsTrue (F.state self.flash).told → IsIsolatedDrive self.book.config (point_in self.book) self.book.entries (F.state self.flash).cells }
         ensures counted { CountedSince self.handed (F.state self.flash) self.book.entries }
     {
+        self.book.known();
         let Group {
             flash,
             book,
-            failed: _,
             handed: _,
             block: _,
         } = self;

@@ -1,6 +1,5 @@
 -- What a queue may go on with, and what its step comes to.
-use Rattle.std.proofs.Common.{◌≡◌, ℕ, Option, Some, sym, subst, ◌∙◌}
-use Rattle.fdp_base.specs.declared.command.Command.{Command}
+use Rattle.std.proofs.Common.{◌≡◌, ℕ, Option, Some, inl, inr, sym, subst, ◌∙◌}
 use Rattle.fdp_rules.specs.PlainState.{Going}
 use Rattle.fdp_flash.specs.FlashState.{FlashState}
 use Rattle.fdp_core.specs.declared.answer.Placed.{Placed}
@@ -9,11 +8,11 @@ use Rattle.fdp_book.specs.declared.stage.Stage.{Stage}
 use Rattle.fdp_book.specs.declared.stage.Stage.TheVariants as stages
 use Rattle.fdp_book.specs.declared.ticket.Done.{Done}
 use Rattle.fdp_book.specs.declared.ticket.Ticket.{Ticket}
-use Rattle.fdp_core.specs.Answers.{Places, PlacesPage}
+use Rattle.fdp_core.specs.Answers.{MakesRoom, Places, PlacesPage}
 use Rattle.fdp_book.specs.Book.{state_in}
 use Rattle.fdp_core.specs.Seen.{Seen}
 use Rattle.fdp_book.specs.Tickets.{IsTicketOf}
-use Rattle.fdp_core_tests.specs.Played.{CameToBegin, CameToPlace, IsBegun, MayGoOn, Played, ended, with_spare}
+use Rattle.fdp_core_tests.specs.Played.{CameToPlace, MayGoOn, Played, ended}
 
 ticket-same : (x y : Ticket) → Some x ≡ Some y → x ≡ y
 ticket-same x y e = cc
@@ -24,8 +23,9 @@ ticket-one p queue x y t u h k = ticket-same t u (sym h.known ∙ k.known)
 
 -- what placing a page came to
 pub came-to_place : {F : Type 0} (state : F → FlashState) (old new : Seen F) (ticket : Ticket) (g : Going) (p : Placed) → Places state old new ticket g p → CameToPlace state old new ticket g (ended p)
-came-to_place state old new ticket g (placed.More next) h = subst (PlacesPage state old new ticket g) h.0.next_is h.0
-came-to_place state old new ticket g (placed.Ready next) h = subst (PlacesPage state old new ticket g) h.0.next_is h.0
+came-to_place state old new ticket g (placed.More next) (inl h) = inl (subst (PlacesPage state old new ticket g) h.0.next_is h.0)
+came-to_place state old new ticket g (placed.More next) (inr h) = inr (subst (MakesRoom state old new ticket g) h.next_is h)
+came-to_place state old new ticket g (placed.Ready next) h = inl (subst (PlacesPage state old new ticket g) h.0.next_is h.0)
 came-to_place state old new ticket g (placed.Ended done) h = h
 
 -- what placing a page came to, by the ticket with which the queue may go on
@@ -37,13 +37,3 @@ placed-at {F} state p group new queue t u g came result same h k is step result_
     let here : IsTicketOf (state_in group.book) t g = subst (λ (s : Seen F). IsTicketOf (state_in s.book) t g) (sym same) (subst (λ (x : Ticket). IsTicketOf (state_in p.group.book) x g) (sym one) is) in
     let there : CameToPlace state group new t g result = subst (CameToPlace state group new t g) (sym result_is) (came-to_place state group new t g came (step g here)) in
     subst (λ (s : Seen F). CameToPlace state s new u g result) same (subst (λ (x : Ticket). CameToPlace state group new x g result) one there)
-
--- a command is begun once there is room
-pub begun-at : {F : Type 0} (state : F → FlashState) (p new : Played F) (group : Seen F) (queue next : ℕ) (command : Command) (came : Option Done) → group ≡ with_spare p.group group.book.spare → next ≡ p.next →
-    CameToBegin state group new queue next command came → IsBegun state p new queue command came
-begun-at {F} state p new group queue next command came kept next_is h = record {
-  spare = group.book.spare;
-  begun =
-      subst (λ (n : ℕ). CameToBegin state (with_spare p.group group.book.spare) new queue n command came) next_is
-      (subst (λ (s : Seen F). CameToBegin state s new queue next command came) kept h);
-}

@@ -1,5 +1,5 @@
 -- A player as contracts see it, when it may make a step, and what the step comes to.
-use Rattle.std.specs.Prelude.{◌≡◌, ℕ, ◌<◌, ◌≤◌, false, List, Option, Some, None, slice_get, option_map}
+use Rattle.std.specs.Prelude.{◌≡◌, ◌⊎◌, ℕ, ◌<◌, List, Option, Some, None, slice_get, option_map}
 use Rattle.std.specs.Option.{option_flatten}
 use Rattle.fdp_base.specs.declared.command.Command.{Command}
 use Rattle.fdp_base.specs.declared.config.DriveConfig.{DriveConfig}
@@ -12,12 +12,13 @@ use Rattle.fdp_core.specs.declared.answer.Placed.TheVariants as placed
 use Rattle.fdp_book.specs.declared.stage.Stage.{Stage}
 use Rattle.fdp_book.specs.declared.ticket.Done.{Done}
 use Rattle.fdp_book.specs.declared.ticket.Ticket.{Ticket}
-use Rattle.fdp_core.specs.Answers.{Commits, EndsAtOnce, EndsInPlacing, PlacesPage, Starts}
+use Rattle.fdp_core.specs.Answers.{Collects, Commits, EndsAtOnce, EndsInPlacing, MakesRoom, PlacesPage, Starts}
 use Rattle.fdp_book.specs.Book.{state_in}
 use Rattle.fdp_book.specs.Steps.{IsServed}
-use Rattle.fdp_core.specs.Seen.{Seen, failed_in}
+use Rattle.fdp_core.specs.Seen.{Seen}
 use Rattle.fdp_book.specs.Stages.{IsStage}
 use Rattle.fdp_book.specs.Stages.{IsFree}
+use Rattle.fdp_relocation.specs.declared.advance.Advance.{Advance}
 use Rattle.fdp_core_tests.specs.declared.noted.Noted.{Noted}
 
 -- a drive, by queue the write that was started last, and the number of the next command
@@ -41,29 +42,28 @@ pub record IsPlayable (c : DriveConfig) (command : Command) : Type 0 where
   pub served : IsServed command
   pub formed : IsWellFormed c command
 
--- the drive has not failed, and has not made too many steps
-pub record MayMakeSteps {F : Type 0} (group : Seen F) : Type 0 where
-  pub well : (failed_in group.book) ≡ false
-  pub spent : group.book.spent ≤ 1000000
-
--- a command may be begun in a queue under a number, once there is memory
+-- a command may be begun in a queue under a number
 pub record MayPlay {F : Type 0} (group : Seen F) (queue number : ℕ) (command : Command) : Type 0 where
   pub queue_is : IsQueue group.book.config queue
   pub playable : IsPlayable group.book.config command
   pub free : IsFree (state_in group.book) queue number
-  pub steps : MayMakeSteps group
+  pub spare : 0 < group.book.spare
 
 -- a queue may go on with its write, which has this ticket and has come so far
 pub record MayGoOn {F : Type 0} (player : Played F) (queue : ℕ) (stage : Stage) (ticket : Ticket) : Type 0 where
   pub known : ticket_in player.noted queue ≡ Some ticket
   pub stage_is : IsStage player.group.book ticket stage
-  pub well : failed_in player.group.book ≡ false
   pub spare : 0 < player.group.book.spare
 
 -- the ticket with which a queue may go on, or none
 abbrev pub IsTicketFor : {F : Type 0} → Played F → ℕ → Stage → Option Ticket → Type 0
 IsTicketFor player queue stage None = (ticket : Ticket) → MayGoOn player queue stage ticket → ⊥
 IsTicketFor player queue stage (Some ticket) = MayGoOn player queue stage ticket
+
+-- relocation may make a step in a group
+pub record MayCollect {F : Type 0} (group : Seen F) (rg : ℕ) : Type 0 where
+  pub group_is : rg < group.book.config.groups
+  pub spare : 0 < group.book.spare
 
 -- ---- what a step comes to
 
@@ -72,23 +72,23 @@ abbrev pub CameToBegin : {F : Type 0} → (F → FlashState) → Seen F → Play
 CameToBegin state old new queue number command (Some done) = EndsAtOnce state old new.group queue number command done
 CameToBegin state old new queue number command None = (ticket : Ticket) × Starts state old new.group queue number command ticket × (ticket_in new.noted queue ≡ Some ticket)
 
--- a command is begun under the next number, once there is room for so many steps
-pub record IsBegun {F : Type 0} (state : F → FlashState) (old new : Played F) (queue : ℕ) (command : Command) (came : Option Done) : Type 0 where
-  pub spare : ℕ
-  pub begun : CameToBegin state (with_spare old.group spare) new queue old.next command came
-
 -- how the placing of a page completed its command, if it did
 abbrev pub ended : Placed → Option Done
 ended (placed.More ticket) = None
 ended (placed.Ready ticket) = None
 ended (placed.Ended done) = Some done
 
--- a step places a page of a going write, or ends the write
+-- a step places a page of a going write, makes room for it, or ends the write
 abbrev pub CameToPlace : {F : Type 0} → (F → FlashState) → Seen F → Seen F → Ticket → Going → Option Done → Type 0
-CameToPlace state old new ticket g None = PlacesPage state old new ticket g ticket
+CameToPlace state old new ticket g None = PlacesPage state old new ticket g ticket ⊎ MakesRoom state old new ticket g ticket
 CameToPlace state old new ticket g (Some done) = EndsInPlacing state old new ticket g done
 
 -- a step ends a write whose pages are placed
 abbrev pub CameToCommit : {F : Type 0} → (F → FlashState) → Seen F → Seen F → Ticket → Going → Option Done → Type 0
 CameToCommit state old new ticket g None = ⊥
 CameToCommit state old new ticket g (Some done) = Commits state old new ticket g done
+
+-- a step of relocation in a group
+abbrev pub CameToCollect : {F : Type 0} → (F → FlashState) → Seen F → Seen F → ℕ → Option Advance → Type 0
+CameToCollect state old new rg None = ⊥
+CameToCollect state old new rg (Some advance) = Collects state old new rg advance

@@ -3,16 +3,13 @@ ghost use Rattle.std.specs.Prelude.{◌<◌, ◌↔◌, IsTrue};
 ghost use Rattle.fdp_base.specs.CommandKinds.{IsPayloadOf};
 ghost use Rattle.fdp_base.specs.Geometry.{IsWithin};
 ghost use Rattle.fdp_rules.specs.Step.{IsQueue};
-ghost use Rattle.fdp_core_tests.specs.Played.{IsPlayable, MayMakeSteps, MayPlay};
+ghost use Rattle.fdp_core_tests.specs.Played.{IsPlayable, MayPlay};
 
 use fdp_base::{Command, DriveConfig, Payload};
 use fdp_core::Group;
 use fdp_flash::Flash;
 
-/// The most steps that are made before a command begins.
-const MOST_STEPS: u32 = 1_000_000;
-
-/// Whether a command may be begun in a queue under a number, once there is memory.
+/// Whether a command may be begun in a queue under a number.
 pub fn may_play<F: Flash>(group: &Group<F>, queue: u8, number: u16, command: &Command) -> bool
     ensures may { IsTrue result ↔ MayPlay group.now queue number command.now }
     ensures row { IsTrue result → queue < 17 }
@@ -20,14 +17,14 @@ pub fn may_play<F: Flash>(group: &Group<F>, queue: u8, number: u16, command: &Co
     is_queue(group.config(), queue)
         && is_playable(command, group.config())
         && group.is_free(queue, number)
-        && may_make_steps(group)
+        && has_spare(group)
 }
 
-/// Whether a drive has not failed, and may make the steps of all queues.
-fn may_make_steps<F: Flash>(group: &Group<F>) -> bool
-    ensures { IsTrue result ↔ MayMakeSteps group.now }
+/// Whether there is memory for a step.
+pub fn has_spare<F: Flash>(group: &Group<F>) -> bool
+    ensures { IsTrue result ↔ (0 < group.now.book.spare) }
 {
-    !group.failed() && group.spent() <= MOST_STEPS
+    group.spare_steps() > 0
 }
 
 /// Whether a queue is one of the drive.

@@ -8,6 +8,3 @@ mod replaying;
 
 pub use player::Player;
 pub use replaying::replay;
-
-#[cfg(test)]
-mod tests;

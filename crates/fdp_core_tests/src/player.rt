@@ -1,18 +1,17 @@
-ghost use Rattle.std.specs.Prelude.{◌≡◌, ◌<◌, false, None, IfOk, Ok, OnErr};
+ghost use Rattle.std.specs.Prelude.{◌≡◌, ◌<◌, ◌≤◌, None, IfOk, Ok, OnErr, OnOk};
 ghost use Rattle.fdp_rules.specs.PlainState.{Going};
 ghost use Rattle.fdp_book.specs.Book.{state_in};
 ghost use Rattle.fdp_core.specs.Steps.{MayBegin};
 ghost use Rattle.fdp_book.specs.Tickets.{IsTicketOf};
 ghost use Rattle.fdp_book.specs.declared.stage.Stage.TheVariants as stages;
 ghost use Rattle.fdp_book.specs.declared.ticket.Ticket.{Ticket as ATicket};
-ghost use Rattle.fdp_core.specs.Seen.{failed_in};
-ghost use Rattle.fdp_core_tests.specs.Played.{CameToBegin, CameToCommit, CameToPlace, IsBegun, IsTicketFor, MayGoOn, MayPlay, ended, ticket_in, with_spare};
+ghost use Rattle.fdp_core_tests.specs.Played.{CameToBegin, CameToCollect, CameToCommit, CameToPlace, IsTicketFor, MayCollect, MayGoOn, MayPlay, ended, ticket_in, with_spare};
 
-use crate::formed::may_play;
+use crate::formed::{has_spare, may_play};
 use crate::noted::Noted;
 use fdp_base::{Command, Entry};
 use fdp_book::{Done, Room, Stage, Ticket};
-use fdp_core::{Begun, Group, Placed};
+use fdp_core::{Advance, Begun, Group, Placed};
 use fdp_flash::Flash;
 use std::alloc::{AllocError, Global};
 use std::marker::Model;
@@ -20,8 +19,11 @@ use std::marker::Model;
 /// The rows of a player: one for each queue that a drive may have, and row 0, which stays empty.
 const ROWS: usize = 17;
 
-/// A drive, and for each queue the write that it started last. It begins commands and goes on with their writes, and asks the
-/// drive before each step whether it may make it.
+/// The most steps that a player makes, and takes memory for.
+const MOST_STEPS: u32 = 1_000_000_000;
+
+/// A drive, and for each queue the write that it started last. It begins commands and goes on with their writes, relocates between
+/// their steps, and asks the drive before each step whether it may make it.
 #[derive(Drop)]
 pub struct Player<F: Flash> {
     group: Group<F>,
@@ -56,29 +58,42 @@ impl<F: Flash + Drop> Player<F> {
 }
 
 impl<F: Flash> Player<F> {
+    /// Takes the memory for a step, if the drive has not made a billion of them.
+    pub fn reserve(&mut self) -> Result<(), AllocError>
+        ensures ok { OnOk result (self.old.group.book.spent < MOST_STEPS → 1 ≤ self.new.group.book.spare) }
+        ensures kept { self.new ≡ record self.old { group = with_spare self.old.group self.new.group.book.spare } }
+        ensures err { OnErr result (self.new ≡ self.old) }
+    {
+        let _ = &self.next;
+        if self.group.spent() < MOST_STEPS {
+            self.group.reserve(1)
+        } else {
+            Ok(())
+        }
+    }
+
     /// The first step of a command of a queue, under the next number: what it came to if it is completed. A write that the queue
-    /// had before is forgotten. It makes room for the steps that all queues together may still have to make. It does nothing where the drive has failed, the queue is none of it, or the command is not served.
+    /// had before is forgotten. It does nothing where there is no memory for a step, the queue is none of the drive, or the command is not
+    /// served.
     pub fn start(
         &mut self,
         alloc: Global,
         queue: u8,
         command: Command,
     ) -> Result<Option<Done>, AllocError>
-        ensures begun { MayPlay self.old.group queue self.old.next command → IfOk result (λ came. IsBegun F.state self.old self.new queue command came) }
+        ensures begun { MayPlay self.old.group queue self.old.next command → IfOk result (λ came. CameToBegin F.state self.old.group self.new queue self.old.next command came) }
         ensures nothing { (MayPlay self.old.group queue self.old.next command → ⊥) → (result ≡ Ok None) × (self.new ≡ self.old) }
-        ensures err { OnErr result (self.new ≡ record self.old { group = with_spare self.old.group self.new.group.book.spare }) }
+        ensures err { OnErr result (self.new ≡ self.old) }
     {
         if !may_play(&self.group, queue, self.next, &command) {
             return Ok(None);
         }
-        let steps = u32::from(self.group.config().queues) * self.group.most_steps();
-        self.group.reserve(steps)?;
         let room = Room::new(alloc, &command, self.group.config())?;
         Ok(self.begin(queue, command, room))
     }
 
-    /// Places the next page of the write of a queue: what it came to if it ends. It does nothing where no write of the queue waits
-    /// for that, or the drive has failed.
+    /// Places the next page of the write of a queue, or makes room for it: what it came to if it ends the write. It does nothing where no
+    /// write of the queue waits for that, or there is no memory for a step.
     pub fn place(&mut self, queue: u8) -> Option<Done>
         ensures placed { (ticket : ATicket) (g : Going) → MayGoOn self.old queue stages.Waiting ticket → IsTicketOf (state_in self.old.group.book) ticket g → CameToPlace F.state self.old.group self.new.group ticket g result }
         ensures nothing { ((ticket : ATicket) → MayGoOn self.old queue stages.Waiting ticket → ⊥) → (result ≡ None) × (self.new ≡ self.old) }
@@ -91,7 +106,7 @@ impl<F: Flash> Player<F> {
     }
 
     /// Commits the write of a queue, whose pages are placed, and says what it came to. It does nothing where no write of the queue
-    /// is ready for that, or the drive has failed.
+    /// is ready for that, or there is no memory for a step.
     pub fn commit(&mut self, queue: u8) -> Option<Done>
         ensures committed { (ticket : ATicket) (g : Going) → MayGoOn self.old queue stages.Ready ticket → IsTicketOf (state_in self.old.group.book) ticket g → CameToCommit F.state self.old.group self.new.group ticket g result }
         ensures nothing { ((ticket : ATicket) → MayGoOn self.old queue stages.Ready ticket → ⊥) → (result ≡ None) × (self.new ≡ self.old) }
@@ -100,6 +115,20 @@ impl<F: Flash> Player<F> {
         match self.ticket_at(queue, Stage::Ready) {
             Some(ticket) => Some(self.group.commit(ticket)),
             None => None,
+        }
+    }
+
+    /// The next step of relocation in a group. It does nothing where the drive has no such group, or there is no memory for a step.
+    pub fn collect(&mut self, rg: u16) -> Option<Advance>
+        ensures collected { MayCollect self.old.group rg → CameToCollect F.state self.old.group self.new.group rg result }
+        ensures nothing { (MayCollect self.old.group rg → ⊥) → (result ≡ None) × (self.new ≡ self.old) }
+        ensures noted { self.new.noted ≡ self.old.noted }
+    {
+        let _ = &self.next;
+        if rg < self.group.config().groups && has_spare(&self.group) {
+            Some(self.group.collect(rg))
+        } else {
+            None
         }
     }
 
@@ -129,7 +158,6 @@ impl<F: Flash> Player<F> {
         requires may { MayBegin self.old.group queue self.old.next command room }
         requires row { queue < 17 }
         requires spare { 0 < self.old.group.book.spare }
-        requires sound { failed_in self.old.group.book ≡ false }
         ensures { CameToBegin F.state self.old.group self.new queue self.old.next command result }
     {
         let number = self.next;
@@ -147,7 +175,7 @@ impl<F: Flash> Player<F> {
     fn ticket_at(&self, queue: u8, stage: Stage) -> Option<Ticket>
         ensures { IsTicketFor self.now queue stage result }
     {
-        if self.group.failed() || self.group.spare_steps() == 0 {
+        if !has_spare(&self.group) {
             return None;
         }
         let ticket = self.known(queue)?;

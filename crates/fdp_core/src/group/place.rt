@@ -1,36 +1,50 @@
-ghost use Rattle.std.specs.Prelude.{◌≡◌, ◌<◌, false};
-ghost use Rattle.fdp_rules.specs.PlainState.{Going};
+ghost use Rattle.std.specs.Prelude.{◌<◌};
 ghost use Rattle.fdp_book.specs.Book.{state_in};
 ghost use Rattle.fdp_book.specs.Steps.{IsWaiting};
-ghost use Rattle.fdp_book.specs.Tickets.{ComesTo, IsTicketOf};
+ghost use Rattle.fdp_book.specs.Tickets.{ComesTo, IsTicketOf, WantsUnit};
 ghost use Rattle.fdp_core.specs.Answers.{Places};
-ghost use Rattle.fdp_core.specs.Seen.{failed_in};
+ghost use Rattle.fdp_rules.specs.PlainState.{Going};
 
 use super::Group;
+use super::pass::PassEnd;
 use crate::answer::Placed;
-use crate::media::{MediaError, program};
 use fdp_base::{Spot, Status};
 use fdp_book::{NextPage, Ticket};
+use fdp_calls::{MediaError, program};
 use fdp_flash::Flash;
 
 impl<F: Flash> Group<F> {
-    /// Programs the next page of a going write. A flash failure shuts the handle and ends the write with Write Fault.
+    /// Programs the next page of a going write; where that wants a unit it makes a relocation pass in its group instead, or ends the one
+    /// under way. A flash failure ends the write with Write Fault. A pass copies each page of a unit at most once; all else takes a constant
+    /// time.
     pub fn place(&mut self, ticket: Ticket) -> Placed
         requires ticket { IsWaiting self.old.book ticket }
         requires spare { 0 < self.old.book.spare }
-        requires sound { failed_in self.old.book ≡ false }
         ensures { (g : Going) → IsTicketOf (state_in self.old.book) ticket g → Places F.state self.old self.new ticket g result }
     {
         match self.book.next_page(&ticket) {
-            NextPage::Gone => {
-                let moment = self.flash.moment();
-                Placed::Ended(self.book.end(ticket, Status::INVALID_NAMESPACE, moment))
-            }
-            NextPage::WantsUnit => {
-                let moment = self.flash.moment();
-                Placed::Ended(self.book.end(ticket, Status::CAPACITY_EXCEEDED, moment))
-            }
+            NextPage::Gone => Placed::Ended(self.end_alone(ticket, Status::INVALID_NAMESPACE)),
+            NextPage::WantsUnit => self.make_room(ticket),
             NextPage::At { spot, index, spare } => self.place_at(ticket, spot, index, &spare),
+        }
+    }
+
+    /// Makes a relocation pass in the group of a write that wants a unit there.
+    fn make_room(&mut self, ticket: Ticket) -> Placed
+        requires ticket { IsWaiting self.old.book ticket }
+        requires wants { (g : Going) → IsTicketOf (state_in self.old.book) ticket g → WantsUnit self.old.book g }
+        requires spare { 0 < self.old.book.spare }
+        ensures { (g : Going) → IsTicketOf (state_in self.old.book) ticket g → Places F.state self.old self.new ticket g result }
+    {
+        self.book.known();
+        let rg = self.book.group(&ticket);
+        self.book.crowded(rg);
+        self.book.begin();
+        match self.make_pass(rg) {
+            PassEnd::Made => Placed::More(ticket),
+            PassEnd::Nothing => Placed::Ended(self.end(ticket, Status::CAPACITY_EXCEEDED)),
+            PassEnd::Starved => Placed::Ended(self.end(ticket, Status::CAPACITY_EXCEEDED)),
+            PassEnd::Fault => Placed::Ended(self.end(ticket, Status::WRITE_FAULT)),
         }
     }
 
@@ -39,29 +53,35 @@ impl<F: Flash> Group<F> {
         requires ticket { IsWaiting self.old.book ticket }
         requires next { (g : Going) → IsTicketOf (state_in self.old.book) ticket g → ComesTo self.old.book ticket g (NextPage.At spot index spare.now) }
         requires spare { 0 < self.old.book.spare }
-        requires sound { failed_in self.old.book ≡ false }
         ensures { (g : Going) → IsTicketOf (state_in self.old.book) ticket g → Places F.state self.old self.new ticket g result }
     {
+        self.book.known();
         let payload = self.book.payload(&ticket);
-        match program(
+        let programmed = program(
             &mut self.flash,
             spot,
             spare,
             payload,
             index,
             &mut self.block,
-        ) {
+        );
+        self.book.begin();
+        match programmed {
             Ok(()) => {
-                if self.book.place(&ticket, spot) {
+                let last = self.book.place(&ticket, spot);
+                self.book.known();
+                if last {
                     Placed::Ready(ticket)
                 } else {
                     Placed::More(ticket)
                 }
             }
             Err(MediaError) => {
-                self.failed = true;
                 let moment = self.flash.moment();
-                Placed::Ended(self.book.end_shut(ticket, Status::WRITE_FAULT, moment))
+                let status = Status::WRITE_FAULT;
+                let done = self.book.end_shut(ticket, spot, status, moment);
+                self.book.known();
+                Placed::Ended(done)
             }
         }
     }

@@ -1,24 +1,23 @@
 ghost use Rattle.std.specs.Prelude.{◌≡◌, ◌+◌, ◌*◌, ◌^◌, ◌<◌, ◌≤◌, false, true, IsTrue, None, OnErr, OnOk, length, replicate};
 ghost use Rattle.fdp_base.specs.declared.command.Command.TheVariants as commands;
-ghost use Rattle.fdp_rules.specs.Answer.{read_block};
 ghost use Rattle.fdp_base.specs.CommandKinds.{IsWellFormed};
 ghost use Rattle.fdp_base.specs.Placement.{geometry_of};
+ghost use Rattle.fdp_book.specs.Book.{point_in, state_in};
+ghost use Rattle.fdp_book.specs.Room.{room_for};
+ghost use Rattle.fdp_calls.specs.Calls.{MakesCalls};
+ghost use Rattle.fdp_calls.specs.Media.{IsReadFrom};
+ghost use Rattle.fdp_core.specs.Answers.{EndsAtOnce};
+ghost use Rattle.fdp_core.specs.Fetches.{FailsToFetch, MakesFetches, fetches_of, pages_of};
+ghost use Rattle.fdp_core.specs.ReadSteps.{ReadsAll, blocks_from};
+ghost use Rattle.fdp_core.specs.Seen.{HoldsHistory};
+ghost use Rattle.fdp_rules.specs.Answer.{read_block};
 ghost use Rattle.fdp_rules.specs.Refusal.{refusal_of};
 ghost use Rattle.fdp_rules.specs.Step.{IsQueue};
-ghost use Rattle.fdp_core.specs.Answers.{EndsAtOnce};
-ghost use Rattle.fdp_book.specs.Book.{point_in, state_in};
-ghost use Rattle.fdp_core.specs.Calls.{MakesCalls};
-ghost use Rattle.fdp_core.specs.Fetches.{FailsToFetch, MakesFetches, fetches_of, pages_of};
-ghost use Rattle.fdp_core.specs.Media.{IsReadFrom};
-ghost use Rattle.fdp_book.specs.Pages.{cells_of};
-ghost use Rattle.fdp_core.specs.ReadSteps.{Reads, blocks_from};
-ghost use Rattle.fdp_book.specs.Room.{room_for};
-ghost use Rattle.fdp_core.specs.Seen.{failed_in};
 
 use super::Group;
-use crate::media::{MediaError, fetch};
 use fdp_base::{Command, Read, Status};
 use fdp_book::{Book, Done, Replies, Room};
+use fdp_calls::{MediaError, fetch};
 use fdp_flash::Flash;
 
 impl<F: Flash> Group<F> {
@@ -38,33 +37,33 @@ impl<F: Flash> Group<F> {
         requires range { read.slba + read.count < 2 ^ 64 }
         requires room { room ≡ room_for command self.old.book.config }
         requires spare { 0 < self.old.book.spare }
-        requires sound { failed_in self.old.book ≡ false }
         ensures { EndsAtOnce F.state self.old self.new queue number command result }
     {
-        let (replies, failed) = read_replies(&mut self.flash, &self.book, read, room);
-        self.failed = failed;
+        self.book.known();
+        let replies = read_replies(&mut self.flash, &self.book, read, room);
         let moment = self.flash.moment();
-        self.book.complete(queue, number, command, replies, moment)
+        self.book.begin();
+        let done = self.book.complete(queue, number, command, replies, moment);
+        self.book.known();
+        done
     }
 }
 
-/// Reads blocks for both replies, and says whether that failed.
-fn read_replies<F: Flash>(flash: &mut F, book: &Book, read: Read, room: Room) -> (Replies, bool)
+/// Reads blocks for both replies.
+fn read_replies<F: Flash>(flash: &mut F, book: &Book, read: Read, room: Room) -> Replies
     requires geometry { (F.state flash.old).geometry ≡ geometry_of book.now.config }
-    requires cells { IsTrue (F.state flash.old).told → (F.state flash.old).cells ≡ cells_of book.now.config book.now.found book.now.entries }
+    requires stored { HoldsHistory (F.state flash.old) book.now }
     requires room { room ≡ room_for (commands.Read read) book.now.config }
     requires few { read.count ≤ book.now.config.blocks_per_command }
     requires range { read.slba + read.count < 2 ^ 64 }
-    ensures read { IsReadFrom (F.state flash.old) (F.state flash.new) }
-    ensures replies { Reads (F.state flash.old) book.now read result.0 result.1 }
-    ensures fetches { MakesFetches (F.state flash.old) (F.state flash.new) book.now read result.1 }
+    ensures { ReadsAll (F.state flash.old) (F.state flash.new) book.now read result }
 {
     let (mut history, answer) = room.into_buffers();
     match read_blocks(flash, book, read, &mut history) {
-        Ok(()) => (Replies::of_read(history, answer), false),
+        Ok(()) => Replies::of_read(history, answer),
         Err(MediaError) => {
             let status = Status::UNRECOVERED_READ_ERROR;
-            (Replies::empty(history, answer, status, false), true)
+            Replies::empty(history, answer, status, false)
         }
     }
 }
@@ -77,7 +76,7 @@ fn read_blocks<F: Flash>(
     into: &mut [u8],
 ) -> Result<(), MediaError>
     requires geometry { (F.state flash.old).geometry ≡ geometry_of book.now.config }
-    requires cells { IsTrue (F.state flash.old).told → (F.state flash.old).cells ≡ cells_of book.now.config book.now.found book.now.entries }
+    requires stored { HoldsHistory (F.state flash.old) book.now }
     requires zeros { into.old ≡ replicate (read.count * book.now.config.block) 0 }
     requires range { read.slba + read.count < 2 ^ 64 }
     ensures read { IsReadFrom (F.state flash.old) (F.state flash.new) }
@@ -104,7 +103,7 @@ fn read_block<F: Flash>(
     into: &mut [u8],
 ) -> Result<(), MediaError>
     requires geometry { (F.state flash.old).geometry ≡ geometry_of book.now.config }
-    requires cells { IsTrue (F.state flash.old).told → (F.state flash.old).cells ≡ cells_of book.now.config book.now.found book.now.entries }
+    requires stored { HoldsHistory (F.state flash.old) book.now }
     requires zeros { into.old ≡ replicate book.now.config.block 0 }
     ensures read { IsReadFrom (F.state flash.old) (F.state flash.new) }
     ensures size { length into.new ≡ length into.old }

@@ -1,7 +1,6 @@
-ghost use Rattle.std.specs.Prelude.{◌≡◌, ◌<◌, false};
+ghost use Rattle.std.specs.Prelude.{◌<◌};
 ghost use Rattle.fdp_core.specs.Answers.{Begins};
 ghost use Rattle.fdp_core.specs.Steps.{MayBegin};
-ghost use Rattle.fdp_core.specs.Seen.{failed_in};
 
 use super::Group;
 use crate::answer::Begun;
@@ -15,18 +14,24 @@ impl<F: Flash> Group<F> {
     pub fn start(&mut self, queue: u8, number: u16, command: Command, room: Room) -> Begun
         requires may { MayBegin self.old queue number command room }
         requires spare { 0 < self.old.book.spare }
-        requires sound { failed_in self.old.book ≡ false }
         ensures { Begins F.state self.old self.new queue number command result }
     {
+        self.book.known();
         match self.book.first_step(&command) {
             FirstStep::Refused(status) => {
                 let (_, replies) = room.end(status, false);
                 let moment = self.flash.moment();
-                Begun::Ended(self.book.complete(queue, number, command, replies, moment))
+                self.book.begin();
+                let done = self.book.complete(queue, number, command, replies, moment);
+                self.book.known();
+                Begun::Ended(done)
             }
             FirstStep::Read(read) => Begun::Ended(self.read(queue, number, command, read, room)),
             FirstStep::Write(admission) => {
-                Begun::Going(self.book.start(queue, number, command, admission, room))
+                self.book.begin();
+                let ticket = self.book.start(queue, number, command, admission, room);
+                self.book.known();
+                Begun::Going(ticket)
             }
         }
     }

@@ -4,7 +4,7 @@ use borrow.Rule.Slice.PartMut.{put_mid}
 use Rattle.fdp_base.specs.declared.config.DriveConfig.{DriveConfig}
 use Rattle.fdp_rules.specs.Answer.{read_block}
 use Rattle.fdp_book.specs.Book.{state_in}
-use Rattle.fdp_core.specs.Calls.{MakesCalls}
+use Rattle.fdp_calls.specs.Calls.{MakesCalls}
 use Rattle.fdp_core.specs.Fetches.{FailsToFetch, fetches_of, pages_of}
 use Rattle.fdp_core.specs.ReadSteps.{blocks_from}
 use Rattle.fdp_core.proofs.Reading.{IsFilled, all-left, at-error, blocks_from-more, blocks_from-none, fetches-cut, fetches-more, fetches-none, filled-next, none-filled, read-joined, read-none, zeros-as}

@@ -1,7 +1,7 @@
 use Rattle.std.proofs.Common.{◌≡◌, ◌-◌, ◌*◌, IsTrue, length, take, drop, replicate}
-use Rattle.fdp_core.specs.Calls.{MakesCalls}
+use Rattle.fdp_calls.specs.Calls.{MakesCalls}
 use Rattle.fdp_core.specs.Fetches.{fetches_of, pages_of}
-use Rattle.fdp_core.specs.Media.{IsReadFrom}
+use Rattle.fdp_calls.specs.Media.{IsReadFrom}
 use Rattle.fdp_core.specs.ReadSteps.{blocks_from}
 use Rattle.fdp_core.proofs.group.read.read_blocks.Given as goal
 

@@ -1,0 +1,364 @@
+-- A pass that is made step by step until its end.
+use Rattle.std.proofs.Common.{◌≡◌, ℕ, ◌+◌, ◌≤◌, ◌<◌, ◌⊎◌, Bool, true, false, ◌||◌, List, [], ◌∷◌, ◌++◌, Option, Some, None, refl, sym, ◌∙◌, ap, subst, arith, inl, inr, append_assoc}
+use Rattle.std.specs.Prelude.{IsTrue, is_some, if◌then◌else◌}
+use Rattle.std.specs.List.{list_any}
+use Rattle.std.specs.Option.{option_map_or}
+use Rattle.std.proofs.lemmas.Bool.{false≢true}
+use Rattle.std.proofs.lemmas.List.Folds.{list_any-append}
+use Rattle.fdp_base.specs.declared.config.DriveConfig.{DriveConfig}
+use Rattle.fdp_base.specs.declared.entry.Entry.{Entry}
+use Rattle.fdp_base.specs.declared.entry.Entry.TheVariants as entries
+use Rattle.fdp_book.specs.Book.{BookSeen, state_in}
+use Rattle.fdp_calls.specs.Calls.{erase_at, fetch_at, has_failed, program_at}
+use Rattle.fdp_collector.specs.declared.step.Lost.TheVariants as lost
+use Rattle.fdp_base.specs.Config.{IsValidConfig}
+use Rattle.fdp_core.specs.declared.group.pass.PassEnd.{PassEnd}
+use Rattle.fdp_core.specs.declared.group.pass.PassEnd.TheVariants as ends
+use Rattle.fdp_collector.specs.declared.step.Step.TheVariants as steps
+use Rattle.fdp_core.proofs.Relocated.{one-at-most}
+use Rattle.fdp_core.specs.Passes.{EndsPass, EndsRest, FailsInPass, FailsLast, MakesNone, MakesPass, MakesRest, MayBeginPass, MayEndPass, Relocates, Starves, left_in}
+use Rattle.fdp_isolation.specs.Laned.{IsKnown}
+use Rattle.fdp_core.specs.Seen.{Seen, Stands}
+use Rattle.fdp_core.proofs.Passing.{calls_made, entries_made, erases-none, worn-made, relocates-joined, relocates-made, relocates-none}
+use Rattle.fdp_flash.specs.declared.cell.Cell.{Cell}
+use Rattle.fdp_flash.specs.FlashState.{Call, FlashState}
+use Rattle.fdp_flash.specs.Runs.{Runs}
+use Rattle.fdp_ledger.specs.Ledger.{IsLedger}
+use Rattle.fdp_ledger.proofs.Blank.{ErasesNoUnit}
+use Rattle.fdp_locations.proofs.Ending.{rests-same}
+use Rattle.fdp_locations.proofs.Others.{is-group}
+use Rattle.fdp_pages.specs.PageTables.{copies_at, passes_at}
+use Rattle.fdp_passes.specs.declared.due.Due.TheVariants as due
+use Rattle.fdp_passes.specs.Due.{IsDue, copies_in}
+use Rattle.fdp_passes.specs.GroupPasses.{GroupPasses, Pass}
+use Rattle.fdp_relocation.specs.declared.advance.Advance.{Advance}
+use Rattle.fdp_relocation.specs.declared.advance.Advance.TheVariants as advance
+use Rattle.fdp_relocation.specs.Collected.{Collects}
+use Rattle.fdp_relocation.specs.Toil.{wanted_at, work}
+use Rattle.fdp_relocation.proofs.Toil.Steps.{CopiesOn, MovesOn, copies-on, erases-on, moves-on, wanted-few}
+use Rattle.fdp_units.specs.DataUnits.{is_free}
+use Rattle.fdp_units.specs.UnitTable.{Cut, HasNoVictim, IsGroup, count_in, toil_of}
+
+-- ---- what is known
+
+group-of : (b : BookSeen) (rg : ℕ) → IsKnown b → rg < b.config.groups → IsGroup b.pages.units rg
+group-of b rg known low = is-group b.config (state_in b) b.pages rg known.units low
+
+pages-of : (b : BookSeen) → IsKnown b → b.pages.units.unit_pages ≡ b.config.unit_pages
+pages-of b known = ap (λ (x : Cut). x.unit_pages) known.units.cut
+
+-- a pass under way has copies to move only where it may move them
+copies-there : (p : GroupPasses) (pass : Pass) → p.pass ≡ Some pass → copies_in p ≡ pass.copies
+copies-there p pass e = ap (λ (o : Option Pass). option_map_or (λ (x : Pass). x.copies) o []) e
+
+pub may-move : (b : BookSeen) (rg : ℕ) → MayEndPass b rg → IsDue (passes_at b.pages rg) b.pages.units b.pages.owners rg due.Move → IsTrue b.may_move
+may-move b rg may (pass, is, some, none) = of-moves may.moves
+  where
+    of-moves : (b.may_move ≡ true) ⊎ ((copies_at b.pages rg ≡ []) × (wanted_at b.pages rg ≡ 0)) → IsTrue b.may_move
+    of-moves (inl able) = able
+    of-moves (inr (bare, _)) = absurd (some (sym (copies-there (passes_at b.pages rg) pass is) ∙ bare))
+
+-- ---- a pass goes on
+
+-- the pass of a group is under way since a moment before: these entries were added, no call failed, and what it has to do did not grow
+pub record IsPassing {F : Type 0} (state : F → FlashState) (start now : Seen F) (rg : ℕ) : Type 0 where
+  pub es : List Entry
+  pub calls : List Call
+  pub relocates : Relocates state start now rg es calls
+  pub erases : ErasesNoUnit es
+  pub well : list_any has_failed calls ≡ false
+  pub may : MayEndPass now.book rg
+  pub done : work now.book.pages rg ≤ work start.book.pages rg
+
+pub passing-first : {F : Type 0} (state : F → FlashState) (s : Seen F) (rg : ℕ) → MayEndPass s.book rg → IsPassing state s s rg
+passing-first state s rg may = record { es = []; calls = []; relocates = relocates-none state s rg; erases = λ unit. refl; well = refl; may = may; done = omega arith }
+
+well-joined : (xs ys : List Call) → list_any has_failed xs ≡ false → list_any has_failed ys ≡ false → list_any has_failed (xs ++ ys) ≡ false
+well-joined xs ys p q = list_any-append has_failed xs ys ∙ ap (λ (k : Bool). k || list_any has_failed ys) p ∙ q
+
+-- ---- what a step leaves of what a pass may do
+
+-- one copy more
+copy-may : (b d : BookSeen) (rg : ℕ) → b.pages.units.unit_pages ≡ b.config.unit_pages → MayEndPass b rg → CopiesOn b.pages d.pages rg → d.config ≡ b.config → d.room + 1 ≡ b.room → d.may_move ≡ b.may_move → MayEndPass d rg
+copy-may b d rg pages may on config room move = record {
+  group = subst (λ (c : DriveConfig). rg < c.groups) (sym config) may.group;
+  under_way = on.under_way;
+  room =
+      let here : ◌≡◌ {A = ℕ} (if d.may_move then 1 else 0) (if b.may_move then 1 else 0) = ap (λ (k : Bool). if k then 1 else 0) move in
+      let size : d.config.unit_pages ≡ b.config.unit_pages = ap (λ (c : DriveConfig). c.unit_pages) config in
+      let was = may.room in
+      let next = on.next in
+      let within = on.within in
+      omega (arith, here, size, was, next, within, pages, room);
+  moves = of-moves may.moves;
+}
+  where
+    of-moves : (b.may_move ≡ true) ⊎ ((copies_at b.pages rg ≡ []) × (wanted_at b.pages rg ≡ 0)) → (d.may_move ≡ true) ⊎ ((copies_at d.pages rg ≡ []) × (wanted_at d.pages rg ≡ 0))
+    of-moves (inl able) = inl (move ∙ able)
+    of-moves (inr (bare, none)) = let some = on.wanted may.under_way in absurd (omega (arith, some, none))
+
+-- the copies were moved
+move-may : (b d : BookSeen) (rg : ℕ) → MayEndPass b rg → b.may_move ≡ true → MovesOn b.pages d.pages rg → d.config ≡ b.config → d.room + 1 ≡ b.room → d.may_move ≡ false → MayEndPass d rg
+move-may b d rg may able on config room move = record {
+  group = subst (λ (c : DriveConfig). rg < c.groups) (sym config) may.group;
+  under_way = on.under_way;
+  room =
+      let now : ◌≡◌ {A = ℕ} (if d.may_move then 1 else 0) 0 = ap (λ (k : Bool). if k then 1 else 0) move in
+      let was : ◌≡◌ {A = ℕ} (if b.may_move then 1 else 0) 1 = ap (λ (k : Bool). if k then 1 else 0) able in
+      let size : d.config.unit_pages ≡ b.config.unit_pages = ap (λ (c : DriveConfig). c.unit_pages) config in
+      let left = may.room in
+      let next = on.next in
+      omega (arith, now, was, size, left, next, room);
+  moves = inr (on.copies, on.wanted);
+}
+
+copy-less : (b d : BookSeen) (rg : ℕ) → b.pages.units.unit_pages ≡ b.config.unit_pages → CopiesOn b.pages d.pages rg → d.config ≡ b.config → d.may_move ≡ b.may_move → left_in d rg < left_in b rg
+copy-less b d rg pages on config move =
+    let here : ◌≡◌ {A = ℕ} (if d.may_move then 1 else 0) (if b.may_move then 1 else 0) = ap (λ (k : Bool). if k then 1 else 0) move in
+    let size : d.config.unit_pages ≡ b.config.unit_pages = ap (λ (c : DriveConfig). c.unit_pages) config in
+    let next = on.next in
+    let within = on.within in
+    omega (arith, here, size, next, within, pages)
+
+move-less : (b d : BookSeen) (rg : ℕ) → b.may_move ≡ true → MovesOn b.pages d.pages rg → d.config ≡ b.config → d.may_move ≡ false → left_in d rg < left_in b rg
+move-less b d rg able on config move =
+    let now : ◌≡◌ {A = ℕ} (if d.may_move then 1 else 0) 0 = ap (λ (k : Bool). if k then 1 else 0) move in
+    let was : ◌≡◌ {A = ℕ} (if b.may_move then 1 else 0) 1 = ap (λ (k : Bool). if k then 1 else 0) able in
+    let size : d.config.unit_pages ≡ b.config.unit_pages = ap (λ (c : DriveConfig). c.unit_pages) config in
+    let next = on.next in
+    omega (arith, now, was, size, next)
+
+-- ---- calls of which the last failed
+
+pub fails-made : (b d : BookSeen) (f n : FlashState) (rg : ℕ) (h : Collects b d f n rg advance.Fault) → FailsLast (calls_made b d f n rg advance.Fault h)
+unfolding calls_made
+fails-made b d f n rg (lost.None, h) = record { before = fetch_at h.is.from false ∷ []; last = program_at h.is.to true; calls_are = refl; well = refl; failed = refl }
+fails-made b d f n rg (lost.Aside unit, h) = record { before = []; last = fetch_at h.is.from true; calls_are = refl; well = refl; failed = refl }
+fails-made b d f n rg (lost.Retired unit, h) = record { before = []; last = erase_at unit true; calls_are = refl; well = refl; failed = refl }
+
+fails-behind : (xs : List Call) → list_any has_failed xs ≡ false → (ys : List Call) → FailsLast ys → FailsLast (xs ++ ys)
+fails-behind xs well ys h = record {
+  before = xs ++ h.before;
+  last = h.last;
+  calls_are = ap (λ (zs : List Call). xs ++ zs) h.calls_are ∙ sym (append_assoc xs h.before (h.last ∷ []));
+  well = well-joined xs h.before well h.well;
+  failed = h.failed;
+}
+
+-- ---- steps of the loop
+
+module _ {F : Type 0} (state : F → FlashState) (start now after : Seen F) (rg : ℕ) (Image : ℕ → List Cell → Type 0) (run : Runs (state now.flash) (state after.flash) Image) (stands : Stands (state now.flash) now.book) (known : IsKnown after.book) (handed : after.handed ≡ now.handed) (p : IsPassing state start now rg) where
+  was : IsKnown now.book
+  was = stands.known
+
+  group : IsGroup now.book.pages.units rg
+  group = group-of now.book rg was p.may.group
+
+  made : (x : Advance) (h : Collects now.book after.book (state now.flash) (state after.flash) rg x) → Relocates state now after rg (entries_made now.book after.book (state now.flash) (state after.flash) rg x h) (calls_made now.book after.book (state now.flash) (state after.flash) rg x h)
+  made x h = relocates-made state now after rg Image x run stands p.may.group group handed h
+
+  pub passing-copied : Collects now.book after.book (state now.flash) (state after.flash) rg advance.Copied → IsPassing state start after rg
+  unfolding calls_made entries_made
+  passing-copied h =
+      let on = copies-on now.book after.book (state now.flash) (state after.flash) rg true h.0 was.joined group h.1 in
+      let same = on.same p.may.under_way in
+      let before = p.done in
+      record {
+        es = p.es ++ (entries.Copied h.0 ∷ []);
+        calls = p.calls ++ calls_made now.book after.book (state now.flash) (state after.flash) rg advance.Copied h;
+        relocates = relocates-joined state start now after rg p.es _ p.calls _ p.erases p.relocates (made advance.Copied h);
+        erases = erases-none p.es _ p.erases (λ unit. refl);
+        well = well-joined p.calls _ p.well refl;
+        may = copy-may now.book after.book rg (pages-of now.book was) p.may on h.1.longer.config_is h.1.longer.room_is h.1.move_is;
+        done = omega (arith, same, before);
+      }
+
+  pub passing-moved : Collects now.book after.book (state now.flash) (state after.flash) rg advance.Moved → IsPassing state start after rg
+  unfolding calls_made entries_made
+  passing-moved h =
+      let on = moves-on now.book after.book rg was.led was.joined known.joined p.may.group group h.due h.moved in
+      let same = on.same in
+      let before = p.done in
+      record {
+        es = p.es ++ entries_made now.book after.book (state now.flash) (state after.flash) rg advance.Moved h;
+        calls = p.calls ++ [];
+        relocates = relocates-joined state start now after rg p.es _ p.calls [] p.erases p.relocates (made advance.Moved h);
+        erases = erases-none p.es _ p.erases (λ unit. refl);
+        well = well-joined p.calls [] p.well refl;
+        may = move-may now.book after.book rg p.may (may-move now.book rg p.may h.due) on h.moved.longer.config_is h.moved.longer.room_is h.moved.move_is;
+        done = omega (arith, same, before);
+      }
+
+  pub copied-less : Collects now.book after.book (state now.flash) (state after.flash) rg advance.Copied → left_in after.book rg < left_in now.book rg
+  copied-less h = copy-less now.book after.book rg (pages-of now.book was) (copies-on now.book after.book (state now.flash) (state after.flash) rg true h.0 was.joined group h.1) h.1.longer.config_is h.1.move_is
+
+  pub moved-less : Collects now.book after.book (state now.flash) (state after.flash) rg advance.Moved → left_in after.book rg < left_in now.book rg
+  moved-less h = move-less now.book after.book rg (may-move now.book rg p.may h.due) (moves-on now.book after.book rg was.led was.joined known.joined p.may.group group h.due h.moved) h.moved.longer.config_is h.moved.move_is
+
+  pub rest-made : Collects now.book after.book (state now.flash) (state after.flash) rg advance.Erased → MakesRest state start after rg
+  unfolding calls_made entries_made
+  rest-made h =
+      let on = erases-on now.book after.book (state now.flash) (state after.flash) rg true h.0 was.joined group h.1 in
+      let lower = on.toil in
+      let before = p.done in
+      let size : now.book.pages.units.unit_pages ≡ start.book.config.unit_pages = pages-of now.book was ∙ ap (λ (c : DriveConfig). c.unit_pages) p.relocates.extends.book.config_is in
+      record {
+        before = p.es;
+        unit = h.0;
+        calls = p.calls ++ calls_made now.book after.book (state now.flash) (state after.flash) rg advance.Erased h;
+        relocates = relocates-joined state start now after rg p.es _ p.calls _ p.erases p.relocates (made advance.Erased h);
+        well = well-joined p.calls _ p.well refl;
+        toil = omega (arith, lower, before, size);
+      }
+
+  pub rest-starved : IsLedger after.handed after.book (state after.flash) → Collects now.book after.book (state now.flash) (state after.flash) rg advance.Starved → Starves state start after rg
+  unfolding calls_made entries_made
+  rest-starved ledger h = record {
+    before = p.es;
+    calls = p.calls ++ [];
+    relocates = relocates-joined state start now after rg p.es _ p.calls [] p.erases p.relocates (made advance.Starved h);
+    well = well-joined p.calls [] p.well refl;
+    worn = worn-made after.handed now.book after.book (state now.flash) (state after.flash) rg Image run stands p.may.group known ledger h;
+    room = let left = p.may.room in omega (arith, left, h.longer.room_is);
+  }
+
+  pub rest-failed : Collects now.book after.book (state now.flash) (state after.flash) rg advance.Fault → FailsInPass state start after rg
+  rest-failed h = record {
+    es = p.es ++ entries_made now.book after.book (state now.flash) (state after.flash) rg advance.Fault h;
+    calls = p.calls ++ calls_made now.book after.book (state now.flash) (state after.flash) rg advance.Fault h;
+    relocates = relocates-joined state start now after rg p.es _ p.calls _ p.erases p.relocates (made advance.Fault h);
+    fails = fails-behind p.calls p.well _ (fails-made now.book after.book (state now.flash) (state after.flash) rg h);
+    room = let left = p.may.room in omega (arith, left, h.1.longer.room_is, one-at-most rg (steps.Fault h.0));
+  }
+
+  -- a pass that is under way has a step that is due
+  pub never-nothing : Collects now.book after.book (state now.flash) (state after.flash) rg advance.Nothing → ⊥
+  never-nothing h = false≢true (sym (ap is_some h.is.0.0) ∙ p.may.under_way)
+
+-- ---- the first step of a pass
+
+-- a unit has 256 pages at most
+few-pages : (c : DriveConfig) → IsValidConfig c → c.unit_pages ≤ 256
+few-pages c valid = valid.ranges.unit_pages.1
+
+module _ {F : Type 0} (state : F → FlashState) (old mid : Seen F) (rg : ℕ) (Image : ℕ → List Cell → Type 0) (run : Runs (state old.flash) (state mid.flash) Image) (stands : Stands (state old.flash) old.book) (known : IsKnown mid.book) (handed : mid.handed ≡ old.handed) (may : MayBeginPass old.book rg) where
+  begins : IsGroup old.book.pages.units rg
+  begins = group-of old.book rg stands.known may.group
+
+  step : (x : Advance) (h : Collects old.book mid.book (state old.flash) (state mid.flash) rg x) → Relocates state old mid rg (entries_made old.book mid.book (state old.flash) (state mid.flash) rg x h) (calls_made old.book mid.book (state old.flash) (state mid.flash) rg x h)
+  step x h = relocates-made state old mid rg Image x run stands may.group begins handed h
+
+  -- the pass that began with a copy may be ended, and has less to do than a whole unit has pages
+  pub copied-may : Collects old.book mid.book (state old.flash) (state mid.flash) rg advance.Copied → MayEndPass mid.book rg
+  copied-may h =
+      let on = copies-on old.book mid.book (state old.flash) (state mid.flash) rg true h.0 stands.known.joined begins h.1 in
+      let size : mid.book.config.unit_pages ≡ old.book.config.unit_pages = ap (λ (c : DriveConfig). c.unit_pages) h.1.longer.config_is in
+      let bit : ◌≡◌ {A = ℕ} (if mid.book.may_move then 1 else 0) 1 = ap (λ (k : Bool). if k then 1 else 0) (h.1.move_is ∙ may.may_move) in
+      let next = on.next in
+      record {
+        group = subst (λ (c : DriveConfig). rg < c.groups) (sym h.1.longer.config_is) may.group;
+        under_way = on.under_way;
+        room = omega (arith, size, bit, next, few-pages old.book.config stands.known.config, h.1.longer.room_is, may.room);
+        moves = inl (h.1.move_is ∙ may.may_move);
+      }
+
+  pub copied-work : Collects old.book mid.book (state old.flash) (state mid.flash) rg advance.Copied → work mid.book.pages rg < toil_of old.book.pages.units rg + old.book.config.unit_pages
+  copied-work h =
+      let on = copies-on old.book mid.book (state old.flash) (state mid.flash) rg true h.0 stands.known.joined begins h.1 in
+      let pages = pages-of old.book stands.known in
+      let few = wanted-few old.book.pages rg stands.known.joined begins in
+      of-pass on (passes_at old.book.pages rg).pass refl pages few
+    where
+      of-pass : CopiesOn old.book.pages mid.book.pages rg → (o : Option Pass) → (passes_at old.book.pages rg).pass ≡ o → old.book.pages.units.unit_pages ≡ old.book.config.unit_pages → wanted_at old.book.pages rg < old.book.pages.units.unit_pages → work mid.book.pages rg < toil_of old.book.pages.units rg + old.book.config.unit_pages
+      of-pass on None e pages few = let first = on.first (ap is_some e) in omega (arith, first, pages)
+      of-pass on (Some pass) e pages few = let same = on.same (ap is_some e) in omega (arith, same, pages, few)
+
+  pub moved-may : Collects old.book mid.book (state old.flash) (state mid.flash) rg advance.Moved → MayEndPass mid.book rg
+  moved-may h =
+      let on = moves-on old.book mid.book rg stands.known.led stands.known.joined known.joined may.group begins h.due h.moved in
+      let size : mid.book.config.unit_pages ≡ old.book.config.unit_pages = ap (λ (c : DriveConfig). c.unit_pages) h.moved.longer.config_is in
+      let bit : ◌≡◌ {A = ℕ} (if mid.book.may_move then 1 else 0) 0 = ap (λ (k : Bool). if k then 1 else 0) h.moved.move_is in
+      record {
+        group = subst (λ (c : DriveConfig). rg < c.groups) (sym h.moved.longer.config_is) may.group;
+        under_way = on.under_way;
+        room = omega (arith, size, bit, few-pages old.book.config stands.known.config, h.moved.longer.room_is, may.room);
+        moves = inr (on.copies, on.wanted);
+      }
+
+  pub moved-work : Collects old.book mid.book (state old.flash) (state mid.flash) rg advance.Moved → work mid.book.pages rg < toil_of old.book.pages.units rg + old.book.config.unit_pages
+  moved-work h =
+      let on = moves-on old.book mid.book rg stands.known.led stands.known.joined known.joined may.group begins h.due h.moved in
+      let pages = pages-of old.book stands.known in
+      let few = wanted-few old.book.pages rg stands.known.joined begins in
+      let same = on.same in
+      omega (arith, same, pages, few)
+
+  pub pass-made : Collects old.book mid.book (state old.flash) (state mid.flash) rg advance.Erased → MakesPass state old mid rg
+  unfolding calls_made entries_made
+  pass-made h =
+      let on = erases-on old.book mid.book (state old.flash) (state mid.flash) rg true h.0 stands.known.joined begins h.1 in
+      let lower = on.toil in
+      let some = stands.known.joined.cut.some_page in
+      record { before = []; unit = h.0; calls = calls_made old.book mid.book (state old.flash) (state mid.flash) rg advance.Erased h; relocates = step advance.Erased h; well = refl; toil = omega (arith, lower, some) }
+
+  pub pass-starved : IsLedger mid.handed mid.book (state mid.flash) → Collects old.book mid.book (state old.flash) (state mid.flash) rg advance.Starved → Starves state old mid rg
+  unfolding calls_made entries_made
+  pass-starved ledger h = record { before = []; calls = []; relocates = step advance.Starved h; well = refl; worn = worn-made mid.handed old.book mid.book (state old.flash) (state mid.flash) rg Image run stands may.group known ledger h; room = omega (arith, may.room, h.longer.room_is) }
+
+  pub pass-failed : Collects old.book mid.book (state old.flash) (state mid.flash) rg advance.Fault → FailsInPass state old mid rg
+  pass-failed h = record { es = _; calls = _; relocates = step advance.Fault h; fails = fails-made old.book mid.book (state old.flash) (state mid.flash) rg h; room = omega (arith, may.room, h.1.longer.room_is, one-at-most rg (steps.Fault h.0)) }
+
+  pub pass-none : Collects old.book mid.book (state old.flash) (state mid.flash) rg advance.Nothing → MakesNone state old mid rg
+  unfolding calls_made entries_made
+  pass-none h = record {
+    none = record { none = h.is.0.0; gains = gains h.is.0.1 };
+    relocates = step advance.Nothing h;
+    pages = rests-same old.book.pages mid.book.pages rg stands.known.joined begins h.rest h.is.1.group;
+    flash = h.is.1.flash;
+  }
+    where
+      gains : (4 ≤ count_in old.book.pages.units rg is_free) ⊎ HasNoVictim old.book.pages.units rg → HasNoVictim old.book.pages.units rg
+      gains (inl four) = let few = may.short in absurd (omega (arith, four, few))
+      gains (inr none) = none
+
+-- the first step, and the rest of the pass
+pub pass-joined : {F : Type 0} (state : F → FlashState) (old mid new : Seen F) (rg : ℕ) (es : List Entry) (xs : List Call) (x : PassEnd) → ErasesNoUnit es → Relocates state old mid rg es xs → list_any has_failed xs ≡ false → mid.book.config ≡ old.book.config → work mid.book.pages rg < toil_of old.book.pages.units rg + old.book.config.unit_pages → EndsRest state mid new rg x → EndsPass state old new rg x
+pass-joined state old mid new rg es xs ends.Made none first well config less rest = record {
+  before = es ++ rest.before;
+  unit = rest.unit;
+  calls = xs ++ rest.calls;
+  relocates = subst (λ (fs : List Entry). Relocates state old new rg fs (xs ++ rest.calls)) (sym (append_assoc es rest.before (entries.Erased (record { unit = rest.unit }) ∷ [])))
+      (relocates-joined state old mid new rg es (rest.before ++ entries.Erased (record { unit = rest.unit }) ∷ []) xs rest.calls none first rest.relocates);
+  well = well-joined xs rest.calls well rest.well;
+  toil =
+      let low = rest.toil in
+      let size : mid.book.config.unit_pages ≡ old.book.config.unit_pages = ap (λ (c : DriveConfig). c.unit_pages) config in
+      omega (arith, less, low, size);
+}
+pass-joined state old mid new rg es xs ends.Nothing none first well config less rest = absurd rest
+pass-joined state old mid new rg es xs ends.Starved none first well config less rest = record {
+  before = es ++ rest.before;
+  calls = xs ++ rest.calls;
+  relocates = subst (λ (fs : List Entry). Relocates state old new rg fs (xs ++ rest.calls)) (sym (append_assoc es rest.before (entries.Worn (record { rg = rg }) ∷ [])))
+      (relocates-joined state old mid new rg es (rest.before ++ entries.Worn (record { rg = rg }) ∷ []) xs rest.calls none first rest.relocates);
+  well = well-joined xs rest.calls well rest.well;
+  worn = rest.worn;
+  room = rest.room;
+}
+pass-joined state old mid new rg es xs ends.Fault none first well config less rest = record {
+  es = es ++ rest.es;
+  calls = xs ++ rest.calls;
+  relocates = relocates-joined state old mid new rg es rest.es xs rest.calls none first rest.relocates;
+  fails = fails-behind xs well rest.calls rest.fails;
+  room = rest.room;
+}
+
+-- and it began with a copy, or a move
+module _ {F : Type 0} (state : F → FlashState) (old mid new : Seen F) (rg : ℕ) (Image : ℕ → List Cell → Type 0) (run : Runs (state old.flash) (state mid.flash) Image) (stands : Stands (state old.flash) old.book) (known : IsKnown mid.book) (handed : mid.handed ≡ old.handed) (may : MayBeginPass old.book rg) (x : PassEnd) (rest : EndsRest state mid new rg x) where
+  pub copied-then : Collects old.book mid.book (state old.flash) (state mid.flash) rg advance.Copied → EndsPass state old new rg x
+  unfolding calls_made entries_made
+  copied-then h = pass-joined state old mid new rg _ _ x (λ unit. refl) (relocates-made state old mid rg Image advance.Copied run stands may.group (group-of old.book rg stands.known may.group) handed h) refl h.1.longer.config_is (copied-work state old mid rg Image run stands known handed may h) rest
+
+  pub moved-then : Collects old.book mid.book (state old.flash) (state mid.flash) rg advance.Moved → EndsPass state old new rg x
+  unfolding calls_made entries_made
+  moved-then h = pass-joined state old mid new rg _ _ x (λ unit. refl) (relocates-made state old mid rg Image advance.Moved run stands may.group (group-of old.book rg stands.known may.group) handed h) refl h.moved.longer.config_is (moved-work state old mid rg Image run stands known handed may h) rest

@@ -1,0 +1,269 @@
+-- Steps of relocation within a step of a group, one after another.
+use Rattle.std.proofs.Common.{◌≡◌, ℕ, ◌<◌, Bool, true, false, ◌||◌, List, [], ◌∷◌, ◌++◌, refl, sym, ◌∙◌, ap, subst, arith, append_assoc, length-append}
+use Rattle.std.specs.Prelude.{IsTrue}
+use Rattle.std.specs.List.{list_any}
+use Rattle.std.proofs.lemmas.Bool.{false≢true}
+use Rattle.std.proofs.lemmas.List.{append-nil}
+use Rattle.std.proofs.lemmas.List.Elements.{All-append, All-nil}
+use Rattle.std.proofs.lemmas.List.Folds.{list_any-append}
+use Rattle.std.proofs.lemmas.List.Sums.{sum_by-append}
+use Rattle.fdp_base.specs.declared.config.DriveConfig.{DriveConfig}
+use Rattle.fdp_base.specs.declared.config.Geometry.{Geometry}
+use Rattle.fdp_base.specs.declared.entry.Entry.{Entry}
+use Rattle.fdp_base.specs.declared.entry.Entry.TheVariants as entries
+use Rattle.fdp_book.specs.Book.{BookSeen, IsLonger, point_in, state_in}
+use Rattle.fdp_book.specs.Relocating.{told_by}
+use Rattle.fdp_book.specs.Relocating as book
+use Rattle.fdp_calls.specs.Calls.{MakesCalls, counted_more, erase_at, fetch_at, has_failed, program_at}
+use Rattle.fdp_calls.proofs.Made.{calls-joined, calls-none, counted_more-add, counted_more-none, counted_more-one}
+use Rattle.fdp_collector.specs.declared.step.Lost.TheVariants as lost
+use Rattle.fdp_collector.specs.declared.step.Step.{Step}
+use Rattle.fdp_collector.specs.declared.step.Step.TheVariants as steps
+use Rattle.fdp_collector.specs.Step.{IsUncalled}
+use Rattle.fdp_core.specs.Passes.{Relocates}
+use Rattle.fdp_core.specs.Seen.{Seen, Stands}
+use Rattle.fdp_core.specs.Steps.{Matches}
+use Rattle.fdp_flash.specs.declared.cell.Cell.{Cell}
+use Rattle.fdp_flash.specs.FlashState.{Call, FlashState}
+use Rattle.fdp_flash.specs.Runs.{Runs}
+use Rattle.fdp_isolation.specs.Laned.{IsKnown}
+use Rattle.fdp_ledger.specs.declared.counts.Counts.{Counts}
+use Rattle.fdp_ledger.specs.Emptied.{ErasedAreBlank, OnlyErasesEmpty}
+use Rattle.fdp_ledger.specs.Ledger.{IsLedger}
+use Rattle.fdp_ledger.specs.Told.{is_erased, tells_failure}
+use Rattle.fdp_ledger.specs.WornOut.{IsWornOut}
+use Rattle.fdp_ledger.proofs.Promised.{worn-out}
+use Rattle.fdp_rules.specs.History.{Found, point_of, state_of}
+use Rattle.fdp_base.specs.Placement.{geometry_of}
+use Rattle.fdp_ledger.proofs.Blank.{none-free_starved, ErasesNoUnit, erased-behind, erased-none, erased-relocated}
+use Rattle.fdp_ledger.proofs.Emptied.{emptied-joined, emptied-none, same-emptied}
+use Rattle.fdp_ledger.proofs.Relocated.{emptied-relocated}
+use Rattle.fdp_locations.specs.Located.{AreUnitsOf}
+use Rattle.fdp_pages.specs.Joined.{AreJoined}
+use Rattle.fdp_relocation.specs.declared.advance.Advance.{Advance}
+use Rattle.fdp_relocation.specs.declared.advance.Advance.TheVariants as advance
+use Rattle.fdp_relocation.specs.Collected.{Collects}
+use Rattle.fdp_relocation.specs.Entries.{AreRelocationIn, IsRelocationIn}
+use Rattle.fdp_relocation.proofs.Keeping.{keeps-longer, keeps-self, keeps-then}
+use Rattle.fdp_relocation.proofs.Telling.{moved-inside, told-inside}
+use Rattle.fdp_rules.specs.Sites.{moved_blocks}
+use Rattle.fdp_rules.specs.Totals.{media_blocks, media_blocks_of}
+use Rattle.fdp_units.specs.UnitTable.{IsGroup}
+
+-- ---- no call
+
+-- a run, of which nothing is said of what a stop leaves
+pub runs-plain : (f n : FlashState) (Image : ℕ → List Cell → Type 0) → Runs f n Image → Runs f n (λ m image. Unit {0})
+runs-plain f n Image run = record {
+  geometry = run.geometry;
+  reliable = run.reliable;
+  told = run.told;
+  tells_images = run.tells_images;
+  later = run.later;
+  faults = run.faults;
+  no_fault = run.no_fault;
+  programs = run.programs;
+  images = λ told m image low high left. tt;
+  earlier = run.earlier;
+  kept = run.kept;
+  listed_before = run.listed_before;
+  listed = run.listed;
+}
+
+-- a run in which no call was made
+pub uncalled-made : (f n : FlashState) (Image : ℕ → List Cell → Type 0) → Runs f n Image → IsUncalled f n → MakesCalls f n []
+uncalled-made f n Image run none = record {
+  run = runs-plain f n Image run;
+  moment = none.moment ∙ sym (counted_more-none f.moment);
+  listed = λ tells. none.calls tells ∙ sym (append-nil f.calls);
+  fault = λ wrong. absurd (false≢true wrong);
+  no_fault = λ _. none.faults;
+}
+
+-- ---- the calls of a step, with what they tell
+
+-- what an answer comes to: these entries, with these calls
+pub record Makes (f n : FlashState) (es : List Entry) : Type 0 where
+  pub calls : List Call
+  pub matches : Matches f n es calls
+
+quiet : (f n : FlashState) (Image : ℕ → List Cell → Type 0) (es : List Entry) → media_blocks es ≡ 0 → list_any tells_failure es ≡ false → ErasesNoUnit es → Runs f n Image → IsUncalled f n → Matches f n es []
+quiet f n Image es none fine erases run uncalled = record {
+  made = uncalled-made f n Image run uncalled;
+  programs = uncalled.programs ∙ sym (ap (counted_more f.programs) none ∙ counted_more-none f.programs);
+  failed = λ wrong. absurd (false≢true (sym fine ∙ wrong));
+  erased = λ told. erased-none f.geometry n.cells es erases;
+  emptied = λ told. emptied-none f.geometry f.cells n.cells es (same-emptied f.geometry f.cells n.cells (uncalled.cells told));
+}
+
+-- the calls of a step that was due in a group
+unfoldable pub calls_made : (b d : BookSeen) (f n : FlashState) (rg : ℕ) (x : Advance) → Collects b d f n rg x → List Call
+calls_made b d f n rg advance.Nothing h = []
+calls_made b d f n rg advance.Copied h = fetch_at h.1.is.from false ∷ program_at h.1.is.to false ∷ []
+calls_made b d f n rg advance.Moved h = []
+calls_made b d f n rg advance.Erased h = erase_at h.0 false ∷ []
+calls_made b d f n rg advance.Starved h = []
+calls_made b d f n rg advance.Fault (lost.None, h) = fetch_at h.is.from false ∷ program_at h.is.to true ∷ []
+calls_made b d f n rg advance.Fault (lost.Aside unit, h) = fetch_at h.is.from true ∷ []
+calls_made b d f n rg advance.Fault (lost.Retired unit, h) = erase_at unit true ∷ []
+
+-- its entries
+unfoldable pub entries_made : (b d : BookSeen) (f n : FlashState) (rg : ℕ) (x : Advance) → Collects b d f n rg x → List Entry
+entries_made b d f n rg advance.Nothing h = []
+entries_made b d f n rg advance.Copied h = entries.Copied h.0 ∷ []
+entries_made b d f n rg advance.Moved h = entries.Moved (record { rg = rg; blocks = moved_blocks (point_in b) rg }) ∷ []
+entries_made b d f n rg advance.Erased h = entries.Erased (record { unit = h.0 }) ∷ []
+entries_made b d f n rg advance.Starved h = entries.Worn (record { rg = rg }) ∷ []
+entries_made b d f n rg advance.Fault h = told_by rg (steps.Fault h.0)
+
+-- a step leaves no unit all blank but one that it erased
+emptied-made : (b d : BookSeen) (f n : FlashState) (rg : ℕ) (Image : ℕ → List Cell → Type 0) → Stands f b → rg < b.config.groups → Runs f n Image → (step : Step) → book.Relocates b d f n rg true step → IsTrue f.told → OnlyErasesEmpty f.geometry f.cells n.cells (told_by rg step)
+emptied-made b d f n rg Image stands low run step h = emptied-relocated b d f n rg true step Image low stands.known.joined stands.known.units stands.geometry stands.stored h run
+
+pub matches-made : (b d : BookSeen) (f n : FlashState) (rg : ℕ) (Image : ℕ → List Cell → Type 0) → Stands f b → rg < b.config.groups → Runs f n Image → (x : Advance) (h : Collects b d f n rg x) → Matches f n (entries_made b d f n rg x h) (calls_made b d f n rg x h)
+unfolding calls_made entries_made
+matches-made b d f n rg Image stands low run advance.Nothing h = quiet f n Image [] refl refl (λ unit. refl) run h.is.1.flash
+matches-made b d f n rg Image stands low run advance.Copied h = record {
+  made = h.1.is.ended.2.made;
+  programs = h.1.is.ended.2.programs refl ∙ sym (counted_more-one f.programs);
+  failed = λ wrong. absurd (false≢true wrong);
+  erased = λ told. erased-none f.geometry n.cells _ (λ unit. refl);
+  emptied = emptied-made b d f n rg Image stands low run (steps.Copied h.0) h.1;
+}
+matches-made b d f n rg Image stands low run advance.Moved h = quiet f n Image _ refl refl (λ unit. refl) run h.flash
+matches-made b d f n rg Image stands low run advance.Erased h = record {
+  made = h.1.is.2.made;
+  programs = h.1.is.2.flash.programs ∙ sym (counted_more-none f.programs);
+  failed = λ wrong. absurd (false≢true wrong);
+  erased = erased-relocated b d f n rg true h.0 h.1;
+  emptied = emptied-made b d f n rg Image stands low run (steps.Erased h.0) h.1;
+}
+matches-made b d f n rg Image stands low run advance.Starved h = quiet f n Image _ refl refl (λ unit. refl) run h.is.flash
+matches-made b d f n rg Image stands low run advance.Fault (lost.None, h) = record {
+  made = h.is.ended.1.made;
+  programs = h.is.ended.1.not_done refl ∙ sym (counted_more-none f.programs);
+  failed = λ _. refl;
+  erased = λ told. erased-none f.geometry n.cells _ (λ unit. refl);
+  emptied = emptied-made b d f n rg Image stands low run (steps.Fault lost.None) h;
+}
+matches-made b d f n rg Image stands low run advance.Fault (lost.Aside unit, h) = record {
+  made = h.is.flash.made;
+  programs = h.is.flash.read.programs ∙ sym (counted_more-none f.programs);
+  failed = λ _. refl;
+  erased = λ told. erased-none f.geometry n.cells _ (λ other. refl);
+  emptied = emptied-made b d f n rg Image stands low run (steps.Fault (lost.Aside unit)) h;
+}
+matches-made b d f n rg Image stands low run advance.Fault (lost.Retired unit, h) = record {
+  made = h.is.2.made;
+  programs = h.is.2.flash.programs ∙ sym (counted_more-none f.programs);
+  failed = λ _. refl;
+  erased = λ told. erased-none f.geometry n.cells _ (λ other. refl);
+  emptied = emptied-made b d f n rg Image stands low run (steps.Fault (lost.Retired unit)) h;
+}
+
+-- a step that found no free unit leaves a group that is worn out
+pub worn-made : (handed : Counts) (b d : BookSeen) (f n : FlashState) (rg : ℕ) (Image : ℕ → List Cell → Type 0) → Runs f n Image → Stands f b → rg < b.config.groups → IsKnown d → IsLedger handed d n → book.Relocates b d f n rg true steps.Starved → IsWornOut handed n (state_in d).is_lost rg
+worn-made handed b d f n rg Image run stands low known ledger h =
+    worn-out handed d n rg (subst (λ (c : DriveConfig). rg < c.groups) (sym h.longer.config_is) low) known.units (run.geometry ∙ stands.geometry ∙ ap geometry_of (sym h.longer.config_is)) (none-free_starved b d f n rg true h) ledger
+
+-- by the history before it and its entries
+pub worn-told : (handed : Counts) (n : FlashState) (b d : BookSeen) (es : List Entry) (rg : ℕ) → IsLonger b d es → IsWornOut handed n (state_in d).is_lost rg → IsWornOut handed n (state_of b.config b.found (b.entries ++ es)).is_lost rg
+unfolding state_of point_of
+worn-told handed n b d es rg longer worn =
+    subst (λ (xs : List Entry). IsWornOut handed n (state_of b.config b.found xs).is_lost rg) longer.entries_are
+    (subst (λ (x : Found). IsWornOut handed n (state_of b.config x d.entries).is_lost rg) longer.found_is
+    (subst (λ (c : DriveConfig). IsWornOut handed n (state_of c d.found d.entries).is_lost rg) longer.config_is worn))
+
+-- the history is longer by its entries
+pub longer-made : (b d : BookSeen) (f n : FlashState) (rg : ℕ) (x : Advance) (h : Collects b d f n rg x) → IsLonger b d (entries_made b d f n rg x h)
+unfolding entries_made
+longer-made b d f n rg advance.Nothing h = h.longer
+longer-made b d f n rg advance.Copied h = h.1.longer
+longer-made b d f n rg advance.Moved h = h.moved.longer
+longer-made b d f n rg advance.Erased h = h.1.longer
+longer-made b d f n rg advance.Starved h = h.longer
+longer-made b d f n rg advance.Fault h = h.1.longer
+
+-- they are those of relocation in the group
+pub inside-made : (b d : BookSeen) (f n : FlashState) (rg : ℕ) → AreUnitsOf b.config (state_in b) b.pages → AreJoined b.pages → IsGroup b.pages.units rg → (x : Advance) (h : Collects b d f n rg x) → AreRelocationIn b.config rg (entries_made b d f n rg x h)
+unfolding entries_made
+inside-made b d f n rg units joined group advance.Nothing h = told-inside b d f n rg true steps.Nothing units joined group h
+inside-made b d f n rg units joined group advance.Copied h = told-inside b d f n rg true (steps.Copied h.0) units joined group h.1
+inside-made b d f n rg units joined group advance.Moved h = moved-inside b rg
+inside-made b d f n rg units joined group advance.Erased h = told-inside b d f n rg true (steps.Erased h.0) units joined group h.1
+inside-made b d f n rg units joined group advance.Starved h = told-inside b d f n rg true steps.Starved units joined group h
+inside-made b d f n rg units joined group advance.Fault h = told-inside b d f n rg true (steps.Fault h.0) units joined group h.1
+
+-- ---- steps of relocation
+
+pub relocates-made : {F : Type 0} (state : F → FlashState) (old new : Seen F) (rg : ℕ) (Image : ℕ → List Cell → Type 0) (x : Advance) → Runs (state old.flash) (state new.flash) Image → Stands (state old.flash) old.book → rg < old.book.config.groups → IsGroup old.book.pages.units rg → new.handed ≡ old.handed → (h : Collects old.book new.book (state old.flash) (state new.flash) rg x) →
+    Relocates state old new rg (entries_made old.book new.book (state old.flash) (state new.flash) rg x h) (calls_made old.book new.book (state old.flash) (state new.flash) rg x h)
+relocates-made state old new rg Image x run stands low group handed h =
+    let f = state old.flash in
+    let n = state new.flash in
+    let longer = longer-made old.book new.book f n rg x h in
+    let inside = inside-made old.book new.book f n rg stands.known.units stands.known.joined group x h in
+    record {
+      extends = record { book = longer; handed_is = handed; matches = matches-made old.book new.book f n rg Image stands low run x h };
+      inside = inside;
+      kept = keeps-longer old.book new.book rg (entries_made old.book new.book f n rg x h) longer inside;
+    }
+
+-- entries that tell of no erase, one behind another
+pub erases-none : (es fs : List Entry) → ErasesNoUnit es → ErasesNoUnit fs → ErasesNoUnit (es ++ fs)
+erases-none es fs p q unit = list_any-append (is_erased unit) es fs ∙ ap (λ (k : Bool). k || list_any (is_erased unit) fs) (p unit) ∙ q unit
+
+matches-joined : (a b c : FlashState) (es fs : List Entry) (xs ys : List Call) → ErasesNoUnit es → Matches a b es xs → Matches b c fs ys → Matches a c (es ++ fs) (xs ++ ys)
+matches-joined a b c es fs xs ys none p q = record {
+  made = calls-joined a b c xs ys p.made q.made;
+  programs = q.programs ∙ ap (λ (k : ℕ). counted_more k (media_blocks fs)) p.programs ∙ counted_more-add a.programs (media_blocks es) (media_blocks fs) ∙ ap (counted_more a.programs) (sym (sum_by-append media_blocks_of es fs));
+  failed = λ some. list_any-append has_failed xs ys ∙ either (list_any tells_failure es) (list_any tells_failure fs) (list_any has_failed xs) (list_any has_failed ys) p.failed q.failed (sym (list_any-append tells_failure es fs) ∙ some);
+  erased = λ told. erased-behind a.geometry c.cells es fs none (subst (λ (g : Geometry). ErasedAreBlank g c.cells fs) p.made.run.geometry (q.erased (p.made.run.told ∙ told)));
+  emptied = λ told. emptied-joined a.geometry a.cells b.cells c.cells es fs (p.emptied told) (subst (λ (g : Geometry). OnlyErasesEmpty g b.cells c.cells fs) p.made.run.geometry (q.emptied (p.made.run.told ∙ told)));
+}
+  where
+    or-true : (k : Bool) → k || true ≡ true
+    or-true true = refl
+    or-true false = refl
+
+    either : (x y u v : Bool) → (IsTrue x → IsTrue u) → (IsTrue y → IsTrue v) → x || y ≡ true → u || v ≡ true
+    either true y u v first second e = ap (λ (k : Bool). k || v) (first refl)
+    either false y u v first second e = ap (λ (k : Bool). u || k) (second e) ∙ or-true u
+
+pub longer-joined : (a b c : BookSeen) (es fs : List Entry) → IsLonger a b es → IsLonger b c fs → IsLonger a c (es ++ fs)
+longer-joined a b c es fs p q = record {
+  config_is = q.config_is ∙ p.config_is;
+  found_is = q.found_is ∙ p.found_is;
+  entries_are = q.entries_are ∙ ap (λ (xs : List Entry). xs ++ fs) p.entries_are ∙ append_assoc a.entries es fs;
+  spare_is = q.spare_is ∙ p.spare_is;
+  spent_is = q.spent_is ∙ p.spent_is;
+  room_is = omega (arith, p.room_is, q.room_is, length-append es fs);
+}
+
+pub relocates-joined : {F : Type 0} (state : F → FlashState) (a b c : Seen F) (rg : ℕ) (es fs : List Entry) (xs ys : List Call) → ErasesNoUnit es → Relocates state a b rg es xs → Relocates state b c rg fs ys → Relocates state a c rg (es ++ fs) (xs ++ ys)
+relocates-joined state a b c rg es fs xs ys none p q = record {
+  extends = record {
+    book = longer-joined a.book b.book c.book es fs p.extends.book q.extends.book;
+    handed_is = q.extends.handed_is ∙ p.extends.handed_is;
+    matches = matches-joined (state a.flash) (state b.flash) (state c.flash) es fs xs ys none p.extends.matches q.extends.matches;
+  };
+  inside = All-append (IsRelocationIn a.book.config rg) es fs p.inside (subst (λ (k : DriveConfig). AreRelocationIn k rg fs) p.extends.book.config_is q.inside);
+  kept = keeps-then (state_in a.book) (state_in b.book) (state_in c.book) p.kept q.kept;
+}
+
+pub relocates-none : {F : Type 0} (state : F → FlashState) (s : Seen F) (rg : ℕ) → Relocates state s s rg [] []
+relocates-none state s rg = record {
+  extends = record {
+    book = record { config_is = refl; found_is = refl; entries_are = sym (append-nil s.book.entries); spare_is = refl; spent_is = refl; room_is = omega arith };
+    handed_is = refl;
+    matches = record {
+      made = calls-none (state s.flash);
+      programs = sym (counted_more-none (state s.flash).programs);
+      failed = λ wrong. absurd (false≢true wrong);
+      erased = λ told. erased-none (state s.flash).geometry (state s.flash).cells [] (λ unit. refl);
+      emptied = λ told. emptied-none (state s.flash).geometry (state s.flash).cells (state s.flash).cells [] (same-emptied (state s.flash).geometry (state s.flash).cells (state s.flash).cells refl);
+    };
+  };
+  inside = All-nil (IsRelocationIn s.book.config rg);
+  kept = keeps-self (state_in s.book);
+}

@@ -1,0 +1,23 @@
+ghost use Rattle.std.specs.Prelude.{◌<◌};
+ghost use Rattle.fdp_core.specs.Answers.{Collects};
+
+use super::Group;
+use fdp_flash::Flash;
+use fdp_relocation::Advance;
+
+impl<F: Flash> Group<F> {
+    /// The next step of relocation in a group. It makes at most two calls of the flash. A move takes a step for each copy; each other step
+    /// looks at pages of the victim.
+    pub fn collect(&mut self, rg: u16) -> Advance
+        requires group { rg < self.old.book.config.groups }
+        requires spare { 0 < self.old.book.spare }
+        ensures { Collects F.state self.old self.new rg result }
+    {
+        self.book.begin();
+        let advance = self.advance(rg);
+        if self.book.has_added_nothing() {
+            self.book.cancel();
+        }
+        advance
+    }
+}

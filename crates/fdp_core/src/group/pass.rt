@@ -1,0 +1,80 @@
+ghost use Rattle.std.specs.Prelude.{◌≡◌, ◌<◌, IsTrue};
+ghost use Rattle.fdp_core.specs.Passes.{EndsPass, EndsRest, MayBeginPass, MayEndPass};
+ghost use Rattle.fdp_core.specs.Seen.{Stands};
+ghost use Rattle.fdp_flash.specs.Runs.{Runs};
+ghost use Rattle.fdp_isolation.specs.Laned.{IsKnown};
+ghost use Rattle.fdp_ledger.specs.Ledger.{IsLedger};
+ghost use Rattle.fdp_pages.specs.PageTables.{passes_at};
+ghost use Rattle.fdp_passes.specs.declared.due.Due.TheVariants.{Move};
+ghost use Rattle.fdp_passes.specs.Due.{IsDue};
+ghost use Rattle.fdp_relocation.specs.Collected.{Collects};
+
+use super::Group;
+use fdp_flash::Flash;
+use fdp_relocation::{Advance, collect};
+
+/// How a relocation pass within a step ended.
+#[derive(Clone, Copy, Debug, PartialEq, Eq)]
+pub enum PassEnd {
+    /// Its victim was erased.
+    Made,
+    /// None is under way, and none would gain a page.
+    Nothing,
+    /// No unit is free for a copy: the group is worn.
+    Starved,
+    /// A call of the flash failed.
+    Fault,
+}
+
+impl<F: Flash> Group<F> {
+    /// Makes a relocation pass in a group that is short of free units, or ends the one under way. It copies each live page of the victim at
+    /// most once.
+    pub(super) fn make_pass(&mut self, rg: u16) -> PassEnd
+        requires may { MayBeginPass self.old.book rg }
+        ensures { EndsPass F.state self.old self.new rg result }
+    {
+        match self.advance(rg) {
+            Advance::Copied => self.end_pass(rg),
+            Advance::Moved => self.end_pass(rg),
+            Advance::Erased => PassEnd::Made,
+            Advance::Nothing => PassEnd::Nothing,
+            Advance::Starved => PassEnd::Starved,
+            Advance::Fault => PassEnd::Fault,
+        }
+    }
+
+    /// Ends the pass under way in a group.
+    fn end_pass(&mut self, rg: u16) -> PassEnd
+        requires may { MayEndPass self.old.book rg }
+        ensures { EndsRest F.state self.old self.new rg result }
+    {
+        loop {
+            match self.advance(rg) {
+                Advance::Copied => {}
+                Advance::Moved => {}
+                Advance::Erased => return PassEnd::Made,
+                Advance::Nothing => unreachable!(),
+                Advance::Starved => return PassEnd::Starved,
+                Advance::Fault => return PassEnd::Fault,
+            }
+        }
+    }
+
+    /// The next step of relocation in a group.
+    pub(super) fn advance(&mut self, rg: u16) -> Advance
+        requires group { rg < self.old.book.config.groups }
+        requires room { 0 < self.old.book.room }
+        requires may_move { IsDue (passes_at self.old.book.pages rg) self.old.book.pages.units self.old.book.pages.owners rg Move → IsTrue self.old.book.may_move }
+        ensures step { Collects self.old.book self.new.book (F.state self.old.flash) (F.state self.new.flash) rg result }
+        ensures handed { self.new.handed ≡ self.old.handed }
+        ensures run { Runs (F.state self.old.flash) (F.state self.new.flash) (λ m image. Unit {0}) }
+        ensures old { Stands (F.state self.old.flash) self.old.book }
+        ensures new { IsKnown self.new.book }
+        ensures ledger { IsLedger self.new.handed self.new.book (F.state self.new.flash) }
+    {
+        self.book.known();
+        let advance = collect(&mut self.book, &mut self.flash, &mut self.block, rg);
+        self.book.known();
+        advance
+    }
+}
