@@ -1,146 +1,182 @@
 -- What a run shows.
-use Rattle.std.proofs.Common.{◌≡◌, ℕ, ◌+◌, ◌*◌, ◌^◌, ◌≤◌, Bool, true, false, IsTrue, List, [], ◌++◌, length, Ok, Err, refl, ap, sym, ◌∙◌, subst, arith, zero, suc, replicate}
+use Rattle.std.proofs.Common.{◌≡◌, ℕ, zero, suc, ◌*◌, ◌^◌, ◌≤◌, Bool, true, false, ◌||◌, IsTrue, List, [], ◌∷◌, ◌++◌, length, Ok, Err, None, refl, ap, sym, ◌∙◌, subst, arith, replicate}
+use Rattle.std.specs.Prelude.{Result, ⊤}
 use Rattle.std.specs.List.{list_any}
+use Rattle.std.proofs.lemmas.Bool.{false≢true}
 use Rattle.std.proofs.lemmas.List.{take_all}
+use Rattle.std.proofs.lemmas.List.FromFn.{length-enumerate_from}
 use Rattle.fdp_base.specs.declared.command.Command.{Command}
 use Rattle.fdp_base.specs.declared.config.DriveConfig.{DriveConfig}
 use Rattle.fdp_base.specs.declared.config.Geometry.{Geometry}
 use Rattle.fdp_base.specs.declared.entry.Entry.{Entry}
 use Rattle.fdp_base.specs.declared.entry.Totals.{Totals}
-use Rattle.fdp_base.specs.declared.limits.TheConstants.{MOST_COMMAND_BLOCKS, MOST_TRACE_COMMANDS}
+use Rattle.fdp_base.specs.declared.limits.TheConstants.{MOST_TRACE_COMMANDS}
 use Rattle.fdp_base.specs.Counts.{counted}
 use Rattle.fdp_base.specs.Geometry.{all_pages}
-use Rattle.fdp_rules.specs.History.{Found, first_state, fresh, point_of, state_of, totals_of}
 use Rattle.fdp_base.specs.Placement.{geometry_of}
-use Rattle.fdp_rules.specs.Queue.{completed, numbered}
-use Rattle.fdp_rules.specs.Totals.{media_blocks}
+use Rattle.fdp_calls.specs.Calls.{counted_more, has_failed}
+use Rattle.fdp_core.specs.Seen.{HoldsHistory, IsLegalOver, IsNewOver, Seen}
+use Rattle.fdp_core.specs.Silence.{OthersStaySilent}
 use Rattle.fdp_flash.specs.declared.cell.Cell.TheVariants.{Blank}
 use Rattle.fdp_flash.specs.declared.memory.FlashMem.{FlashMem}
 use Rattle.fdp_flash.specs.declared.plan.Plan.{Plan}
 use Rattle.fdp_flash.specs.FlashMem.{BeginsWith, plan_of, state_of as memory_state}
-use Rattle.fdp_flash.specs.FlashState.{FlashState}
 use Rattle.fdp_flash.specs.Plan.{plan_is_empty}
 use Rattle.fdp_io.specs.Sink.{HoldsFront, SinkState}
-use Rattle.fdp_book.specs.Pages.{blank_cells, cells_from, cells_of}
-use Rattle.fdp_core.specs.Seen.{HoldsHistory, Seen, counted_more, new_over, tells_failure}
-use Rattle.fdp_core.specs.Silence.{OthersStaySilent}
-use Rattle.fdp_core.specs.Steps.{most_steps}
-use Rattle.fdp_book.specs.UsedOnce.{IsLegalOnce, IsLegalOnceAfter}
+use Rattle.fdp_ledger.specs.Told.{is_media_reply, is_shut, loses_unit, tells_failure}
+use Rattle.fdp_rules.specs.History.{Found, first_state, fresh, point_of, state_of, totals_of}
+use Rattle.fdp_rules.specs.Legal.{IsLegal}
+use Rattle.fdp_rules.specs.Queue.{completed, numbered}
+use Rattle.fdp_rules.specs.Totals.{media_blocks}
 use Rattle.fdp_cli.specs.declared.print.Cut.{Cut}
 use Rattle.fdp_cli.specs.declared.print.Cut.TheVariants as cuts
-use Rattle.fdp_cli.specs.declared.serving.ServeEnd.{ServeEnd}
-use Rattle.fdp_cli.specs.declared.serving.ServeEnd.TheVariants as ends
+use Rattle.fdp_cli.specs.declared.serving.Stop.{Stop}
+use Rattle.fdp_cli.specs.declared.serving.Stop.TheVariants as stops
 use Rattle.fdp_cli.specs.Printing.{AreSmall, HoldsSome, Prints}
-use Rattle.fdp_cli.specs.Serving.{IsIdle, Serves, ServesFirst}
-use Rattle.fdp_cli.specs.Session.{IsFresh, IsRecordOf}
-use Rattle.fdp_cli.proofs.Small.{few_entries, few_pages, small_sums}
+use Rattle.fdp_cli.specs.Serving.{Grows, IsIdle, Serves}
+use Rattle.fdp_cli.specs.Session.{IsFresh, IsRecordOf, IsSession, IsSpent}
+use Rattle.fdp_cli.proofs.Small.{few_entries, few_pages, small_fresh}
+
+-- ---- the beginning
+
+-- the group that was made over a blank flash
+pub fresh_over : (c : DriveConfig) (geometry : Geometry) (plan : Plan) (flash : FlashMem) (group : Seen FlashMem) → geometry ≡ geometry_of c → BeginsWith geometry (replicate (all_pages geometry) Blank) plan flash → IsTrue (plan_is_empty plan) → IsNewOver memory_state c flash group → IsFresh c group
+fresh_over c geometry plan flash group cut begins empty is =
+    let same : flash ≡ group.flash = sym is.flash_is in
+    let plan_is : plan ≡ plan_of group.flash = sym begins.plan_is ∙ ap plan_of same in
+    record {
+      is_new = subst (λ (f : FlashMem). IsNewOver memory_state c f group) same is;
+      blank = subst (λ (f : FlashMem). BeginsWith (geometry_of c) (replicate (all_pages (geometry_of c)) Blank) (plan_of group.flash) f) same
+          (subst (λ (p : Plan). BeginsWith (geometry_of c) (replicate (all_pages (geometry_of c)) Blank) p flash) plan_is (subst (λ (g : Geometry). BeginsWith g (replicate (all_pages g) Blank) plan flash) cut begins));
+      no_failures = subst (λ (p : Plan). IsTrue (plan_is_empty p)) plan_is empty;
+    }
+
+none-going : (c : DriveConfig) (found : Found) → (point_of c found []).state.going 1 ≡ None
+unfolding point_of state_of first_state
+none-going c found = refl
+
+-- no write is going before the first command
+pub idle_fresh : (c : DriveConfig) (group : Seen FlashMem) → IsFresh c group → IsIdle group.book
+idle_fresh c group is = ap (λ (es : List Entry). (point_of group.book.config group.book.found es).state.going 1) is.is_new.book.entries_are ∙ none-going group.book.config group.book.found
+
+-- ---- a flash of which no call fails
 
 -- a small count of 64 bits counts each of so many
-small_count : (n : ℕ) → n ≤ 2 ^ 28 → counted_more 0 n ≡ n
+small_count : (n : ℕ) → n ≤ 2 ^ 39 → counted_more 0 n ≡ n
 unfolding counted_more
 small_count zero low = refl
 small_count (suc n) low = let before = small_count n (omega (arith, low)) in ap counted before ∙ omega (arith, low)
 
--- the group that was made over a blank flash
-fresh_over : (c : DriveConfig) (plan : Plan) (flash : FlashMem) (group : Seen FlashMem) → BeginsWith (geometry_of c) (blank_cells c) plan flash → IsTrue (plan_is_empty plan) → group ≡ new_over memory_state c flash → IsFresh c group
-fresh_over c plan flash group begins empty is =
-    let plan_is : plan_of flash ≡ plan = begins.plan_is in
-    subst (IsFresh c) (sym is) (record {
-      is_new = refl;
-      blank = subst (λ (p : Plan). BeginsWith (geometry_of c) (blank_cells c) p flash) (sym plan_is) begins;
-      no_failures = subst (λ (p : Plan). IsTrue (plan_is_empty p)) (sym plan_is) empty;
-    })
+none-true : (b : Bool) → (b ≡ true → ⊥) → b ≡ false
+none-true true never = absurd (never refl)
+none-true false never = refl
 
-no_cells : (c : DriveConfig) (found : Found) → blank_cells c ≡ cells_of c found []
-unfolding cells_of cells_from
-no_cells c found = refl
+-- no call failed
+all_well : (c : DriveConfig) (old new : Seen FlashMem) (es : List Entry) → IsFresh c old → (grown : Grows memory_state old new es) → list_any has_failed grown.calls ≡ false
+all_well c old new es begun grown =
+    none-true (list_any has_failed grown.calls) (λ failed. false≢true (sym (grown.matches.made.fault failed).unreliable ∙ begun.blank.reliable ∙ begun.no_failures))
 
--- what the flash holds at the start
-held_fresh : (c : DriveConfig) (group : Seen FlashMem) → IsFresh c group → HoldsHistory (memory_state group.flash) group.book
-held_fresh c group f =
-    subst (λ (s : Seen FlashMem). HoldsHistory (memory_state group.flash) s.book) (sym f.is_new) (λ still tells. f.blank.cells_are ∙ no_cells c (fresh c))
+-- so no entry tells of a failed call
+none_told : (c : DriveConfig) (old new : Seen FlashMem) (es : List Entry) → IsFresh c old → Grows memory_state old new es → list_any tells_failure es ≡ false
+none_told c old new es begun grown = none-true (list_any tells_failure es) (λ tells. false≢true (sym (all_well c old new es begun grown) ∙ grown.matches.failed tells))
 
--- the history is legal at the start
-legal_fresh : (c : DriveConfig) (group : Seen FlashMem) → IsFresh c group → IsLegalOnce true group.book.config group.book.found group.book.entries
-unfolding IsLegalOnceAfter
-legal_fresh c group f = subst (λ (s : Seen FlashMem). IsLegalOnce true s.book.config s.book.found s.book.entries) (sym f.is_new) tt
+-- and none of a media error
+media-tells : (es : List Entry) → list_any is_media_reply es ≡ true → list_any tells_failure es ≡ true
+media-tells [] e = e
+media-tells (x ∷ es) e = of-first (is_media_reply x) (is_shut x) (loses_unit x) (list_any is_media_reply es) (list_any tells_failure es) (media-tells es) e
+  where
+    of-first : (media shut lost rest tells : Bool) → (rest ≡ true → tells ≡ true) → media || rest ≡ true → (media || shut || lost) || tells ≡ true
+    of-first true shut lost rest tells more e = refl
+    of-first false true lost rest tells more e = refl
+    of-first false false true rest tells more e = refl
+    of-first false false false rest tells more e = more e
 
--- the configuration of the group that served a trace
-pub same_config : (c : DriveConfig) (old new : Seen FlashMem) (flash : FlashMem) (trace : List Command) → old ≡ new_over memory_state c flash → ServesFirst memory_state old new trace (length trace) false → new.book.config ≡ c
-same_config c old new flash trace is served = served.grown.config_is ∙ ap (λ (s : Seen FlashMem). s.book.config) is
+-- ---- a session
 
--- what it began with
-same_found : (c : DriveConfig) (old new : Seen FlashMem) (flash : FlashMem) (trace : List Command) → old ≡ new_over memory_state c flash → ServesFirst memory_state old new trace (length trace) false → new.book.found ≡ fresh c
-same_found c old new flash trace is served = served.grown.found_is ∙ ap (λ (s : Seen FlashMem). s.book.found) is
+-- what a group did that was made over a blank flash, and what it told of itself in the end
+pub record HasServed (c : DriveConfig) (old new : Seen FlashMem) (es : List Entry) : Type 0 where
+  pub begun : IsFresh c old
+  pub entries_are : es ≡ new.book.entries
+  pub few : length es ≤ 300 * new.book.spent
+  pub legal : IsLegalOver (memory_state new.flash) new.book
+  pub cells : HoldsHistory (memory_state new.flash) new.book
 
--- the sums that a group tells that served a trace
-pub told_totals : (c : DriveConfig) (old new : Seen FlashMem) (flash : FlashMem) (trace : List Command) (es : List Entry) (totals : Totals) → old ≡ new_over memory_state c flash → ServesFirst memory_state old new trace (length trace) false →
-    es ≡ new.book.entries → totals ≡ totals_of new.book.found new.book.entries → totals ≡ totals_of (fresh c) es
-told_totals c old new flash trace es totals is served shown told =
-    told ∙ ap (λ (x : Found). totals_of x new.book.entries) (same_found c old new flash trace is served) ∙ ap (totals_of (fresh c)) (sym shown)
+pub same_config : (c : DriveConfig) (old new : Seen FlashMem) (xs : List Entry) → IsFresh c old → Grows memory_state old new xs → new.book.config ≡ c
+same_config c old new xs begun grown = grown.config_is ∙ begun.is_new.book.config_is
 
--- the record of a group that served the whole trace
-record_of : (c : DriveConfig) (old new : Seen FlashMem) (trace : List Command) (es : List Entry) → IsFresh c old → ServesFirst memory_state old new trace (length trace) false → new.book.entries ≡ es → media_blocks es ≤ 2 ^ 28 → IsRecordOf c trace es
-record_of c old new trace es began served is small =
-    let none : old.book.entries ≡ [] = ap (λ (s : Seen FlashMem). s.book.entries) began.is_new in
-    let all : es ≡ served.es = sym is ∙ served.grown.entries_are ∙ ap (λ xs. xs ++ served.es) none in
-    let config : new.book.config ≡ c = same_config c old new old.flash trace began.is_new served in
-    let unfailing : list_any tells_failure es ≡ false = ap (list_any tells_failure) (sym is) ∙ served.well in
-    let found : new.book.found ≡ fresh c = same_found c old new old.flash trace began.is_new served in
+pub same_found : (c : DriveConfig) (old new : Seen FlashMem) (xs : List Entry) → IsFresh c old → Grows memory_state old new xs → new.book.found ≡ fresh c
+same_found c old new xs begun grown = grown.found_is ∙ begun.is_new.book.found_is
+
+-- there are no more entries than were added
+all_added : (c : DriveConfig) (old new : Seen FlashMem) (es xs : List Entry) → HasServed c old new es → Grows memory_state old new xs → xs ≡ es
+all_added c old new es xs has grown = sym (has.entries_are ∙ grown.entries_are ∙ ap (λ (ys : List Entry). ys ++ xs) has.begun.is_new.book.entries_are)
+
+pub short_history : (c : DriveConfig) (old new : Seen FlashMem) (es xs : List Entry) → HasServed c old new es → Grows memory_state old new xs → length es ≤ 2 ^ 39
+short_history c old new es xs has grown = few_entries (length es) new.book.spent has.few (grown.few (omega (arith, has.begun.is_new.book.spent_is)))
+
+legal_session : (c : DriveConfig) (old new : Seen FlashMem) (es xs : List Entry) → HasServed c old new es → Grows memory_state old new xs → IsLegal true c (fresh c) es
+legal_session c old new es xs has grown =
+    let told : (memory_state new.flash).told ≡ true = grown.matches.made.run.told ∙ has.begun.blank.told in
+    let quiet : list_any tells_failure new.book.entries ≡ false = ap (list_any tells_failure) (sym (all_added c old new es xs has grown ∙ has.entries_are)) ∙ none_told c old new xs has.begun grown in
+    subst (λ (ys : List Entry). IsLegal true c (fresh c) ys) (sym has.entries_are)
+    (subst (λ (x : Found). IsLegal true c x new.book.entries) (same_found c old new xs has.begun grown)
+    (subst (λ (x : DriveConfig). IsLegal true x new.book.found new.book.entries) (same_config c old new xs has.begun grown)
+    (subst (λ (t : Bool). IsLegal t new.book.config new.book.found new.book.entries) told
+    (has.legal (λ media. absurd (false≢true (sym quiet ∙ media-tells new.book.entries media)))))))
+
+session_by : (c : DriveConfig) (old new : Seen FlashMem) (trace : List Command) (end : Result ⊤ Stop) (es xs : List Entry) → HasServed c old new es → Serves memory_state old new trace end → Grows memory_state old new xs → OthersStaySilent 1 xs → IsSession c trace end es
+session_by c old new trace end es xs has served grown others =
+    let all : xs ≡ es = all_added c old new es xs has grown in
+    let well : list_any has_failed grown.calls ≡ false = all_well c old new xs has.begun grown in
     record {
       old = old;
       new = new;
-      begun = began;
+      begun = has.begun;
       served = served;
-      entries_are = is;
-      legal = subst (λ (x : DriveConfig). IsLegalOnce true x (fresh c) es) config (subst (λ (x : Found). IsLegalOnce true new.book.config x es) found (subst (λ xs. IsLegalOnce true new.book.config new.book.found xs) is (served.grown.legal (legal_fresh c old began))));
-      whole = ap (completed 1) all ∙ served.completes ∙ ap numbered (take_all (length trace) trace (omega arith));
-      others = subst (OthersStaySilent 1) (sym all) served.others;
-      unfailing = unfailing;
+      entries_are = sym has.entries_are;
+      legal = legal_session c old new es xs has grown;
+      others = subst (OthersStaySilent 1) all others;
+      unfailing = ap (list_any tells_failure) (sym all) ∙ none_told c old new xs has.begun grown;
       held = record {
-        no_faults = served.grown.flash_is.no_fault (ap (list_any tells_failure) (sym all) ∙ unfailing) ∙ began.blank.faults;
-        programs = served.grown.flash_is.programs ∙ ap (λ n. counted_more n (media_blocks served.es)) began.blank.programs ∙ ap (λ xs. counted_more 0 (media_blocks xs)) (sym all) ∙ small_count (media_blocks es) small;
-        cells = served.grown.cells (held_fresh c old began) served.well refl ∙ ap (λ (x : DriveConfig). cells_of x new.book.found new.book.entries) config ∙ ap (λ (x : Found). cells_of c x new.book.entries) found ∙ ap (cells_of c (fresh c)) is;
+        no_faults = grown.matches.made.no_fault well ∙ has.begun.blank.faults;
+        programs = grown.matches.programs ∙ ap (λ (n : ℕ). counted_more n (media_blocks xs)) has.begun.blank.programs ∙ ap (λ (ys : List Entry). counted_more 0 (media_blocks ys)) all
+            ∙ small_count (media_blocks es) (few_pages es (short_history c old new es xs has grown)) ∙ ap media_blocks has.entries_are;
+        cells = has.cells;
       };
     }
 
--- a trace that was served whole
-pub served_whole : {F : Type 0} (state : F → FlashState) (old new : Seen F) (trace : List Command) (end : ServeEnd) → end ≡ ends.Whole → Serves state old new trace (Ok end) → ServesFirst state old new trace (length trace) false
-served_whole state old new trace end is served = subst (λ e. Serves state old new trace (Ok e)) is served
+-- the record of the group that served the whole trace
+pub recorded : (c : DriveConfig) (old new : Seen FlashMem) (trace : List Command) (es : List Entry) → HasServed c old new es → Serves memory_state old new trace (Ok tt) → IsRecordOf c trace es
+recorded c old new trace es has served = record {
+  session = session_by c old new trace (Ok tt) es served.es has served served.grown served.others;
+  whole = ap (completed 1) (sym (all_added c old new es served.es has served.grown)) ∙ served.completes ∙ ap numbered (take_all (length trace) trace (omega arith));
+}
 
--- the history of a group that served a trace is short
-pub served_few : (c : DriveConfig) (flash : FlashMem) (old new : Seen FlashMem) (trace : List Command) (count : ℕ) → c.blocks_per_command ≤ MOST_COMMAND_BLOCKS → old ≡ new_over memory_state c flash → ServesFirst memory_state old new trace (length trace) false → count ≤ 300 * new.book.spent + 1 → length trace ≤ MOST_TRACE_COMMANDS → count ≤ 2 ^ 28
-served_few c flash old new trace count most made served few short =
-    few_entries c count new.book.spent (length trace) most few (omega (arith, served.steps, ap (λ (s : Seen FlashMem). s.book.spent) made, ap (λ (s : Seen FlashMem). length trace * most_steps s.book.config) made)) short
+-- the group that has no further step for the trace
+pub spent_on : (c : DriveConfig) (old new : Seen FlashMem) (trace : List Command) (es : List Entry) → HasServed c old new es → Serves memory_state old new trace (Err stops.Turns) → IsSpent c trace
+spent_on c old new trace es has served = (es, session_by c old new trace (Err stops.Turns) es served.es has served served.grown served.others)
 
--- the record of the group that was made over a blank flash and then served the whole trace
-pub recorded : (c : DriveConfig) (plan : Plan) (flash : FlashMem) (old new : Seen FlashMem) (trace : List Command) (es : List Entry) →
-    c.blocks_per_command ≤ MOST_COMMAND_BLOCKS → BeginsWith (geometry_of c) (blank_cells c) plan flash → IsTrue (plan_is_empty plan) → old ≡ new_over memory_state c flash →
-    ServesFirst memory_state old new trace (length trace) false → es ≡ new.book.entries → length es ≤ 300 * new.book.spent + 1 → length trace ≤ MOST_TRACE_COMMANDS → IsRecordOf c trace es
-recorded c plan flash old new trace es most begins empty made served shown few short =
-    record_of c old new trace es (fresh_over c plan flash old begins empty made) served (sym shown)
-    (few_pages es (served_few c flash old new trace (length es) most made served few short))
+-- ---- the sums
 
--- what was printed where memory was wanting
+-- the sums that a group tells that served a trace
+pub told_totals : (c : DriveConfig) (old new : Seen FlashMem) (trace : List Command) (es : List Entry) (totals : Totals) → HasServed c old new es → Serves memory_state old new trace (Ok tt) → totals ≡ totals_of new.book.found new.book.entries → totals ≡ totals_of (fresh c) es
+told_totals c old new trace es totals has served told =
+    told ∙ ap (λ (x : Found). totals_of x new.book.entries) (same_found c old new served.es has.begun served.grown) ∙ ap (totals_of (fresh c)) (sym has.entries_are)
+
+-- they can be told in bytes
+pub served_small : (c : DriveConfig) (old new : Seen FlashMem) (trace : List Command) (es : List Entry) (totals : Totals) → HasServed c old new es → Serves memory_state old new trace (Ok tt) → length trace ≤ MOST_TRACE_COMMANDS → totals ≡ totals_of new.book.found new.book.entries → AreSmall totals
+served_small c old new trace es totals has served short told =
+    let r = recorded c old new trace es has served in
+    subst AreSmall (sym (told_totals c old new trace es totals has served told))
+    (small_fresh true c es r.session.legal (λ other some ne. (r.session.others other some ne).completes)
+    (omega (arith, short, ap length r.whole, length-enumerate_from 0 trace)) (short_history c old new es served.es has served.grown))
+
+-- ---- what was printed
+
+-- where memory was wanting
 pub printed_some : (old new : SinkState) (text : List ℕ) (cut : Cut) → cut ≡ cuts.NoMemory → Prints old new text (Err cut) → HoldsSome old new text
 printed_some old new text cut is prints = subst (λ e. Prints old new text (Err e)) is prints
 
--- what was printed where a write failed
+-- where a write failed
 pub printed_front : (old new : SinkState) (text : List ℕ) (cut : Cut) → cut ≡ cuts.Sink → Prints old new text (Err cut) → HoldsFront old new text
 printed_front old new text cut is prints = subst (λ e. Prints old new text (Err e)) is prints
-
--- a flash that is blank by its geometry is blank by the configuration
-pub begun_blank : (c : DriveConfig) (geometry : Geometry) (plan : Plan) (flash : FlashMem) → geometry ≡ geometry_of c → BeginsWith geometry (replicate (all_pages geometry) Blank) plan flash → BeginsWith (geometry_of c) (blank_cells c) plan flash
-unfolding blank_cells
-begun_blank c geometry plan flash is begins = subst (λ (x : Geometry). BeginsWith x (replicate (all_pages x) Blank) plan flash) is begins
-
--- no write is going before the first command
-pub idle_fresh : (c : DriveConfig) (flash : FlashMem) (group : Seen FlashMem) → group ≡ new_over memory_state c flash → IsIdle group.book
-unfolding point_of state_of first_state
-idle_fresh c flash group is = subst (λ (s : Seen FlashMem). IsIdle s.book) (sym is) refl
-
--- the sums of a group that served a trace can be told in bytes
-pub served_small : (told : Bool) (c : DriveConfig) (flash : FlashMem) (old new : Seen FlashMem) (trace : List Command) (es : List Entry) (sums : Totals) → c.blocks_per_command ≤ MOST_COMMAND_BLOCKS → old ≡ new_over memory_state c flash → ServesFirst memory_state old new trace (length trace) false →
-    es ≡ new.book.entries → length es ≤ 300 * new.book.spent + 1 → length trace ≤ MOST_TRACE_COMMANDS → IsLegalOnce told new.book.config new.book.found new.book.entries → sums ≡ totals_of new.book.found new.book.entries → AreSmall sums
-served_small told c flash old new trace es sums most made served shown few short legal is =
-    subst AreSmall (sym is) (small_sums told new.book.config new.book.found c new.book.entries (same_found c old new flash trace made served) legal (omega (arith, served_few c flash old new trace (length es) most made served few short, ap length shown)))

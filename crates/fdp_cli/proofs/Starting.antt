@@ -1,11 +1,11 @@
 -- A write that was started.
-use Rattle.std.proofs.Common.{◌≡◌, ℕ, ◌+◌, ◌≤◌, true, refl, ap, arith, None, Some}
+use Rattle.std.proofs.Common.{◌≡◌, ℕ, true, refl, ap, None, Some}
 use Rattle.std.specs.Prelude.{Option, is_some, option_map}
 use Rattle.fdp_base.specs.declared.command.Command.{Command}
 use Rattle.fdp_base.specs.declared.config.DriveConfig.{DriveConfig}
-use Rattle.fdp_base.specs.CommandKinds.{IsWellFormed, blocks_written, is_write, write_of}
+use Rattle.fdp_base.specs.CommandKinds.{IsWellFormed, is_write, write_of}
 use Rattle.fdp_rules.specs.Target.{Target}
-use Rattle.fdp_history.proofs.Checks.{accepted-write, formed-write}
+use Rattle.fdp_history.proofs.Checks.{formed-write}
 use Rattle.fdp_flash.specs.FlashState.{FlashState}
 use Rattle.fdp_book.specs.declared.ticket.Ticket.{Ticket}
 use Rattle.fdp_core.specs.Answers.{Starts}
@@ -22,14 +22,9 @@ targeted f command target is =
 started-write : {F : Type 0} (state : F → FlashState) (old new : Seen F) (number : ℕ) (command : Command) (ticket : Ticket) → Starts state old new 1 number command ticket → is_write command ≡ true
 started-write state old new number command ticket s = targeted _ command s.target s.target_is
 
--- a write that was started has no more blocks than there are steps left but for one
-started_spare : {F : Type 0} (state : F → FlashState) (old new : Seen F) (number : ℕ) (command : Command) (ticket : Ticket) → old.book.config.blocks_per_command + 2 ≤ old.book.spare → Starts state old new 1 number command ticket → blocks_written command + 1 ≤ new.book.spare
-started_spare state old new number command ticket spare s =
-    omega (arith, spare, s.step.book.spare_is, (accepted-write old.book.config _ command (started-write state old new number command ticket s) s.accepted).count)
-
--- a well formed write that was started has each of its pages still to be placed, and room for the steps
-pub started_placing : {F : Type 0} (state : F → FlashState) (old new : Seen F) (c : DriveConfig) (number : ℕ) (command : Command) (ticket : Ticket) → old.book.config.blocks_per_command + 2 ≤ old.book.spare → IsWellFormed c command → Starts state old new 1 number command ticket → IsPlacing new.book ticket
-started_placing state old new c number command ticket spare formed s =
+-- a well formed write that was started has each of its pages still to be placed
+pub started_placing : {F : Type 0} (state : F → FlashState) (old new : Seen F) (c : DriveConfig) (number : ℕ) (command : Command) (ticket : Ticket) → IsWellFormed c command → Starts state old new 1 number command ticket → IsPlacing new.book ticket
+started_placing state old new c number command ticket formed s =
     let write : is_write command ≡ true = started-write state old new number command ticket s in
     record {
       going = _;
@@ -38,5 +33,4 @@ started_placing state old new c number command ticket spare formed s =
       write = write;
       some = formed-write c command write formed;
       placed_are = refl;
-      room = started_spare state old new number command ticket spare s;
     }

@@ -29,6 +29,7 @@ status_of faults.TraceLong = 3
 status_of (faults.TraceLine line kind) = 3
 status_of faults.Source = 6
 status_of faults.NoMemory = 7
+status_of faults.Turns = 9
 
 -- the line where there is no configuration
 abbrev pub config_fault : NoConfig → List ℕ
@@ -48,3 +49,4 @@ fault_text faults.TraceLong = codes "fault 3 trace 1 long\n"
 fault_text (faults.TraceLine number kind) = line_fault number kind
 fault_text faults.Source = codes "fault 6 source\n"
 fault_text faults.NoMemory = []
+fault_text faults.Turns = codes "fault 9 turns\n"

@@ -7,11 +7,12 @@ use Rattle.fdp_base.specs.declared.entry.Entry.{Entry}
 use Rattle.fdp_io.specs.Bench.{BenchState}
 use Rattle.fdp_io.specs.Sink.{Holds, HoldsFront, SinkState}
 use Rattle.fdp_cli.specs.declared.fault.Fault.{Fault}
+use Rattle.fdp_cli.specs.declared.fault.Fault.TheVariants as faults
 use Rattle.fdp_cli.specs.Faults.{fault_text, status_of}
 use Rattle.fdp_cli.specs.Wanted.{CountsSource, Finds, Lacks}
 use Rattle.fdp_cli.specs.OutputText.{printed_text}
 use Rattle.fdp_cli.specs.Printing.{HoldsSome}
-use Rattle.fdp_cli.specs.Session.{IsRecordOf}
+use Rattle.fdp_cli.specs.Session.{IsRecordOf, IsSpent}
 
 -- the line of the fault was printed; or a write of the sink failed, or memory was wanting
 abbrev pub Refuses : SinkState → SinkState → Fault → ℕ → Type 0
@@ -25,13 +26,15 @@ abbrev pub Shows : DriveConfig → List Command → (List ℕ → Type 0) → Ty
 Shows c trace Printed = (es : List Entry) × IsRecordOf c trace es × Printed (printed_text c es)
 
 -- the sink received the whole output (0), or a prefix of it where a write failed (8) or memory was wanting (7); or
--- memory was wanting before the output was due, and nothing was printed (7)
+-- memory was wanting before the output was due, and nothing was printed (7); or the trace needs more steps than a drive may make, and the
+-- line of that fault was printed (9)
 abbrev pub Runs : SinkState → SinkState → DriveConfig → List Command → ℕ → Type 0
 Runs old new c trace status =
     ((status ≡ 0) × Shows c trace (λ text. Holds old new text))
     ⊎ ((status ≡ 8) × Shows c trace (λ text. HoldsFront old new text))
     ⊎ ((status ≡ 7) × Shows c trace (λ text. HoldsSome old new text))
     ⊎ ((status ≡ 7) × (new ≡ old))
+    ⊎ (IsSpent c trace × Refuses old new faults.Turns status)
 
 -- a configuration and a trace were found, and the trace was served
 abbrev pub FindsAndRuns : BenchState → List (String Global) → SinkState → SinkState → ℕ → Type 0

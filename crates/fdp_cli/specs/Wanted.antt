@@ -38,7 +38,7 @@ pub record IsTooLong (found : Option (List ℕ)) : Type 0 where
   pub there : found ≡ Some text
   pub long : LONGEST_TRACE < length text
 
--- the fault of a text, unless memory was wanting; no text comes to a fault of the words or of a configuration
+-- the fault of a text, unless memory was wanting; no text comes to a fault of the words, of a configuration or of the drive
 abbrev pub HasFault : List ℕ → Fault → Type 0
 HasFault text faults.Usage = ⊥
 HasFault text faults.NotBuilt = IsUnservedTrace text
@@ -48,6 +48,7 @@ HasFault text faults.TraceLong = ⊥
 HasFault text (faults.TraceLine line kind) = IsFaultOf text line kind
 HasFault text faults.Source = ⊥
 HasFault text faults.NoMemory = Unit {0}
+HasFault text faults.Turns = ⊥
 
 -- a text that may be there comes to these commands, or to this fault
 abbrev pub ComesTo : Option (List ℕ) → Result (List Command) Fault → Type 0
@@ -60,6 +61,7 @@ ComesTo found (Err faults.TraceLong) = IsTooLong found
 ComesTo found (Err (faults.TraceLine line kind)) = (text : List ℕ) × IsReadable found text × IsFaultOf text line kind
 ComesTo found (Err faults.Source) = ⊥
 ComesTo found (Err faults.NoMemory) = ⊥
+ComesTo found (Err faults.Turns) = ⊥
 
 -- where the bench tells its texts, the text of this name comes to this
 abbrev pub Reads : BenchState → List ℕ → Result (List Command) Fault → Type 0
@@ -75,6 +77,7 @@ ConfigLacks old new name faults.TraceLong = ⊥
 ConfigLacks old new name (faults.TraceLine line kind) = ⊥
 ConfigLacks old new name faults.Source = Rose old.faults new.faults
 ConfigLacks old new name faults.NoMemory = Unit {0}
+ConfigLacks old new name faults.Turns = ⊥
 
 -- why a run finds no commands of this name
 abbrev pub TraceLacks : BenchState → BenchState → List ℕ → Fault → Type 0
@@ -86,6 +89,7 @@ TraceLacks old new name faults.TraceLong = Reads old name (Err faults.TraceLong)
 TraceLacks old new name (faults.TraceLine line kind) = Reads old name (Err (faults.TraceLine line kind))
 TraceLacks old new name faults.Source = Rose old.faults new.faults
 TraceLacks old new name faults.NoMemory = Unit {0}
+TraceLacks old new name faults.Turns = ⊥
 
 -- a call of the bench that failed was counted where that is the fault, and nothing was where it is another
 abbrev pub CountsSource : ℕ → ℕ → Fault → Type 0
@@ -97,6 +101,7 @@ CountsSource old new faults.TraceLong = new ≡ old
 CountsSource old new (faults.TraceLine line kind) = new ≡ old
 CountsSource old new faults.Source = Rose old new
 CountsSource old new faults.NoMemory = new ≡ old
+CountsSource old new faults.Turns = new ≡ old
 
 -- the words ask for a configuration and a trace, and these are they; a drive can be made with the configuration
 pub record Finds (bench : BenchState) (words : List (String Global)) (c : DriveConfig) (trace : List Command) : Type 0 where
@@ -135,3 +140,4 @@ Lacks old new words faults.TraceLong = LacksTrace old words faults.TraceLong
 Lacks old new words (faults.TraceLine line kind) = LacksTrace old words (faults.TraceLine line kind)
 Lacks old new words faults.Source = AsksForTexts words × Rose old.faults new.faults
 Lacks old new words faults.NoMemory = Unit {0}
+Lacks old new words faults.Turns = ⊥

@@ -5,7 +5,7 @@ use fdp_config::{ConfigFault, NoConfig};
 use fdp_trace::{FaultKind, push_decimal};
 use std::alloc::{AllocError, Global};
 
-/// Why a run ended before its drive was made.
+/// Why a run ended without its output.
 #[derive(Debug, Drop)]
 pub enum Fault {
     /// The words are not `run`, a configuration, an image and 1 to 16 traces, or one of them begins with `-`.
@@ -23,6 +23,8 @@ pub enum Fault {
     /// A call of the bench failed.
     Source,
     NoMemory,
+    /// The trace needs a further step, and the drive has made all that it may make.
+    Turns,
 }
 
 impl Fault {
@@ -38,6 +40,7 @@ impl Fault {
             Fault::TraceLine { .. } => 3,
             Fault::Source => 6,
             Fault::NoMemory => 7,
+            Fault::Turns => 9,
             Fault::NotBuilt => 10,
         }
     }
@@ -73,6 +76,7 @@ pub fn push_fault(alloc: Global, fault: &Fault, into: &mut Vec<u8>) -> Result<()
         Fault::TraceLong => into.extend_from_slice(b"fault 3 trace 1 long\n"),
         Fault::TraceLine { line, kind } => push_line_fault(*line, *kind, into),
         Fault::Source => into.extend_from_slice(b"fault 6 source\n"),
+        Fault::Turns => into.extend_from_slice(b"fault 9 turns\n"),
         Fault::NotBuilt => into.extend_from_slice(b"fault 10 not-built\n"),
         Fault::NoMemory => Ok(()),
     }

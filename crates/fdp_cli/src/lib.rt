@@ -12,7 +12,7 @@ mod top;
 pub use exit::drive_process;
 pub use fault::Fault;
 pub use print::{Cut, print_output};
-pub use serving::{ServeEnd, serve};
+pub use serving::{Stop, serve};
 pub use top::drive_top;
 
 #[cfg(test)]

@@ -1,8 +1,6 @@
-ghost use Rattle.std.specs.Prelude.{◌≡◌, ◌+◌, ◌*◌, ◌≤◌, ◌<◌, ◌^◌, false, All, MatchResult, length};
-ghost use Rattle.fdp_core.specs.Steps.{most_steps};
+ghost use Rattle.std.specs.Prelude.{◌≡◌, ◌≤◌, All, MatchResult, length};
 ghost use Rattle.fdp_cli.specs.Servable.{IsServable};
-ghost use Rattle.fdp_cli.specs.Serving.{EndsWrite, IsIdle, IsPlacing, PlacesAll, Serves, ServesOne};
-ghost use Rattle.fdp_core.specs.Seen.{failed_in};
+ghost use Rattle.fdp_cli.specs.Serving.{EndsWrite, HasStep, IsIdle, IsPlacing, IsStopped, PlacesAll, Serves, ServesOne, StopsShort};
 
 use fdp_base::{Command, MOST_TRACE_COMMANDS};
 use fdp_book::{Room, Ticket};
@@ -10,36 +8,39 @@ use fdp_core::{Begun, Group, Placed};
 use fdp_flash::Flash;
 use std::alloc::{AllocError, Global};
 
-/// How the serving of a trace ended.
+/// The most steps of a drive in one run.
+const MOST_STEPS: u32 = 1 << 30;
+
+/// Why a trace was not served whole.
 #[derive(Clone, Copy, Debug, PartialEq, Eq)]
-pub enum ServeEnd {
-    /// Each command was completed.
-    Whole,
-    /// A call of the flash failed, and no further step may follow.
-    Broken,
+pub enum Stop {
+    /// A further step is needed, and the drive has made all that it may make.
+    Turns,
+    NoMemory,
 }
 
-/// Serves the commands of a trace one after another, as queue 1. Each takes memory before its first step, and none
-/// from then on.
-pub fn serve<F: Flash>(
-    alloc: Global,
-    group: &mut Group<F>,
-    trace: &[Command],
-) -> Result<ServeEnd, AllocError>
-    requires sound { failed_in group.old.book ≡ false }
+impl From<AllocError> for Stop {
+    ghost use Rattle.fdp_cli.specs.declared.serving.Stop.TheVariants.{NoMemory};
+
+    ghost from_gives = { λ _ stop. stop ≡ NoMemory };
+
+    fn from(_e: AllocError) -> Stop {
+        Stop::NoMemory
+    }
+}
+
+/// Serves the commands of a trace one after another, as queue 1. Each step takes its memory before it is made. Where memory or steps are
+/// wanting, a write may be left going.
+pub fn serve<F: Flash>(alloc: Global, group: &mut Group<F>, trace: &[Command]) -> Result<(), Stop>
     requires servable { All (IsServable group.old.book.config) trace.now }
     requires number { length trace.now ≤ MOST_TRACE_COMMANDS }
-    requires steps { group.old.book.spent + length trace.now * most_steps group.old.book.config ≤ 2 ^ 30 }
     requires idle { IsIdle group.old.book }
     ensures { Serves F.state group.old group.new trace.now result }
 {
     for (number, command) in trace.iter().enumerate() {
         serve_one(alloc, group, number as u16, command)?;
-        if group.failed() {
-            return Ok(ServeEnd::Broken);
-        }
     }
-    Ok(ServeEnd::Whole)
+    Ok(())
 }
 
 fn serve_one<F: Flash>(
@@ -47,51 +48,75 @@ fn serve_one<F: Flash>(
     group: &mut Group<F>,
     number: u16,
     command: &Command,
-) -> Result<(), AllocError>
-    requires sound { failed_in group.old.book ≡ false }
+) -> Result<(), Stop>
     requires servable { IsServable group.old.book.config command.now }
-    requires steps { group.old.book.spent + most_steps group.old.book.config ≤ 2 ^ 30 }
     requires idle { IsIdle group.old.book }
     ensures { MatchResult result
         (λ _. ServesOne F.state group.old group.new number command.now)
-        (λ _. group.new ≡ record group.old { book = record group.old.book { spare = group.new.book.spare } }) }
+        (λ stop. StopsShort F.state group.old group.new stop) }
 {
-    group.reserve(group.most_steps())?;
+    reserve_step(group)?;
     let room = Room::new(alloc, command, group.config())?;
     let begun = command.copied()?;
     match group.start(1, number, begun, room) {
-        Begun::Ended(done) => drop(done),
+        Begun::Ended(done) => {
+            drop(done);
+            Ok(())
+        }
         Begun::Going(ticket) => end_write(group, ticket),
     }
-    Ok(())
 }
 
 /// Places the pages of a write, and commits it.
-fn end_write<F: Flash>(group: &mut Group<F>, ticket: Ticket)
+fn end_write<F: Flash>(group: &mut Group<F>, ticket: Ticket) -> Result<(), Stop>
     requires placing { IsPlacing group.old.book ticket }
-    requires sound { failed_in group.old.book ≡ false }
-    ensures { EndsWrite F.state group.old group.new ticket }
+    ensures { MatchResult result
+        (λ _. EndsWrite F.state group.old group.new ticket)
+        (λ stop. StopsShort F.state group.old group.new stop) }
 {
-    if let Some(ticket) = place_all(group, ticket) {
-        drop(group.commit(ticket));
+    let Some(ticket) = place_all(group, ticket)? else {
+        return Ok(());
+    };
+    if let Err(stop) = reserve_step(group) {
+        group.abandon(ticket);
+        return Err(stop);
     }
+    drop(group.commit(ticket));
+    Ok(())
 }
 
 /// Places the pages of a write one after another, until all are placed or it ends.
-fn place_all<F: Flash>(group: &mut Group<F>, ticket: Ticket) -> Option<Ticket>
+fn place_all<F: Flash>(group: &mut Group<F>, ticket: Ticket) -> Result<Option<Ticket>, Stop>
     requires placing { IsPlacing group.old.book ticket }
-    requires sound { failed_in group.old.book ≡ false }
-    ensures { PlacesAll F.state group.old group.new ticket result }
+    ensures { MatchResult result
+        (λ placed. PlacesAll F.state group.old group.new ticket placed)
+        (λ stop. StopsShort F.state group.old group.new stop) }
 {
     let mut ticket = ticket;
     loop {
+        if let Err(stop) = reserve_step(group) {
+            group.abandon(ticket);
+            return Err(stop);
+        }
         match group.place(ticket) {
             Placed::More(next) => ticket = next,
-            Placed::Ready(next) => return Some(next),
+            Placed::Ready(next) => return Ok(Some(next)),
             Placed::Ended(done) => {
                 drop(done);
-                return None;
+                return Ok(None);
             }
         }
     }
+}
+
+/// Takes the memory for a further step.
+fn reserve_step<F: Flash>(group: &mut Group<F>) -> Result<(), Stop>
+    ensures kept { group.new ≡ record group.old { book = record group.old.book { spare = group.new.book.spare } } }
+    ensures answer { MatchResult result (λ _. HasStep group.new.book) (λ stop. IsStopped group.new.book stop) }
+{
+    if group.spent() == MOST_STEPS {
+        return Err(Stop::Turns);
+    }
+    group.reserve(1)?;
+    Ok(())
 }

@@ -7,7 +7,7 @@ ghost use Rattle.fdp_cli.specs.Top.{Answers, Refuses, Runs};
 use crate::fault::{Fault, push_fault};
 use crate::find::find;
 use crate::print::{Cut, print_output};
-use crate::serving::{ServeEnd, serve};
+use crate::serving::{Stop, serve};
 use fdp_base::{Command, DriveConfig, MOST_TRACE_COMMANDS};
 use fdp_core::Group;
 use fdp_flash::{FlashMem, Plan};
@@ -21,6 +21,7 @@ use std::alloc::Global;
 /// - 1, 2, 3, 6, 10: what [`Fault`] says; the sink took the line of the fault.
 /// - 7: memory was wanting.
 /// - 8: a write of the sink failed.
+/// - 9: the trace needs more steps than a drive may make; the sink took the line of that fault.
 pub fn drive_top<B: Bench, K: Sink>(
     alloc: Global,
     words: &[String],
@@ -74,14 +75,16 @@ fn run<K: Sink>(alloc: Global, config: &DriveConfig, trace: &[Command], sink: &m
         return 7;
     };
     match serve(alloc, &mut group, trace) {
-        Ok(ServeEnd::Whole) => {
-            match print_output(alloc, config, group.entries(), group.totals(), sink) {
-                Ok(()) => 0,
-                Err(Cut::Sink) => 8,
-                Err(Cut::NoMemory) => 7,
-            }
+        Ok(()) => match print_output(alloc, config, group.entries(), group.totals(), sink) {
+            Ok(()) => 0,
+            Err(Cut::Sink) => 8,
+            Err(Cut::NoMemory) => 7,
+        },
+        Err(Stop::Turns) => {
+            // Read, so that its history is known.
+            let _entries = group.entries();
+            refuse(alloc, Fault::Turns, sink)
         }
-        Ok(ServeEnd::Broken) => unreachable!(),
-        Err(_error) => 7,
+        Err(Stop::NoMemory) => 7,
     }
 }

@@ -1,3 +1,4 @@
+use crate::repeat::Repeat;
 use crate::text::Text;
 use fdp_cli::drive_top;
 use fdp_io::{BenchMem, SinkMem};
@@ -12,6 +13,8 @@ pub struct Rows {
     texts: Vec<Text>,
     /// The text whose lines follow.
     open: Option<Text>,
+    /// Lines of it that are to be repeated.
+    repeat: Option<Repeat>,
     bench_fails: Option<u64>,
     sink_fails: Option<u64>,
     room: usize,
@@ -22,6 +25,7 @@ impl Rows {
         Rows {
             texts: Vec::new(alloc),
             open: None,
+            repeat: None,
             bench_fails: None,
             sink_fails: None,
             room: AMPLE,
@@ -36,7 +40,7 @@ impl Rows {
         output: &mut Vec<u8>,
     ) -> Result<(), AllocError> {
         match self.open.take() {
-            Some(text) => self.go_on(text, line),
+            Some(text) => self.go_on(alloc, text, line),
             None => match str::from_utf8(line) {
                 Ok(line) => self.command(alloc, line, output),
                 Err(_) => Ok(()),
@@ -44,18 +48,37 @@ impl Rows {
         }
     }
 
-    /// A line of a text. A dot ends it, and a dot with a tilde ends it without the end of its last line.
-    fn go_on(&mut self, mut text: Text, line: &[u8]) -> Result<(), AllocError> {
+    /// A line of a text. A dot ends it, and a dot with a tilde ends it without the end of its last line. A star with three numbers begins lines
+    /// that are repeated for each number from the first to the second, by the third, and a star ends them.
+    fn go_on(&mut self, alloc: Global, mut text: Text, line: &[u8]) -> Result<(), AllocError> {
         if line == b".~".as_slice() {
             text.bytes.pop();
         } else if line != b".".as_slice() {
-            text.bytes.extend_from_slice(line)?;
-            text.bytes.push(b'\n')?;
+            self.add_line(alloc, &mut text, line)?;
             self.open = Some(text);
             return Ok(());
         }
         self.texts.push(text)?;
         Ok(())
+    }
+
+    fn add_line(&mut self, alloc: Global, text: &mut Text, line: &[u8]) -> Result<(), AllocError> {
+        match self.repeat.take() {
+            Some(repeat) if line == b"*".as_slice() => repeat.add_to(&mut text.bytes),
+            Some(mut repeat) => {
+                repeat.push(line)?;
+                self.repeat = Some(repeat);
+                Ok(())
+            }
+            None => {
+                self.repeat = Repeat::of(alloc, line);
+                if self.repeat.is_none() {
+                    text.bytes.extend_from_slice(line)?;
+                    text.bytes.push(b'\n')?;
+                }
+                Ok(())
+            }
+        }
     }
 
     /// `text NAME` begins a text; `bench N` and `sink N` let that call of the next run fail, and `room N` gives its sink so

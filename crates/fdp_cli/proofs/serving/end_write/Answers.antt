@@ -1,9 +1,26 @@
-use Rattle.fdp_cli.proofs.Served.{ends_committing, placing_ready}
+use Rattle.std.proofs.Common.{subst}
+use Rattle.fdp_cli.specs.Serving.{PlacesAll, PlacesEach}
+use Rattle.fdp_cli.proofs.Served.{each-reserved, ends_committing, placing_ready}
+use Rattle.fdp_cli.proofs.serving.end_write.Given.{Over}
 use Rattle.fdp_cli.proofs.serving.end_write.Goals as goal
 
-pub commit-requires-clause-ticket : goal.commit-requires-clause-ticket
-commit-requires-clause-ticket g c = placing_ready g.F.Flash.state c.args.group.now c.place_all.new.group c.args.ticket c.in-Some.ticket c.in-Some.ensures
+pub abandon-requires : goal.abandon-requires
+abandon-requires g c =
+    let each = subst (PlacesAll g.F.Flash.state c.args.group.now c.place_all.new.group c.args.ticket) c.in-Some.is c.in_ok-ticket.ensures in
+    let p = each-reserved g.F.Flash.state c.args.group.now c.place_all.new.group c.reserve_step.new.group c.args.ticket c.in-Some.ticket each c.reserve_step.ensures.kept in
+    record { going = _; ticket_is = p.places.to }
 
-pub returns-in-Some : goal.returns-in-Some
-returns-in-Some g c =
-    ends_committing g.F.Flash.state c.args.group.now c.place_all.new.group c.commit.new.self c.args.ticket c.in-Some.ticket c.in-Some.ensures c.commit.result (c.commit.ensures _ c.in-Some.ensures.places.to)
+-- the pages that were placed, once there is memory for the step
+each : (g : Over) (c : goal.After-commit-arg-1 g) → PlacesEach g.F.Flash.state c.args.group.now c.reserve_step.new.group c.args.ticket c.in-Some.ticket
+each g c =
+    each-reserved g.F.Flash.state c.args.group.now c.place_all.new.group c.reserve_step.new.group c.args.ticket c.in-Some.ticket
+    (subst (PlacesAll g.F.Flash.state c.args.group.now c.place_all.new.group c.args.ticket) c.in-Some.is c.in_ok-ticket.ensures) c.reserve_step.ensures.kept
+
+pub commit-requires-clause-ticket : goal.commit-requires-clause-ticket
+commit-requires-clause-ticket g c = placing_ready g.F.Flash.state c.args.group.now c.reserve_step.new.group c.args.ticket c.in-Some.ticket (each g c)
+
+pub returns : goal.returns
+returns g c =
+    let p = each-reserved g.F.Flash.state c.args.group.now c.place_all.new.group c.reserve_step.new.group c.args.ticket c.in-Some.ticket
+    (subst (PlacesAll g.F.Flash.state c.args.group.now c.place_all.new.group c.args.ticket) c.in-Some.is c.in_ok-ticket.ensures) c.reserve_step.ensures.kept in
+    ends_committing g.F.Flash.state c.args.group.now c.reserve_step.new.group c.commit.new.self c.args.ticket c.in-Some.ticket p c.commit.result c.in_default-reserve_step.ensures.answer (c.commit.ensures _ p.places.to)

@@ -1,29 +1,43 @@
-use Rattle.std.proofs.Common.{arith}
-use Rattle.fdp_cli.proofs.Served.{ends_placing, placed_all, placed_more, still-all, still_room, still_waits}
+use Rattle.std.proofs.Common.{ap, arith}
+use Rattle.fdp_core.specs.Seen.{Seen}
+use Rattle.fdp_cli.proofs.Served.{StillPlaces, ends_placing, placed_all, placed_more, placed_spent, still-all, still-reserved, still_waits}
+use Rattle.fdp_cli.proofs.serving.place_all.Given.{Over}
 use Rattle.fdp_cli.proofs.serving.place_all.Goals as goal
 
-pub loop-next-init : goal.loop-next-init
-loop-next-init g c = still-all g.F.Flash.state c.args.group.now c.args.ticket c.requires.sound c.requires.placing
+pub loop-stop-init : goal.loop-stop-init
+loop-stop-init g c = still-all g.F.Flash.state c.args.group.now c.args.ticket c.requires.placing
+
+pub abandon-requires : goal.abandon-requires
+abandon-requires g c =
+    let p = still-reserved g.F.Flash.state c.args.group.now c.loop-stop.group c.reserve_step.new.group c.args.ticket c.loop-stop.ticket c.loop-stop.invariant c.reserve_step.ensures.kept in
+    record { going = _; ticket_is = p.places.to }
+
+-- the pages that are placed, once there is memory for the step
+still : (g : Over) (c : goal.After-place-arg-1 g) → StillPlaces g.F.Flash.state c.args.group.now c.reserve_step.new.group c.args.ticket c.loop-stop.ticket
+still g c = still-reserved g.F.Flash.state c.args.group.now c.loop-stop.group c.reserve_step.new.group c.args.ticket c.loop-stop.ticket c.loop-stop.invariant c.reserve_step.ensures.kept
 
 pub place-requires-clause-ticket : goal.place-requires-clause-ticket
-place-requires-clause-ticket g c = still_waits g.F.Flash.state c.args.group.now c.loop-next.group c.args.ticket c.loop-next.ticket c.loop-next.invariant
+place-requires-clause-ticket g c = still_waits g.F.Flash.state c.args.group.now c.reserve_step.new.group c.args.ticket c.loop-stop.ticket (still g c)
 
-pub place-requires-clause-spare : goal.place-requires-clause-spare
-place-requires-clause-spare g c = still_room g.F.Flash.state c.args.group.now c.loop-next.group c.args.ticket c.loop-next.ticket c.loop-next.invariant
+pub loop-stop-preserved : goal.loop-stop-preserved
+loop-stop-preserved g c =
+    let p = still-reserved g.F.Flash.state c.args.group.now c.loop-stop.group c.reserve_step.new.group c.args.ticket c.loop-stop.ticket c.loop-stop.invariant c.reserve_step.ensures.kept in
+    placed_more g.F.Flash.state c.args.group.now c.reserve_step.new.group c.place.new.self c.args.ticket c.loop-stop.ticket c.in-More.next p c.in_default.ensures.answer (c.in-More.ensures _ p.places.to)
 
-pub place-requires-clause-sound : goal.place-requires-clause-sound
-place-requires-clause-sound g c = c.loop-next.invariant.places.well
+pub loop-stop-smaller : goal.loop-stop-smaller
+loop-stop-smaller g c =
+    let p = still-reserved g.F.Flash.state c.args.group.now c.loop-stop.group c.reserve_step.new.group c.args.ticket c.loop-stop.ticket c.loop-stop.invariant c.reserve_step.ensures.kept in
+    let spent = placed_spent g.F.Flash.state c.reserve_step.new.group c.place.new.self c.loop-stop.ticket c.in-More.next _ (c.in-More.ensures _ p.places.to) in
+    let same = ap (λ (s : Seen _). s.book.spent) c.reserve_step.ensures.kept in
+    let has = c.in_default.ensures.answer in
+    omega (arith, spent, same, has.left)
 
 pub returns-in-Ready : goal.returns-in-Ready
-returns-in-Ready g c = placed_all g.F.Flash.state c.args.group.now c.loop-next.group c.place.new.self c.args.ticket c.loop-next.ticket c.in-Ready.next c.loop-next.invariant (c.in-Ready.ensures _ c.loop-next.invariant.places.to)
+returns-in-Ready g c =
+    let p = still-reserved g.F.Flash.state c.args.group.now c.loop-stop.group c.reserve_step.new.group c.args.ticket c.loop-stop.ticket c.loop-stop.invariant c.reserve_step.ensures.kept in
+    placed_all g.F.Flash.state c.args.group.now c.reserve_step.new.group c.place.new.self c.args.ticket c.loop-stop.ticket c.in-Ready.next p c.in_default.ensures.answer (c.in-Ready.ensures _ p.places.to)
 
 pub returns-in-Ended : goal.returns-in-Ended
-returns-in-Ended g c = ends_placing g.F.Flash.state c.args.group.now c.loop-next.group c.place.new.self c.args.ticket c.loop-next.ticket c.loop-next.invariant c.in-Ended.done (c.in-Ended.ensures _ c.loop-next.invariant.places.to)
-
-pub loop-next-preserved : goal.loop-next-preserved
-loop-next-preserved g c = placed_more g.F.Flash.state c.args.group.now c.loop-next.group c.place.new.self c.args.ticket c.loop-next.ticket c.in-More.next c.loop-next.invariant (c.in-More.ensures _ c.loop-next.invariant.places.to)
-
-pub loop-next-smaller : goal.loop-next-smaller
-loop-next-smaller g c =
-    let placed = c.in-More.ensures _ c.loop-next.invariant.places.to in
-    omega (arith, placed.0.step.book.spare_is)
+returns-in-Ended g c =
+    let p = still-reserved g.F.Flash.state c.args.group.now c.loop-stop.group c.reserve_step.new.group c.args.ticket c.loop-stop.ticket c.loop-stop.invariant c.reserve_step.ensures.kept in
+    ends_placing g.F.Flash.state c.args.group.now c.reserve_step.new.group c.place.new.self c.args.ticket c.loop-stop.ticket p c.in-Ended.done c.in_default.ensures.answer (c.in-Ended.ensures _ p.places.to)

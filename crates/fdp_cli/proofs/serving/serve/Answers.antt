@@ -1,30 +1,20 @@
-use Rattle.std.proofs.Common.{◌≡◌, ◌+◌, ◌*◌, ◌<◌, ◌≤◌, true, false, length, ap, sym, arith}
-use Rattle.std.proofs.Math.Nat.{add-mul, one-mul}
-use Rattle.std.proofs.lemmas.Nat.{mul-le}
-use Rattle.fdp_core.specs.Steps.{most_steps}
-use Rattle.fdp_cli.proofs.Served.{first-more, first-none}
+use Rattle.std.proofs.Common.{◌<◌, length, arith}
+use Rattle.std.proofs.lemmas.Result.{err_from_is_err_and}
+use Rattle.fdp_cli.proofs.Served.{first-more, first-none, first-short, part_of}
 use Rattle.fdp_cli.proofs.serving.serve.Goals as goal
 
 pub loop-number-init : goal.loop-number-init
-loop-number-init g c = first-none g.F.Flash.state c.args.group.now c.args.trace.now c.requires.sound c.requires.idle
+loop-number-init g c = first-none g.F.Flash.state c.args.group.now c.args.trace.now c.requires.idle
 
-pub serve_one-requires-clause-steps : goal.serve_one-requires-clause-steps
-serve_one-requires-clause-steps g c =
+pub returns-in_err-serve_one : goal.returns-in_err-serve_one
+returns-in_err-serve_one g c =
     let n = c.loop-number.number in
     let low : n < length c.args.trace.now = omega arith in
-    let most = most_steps c.args.group.now.book.config in
-    let same : most_steps c.loop-number.group.book.config ≡ most = ap most_steps c.loop-number.invariant.grown.config_is in
-    let all : (n + 1) * most ≤ length c.args.trace.now * most = mul-le (n + 1) most (length c.args.trace.now) most (omega (arith, low)) (omega arith) in
-    omega (arith, c.loop-number.invariant.steps, c.requires.steps, same, all, add-mul n 1 most, one-mul most)
-
-pub returns-then-failed : goal.returns-then-failed
-returns-then-failed g c =
-    let n = c.loop-number.number in
-    let low : n < length c.args.trace.now = omega arith in
-    (n + 1, omega arith, first-more g.F.Flash.state c.args.group.now c.loop-number.group c.serve_one.new.group c.args.trace.now n _ true c.loop-number.invariant low c.index-trace-number.is c.in_ok-serve_one.ensures (sym c.if-failed.ensures))
+    part_of g.F.Flash.state c.args.group.now c.serve_one.new.group c.args.trace.now c.from_residual.result c.in_err-serve_one.field-0.0 (err_from_is_err_and c.from_residual.result c.from_residual.ensures.1)
+    (first-short g.F.Flash.state c.args.group.now c.loop-number.group c.serve_one.new.group c.args.trace.now n c.in_err-serve_one.field-0.0 c.loop-number.invariant low c.in_err-serve_one.ensures)
 
 pub loop-number-preserved : goal.loop-number-preserved
 loop-number-preserved g c =
     let n = c.loop-number.number in
     let low : n < length c.args.trace.now = omega arith in
-    first-more g.F.Flash.state c.args.group.now c.loop-number.group c.serve_one.new.group c.args.trace.now n _ false c.loop-number.invariant low c.index-trace-number.is c.in_ok-serve_one.ensures (sym c.if-failed.ensures)
+    first-more g.F.Flash.state c.args.group.now c.loop-number.group c.serve_one.new.group c.args.trace.now n _ c.loop-number.invariant low c.index-trace-number.is c.in_ok-serve_one.ensures
