@@ -1,8 +1,11 @@
 pub mod Ends
 pub mod SameKeys
+pub mod Fielded
 pub mod Judged
 pub mod Replayed
 pub mod Kept
+pub mod Marking
 pub mod Bounds
 pub mod Sound
 pub mod Passing
+pub mod Valid

@@ -16,12 +16,15 @@ use Rattle.fdp_snapshot.specs.declared.keys.Keys.{Keys}
 use Rattle.fdp_snapshot.specs.declared.state.State.{State}
 use Rattle.fdp_recovery.specs.declared.opened.OpenFault.{OpenFault}
 use Rattle.fdp_recovery.specs.declared.opened.OpenFault.TheVariants as faults
+use Rattle.fdp_state.specs.Good.{IsGood}
 use Rattle.fdp_recovery.specs.Bad.{HasBadField, IsBadPage, IsBadRecord}
 use Rattle.fdp_recovery.specs.Blocks.{TellsBlocks}
 use Rattle.fdp_recovery.specs.Keys.{keys_of_area, keys_on, other_key}
 use Rattle.fdp_recovery.specs.Opened.{IsBadImage, IsCurrent, IsLeft, TellsOpened}
 use Rattle.fdp_recovery.specs.Reading.{HasSameKeys, SaysNone, SaysSound, TellsArea, TellsCheckpoint}
 use Rattle.fdp_recovery.proofs.SameKeys.{same_both, same_flash}
+use Rattle.fdp_recovery.proofs.Sound.{sound_reads}
+use Rattle.fdp_recovery.proofs.Valid.{valid-of}
 
 -- without a current area a flash names no values
 pub no_area_keys : (g : Geometry) (cells : List Cell) → current_area g cells ≡ None → keys_on g cells ≡ None
@@ -80,14 +83,17 @@ fault_opened c g cells area z faults.Spent current h = absurd h
 fault_opened c g cells area z faults.NoMemory current h = tt
 
 -- blocks that are kept in a sound area
-pub left_so : (c : DriveConfig) (g : Geometry) (cells : List Cell) (x : Current) (z : Sealed) (s : State) → IsCurrentSeal g cells x → current_area g cells ≡ Some (x.area, z) → SaysSound c g z s
+pub left_so : (c : DriveConfig) (g : Geometry) (cells : List Cell) (x : Current) (z : Sealed) (s : State) → IsGood c (reading_of_state s) → IsCurrentSeal g cells x → current_area g cells ≡ Some (x.area, z) → SaysSound c g z s
     → TellsBlocks c cells (reading_of_state s) None → IsLeft c g cells s x.area x.seal.stamp.epoch
-left_so c g cells x z s is current says blocks =
+left_so c g cells x z s good is current says blocks =
+    let cut = cut_of c g z says.keys in
     record {
       z = z;
       current = current_is c g cells x.area z current says.keys;
       epoch_is = sym (ap (λ (t : Stamp). t.epoch) (current_seal g cells x z is current).stamp);
       sound = record { area = says.sound; blocks = blocks };
+      reads = sound_reads c cells x.area z (reading_of_state s) (ap (λ (y : Geometry). current_area y cells) (sym cut) ∙ current) says.sound;
+      valid = valid-of c cells (reading_of_state s) good blocks;
     }
 
 -- and one that is not

@@ -89,13 +89,19 @@ kept_names c cells r nsid lba page e =
     of_cell None at h = absurd cc
     of_cell (Some cell) at h = named_by c cells r nsid lba page cell at h
 
+-- two blocks that are kept on one page are one
+pub kept_once : (c : DriveConfig) (cells : List Cell) (r : Reading) (nsid lba other_nsid other_lba page : ℕ) → is_kept c cells r nsid lba page ≡ true → is_kept c cells r other_nsid other_lba page ≡ true
+    → (nsid ≡ other_nsid) × (lba ≡ other_lba)
+kept_once c cells r nsid lba other_nsid other_lba page this other =
+    let a = kept_names c cells r nsid lba page this in
+    let b = kept_names c cells r other_nsid other_lba page other in
+    let same : a.spare ≡ b.spare = let e : Some a.spare ≡ Some b.spare = sym a.said ∙ b.said in cc in
+    (sym a.nsid_is ∙ ap (λ (s : DataSpare). s.nsid) same ∙ b.nsid_is, sym a.lba_is ∙ ap (λ (s : DataSpare). s.lba) same ∙ b.lba_is)
+
 pub kept_apart : (c : DriveConfig) (cells : List Cell) (r : Reading) → AreKept c cells r → (nsid lba other_nsid other_lba page : ℕ) → r.pages nsid lba ≡ Some page → r.pages other_nsid other_lba ≡ Some page
     → (nsid ≡ other_nsid) × (lba ≡ other_lba)
 kept_apart c cells r kept nsid lba other_nsid other_lba page there other =
-    let a = kept_names c cells r nsid lba page (kept nsid lba page there) in
-    let b = kept_names c cells r other_nsid other_lba page (kept other_nsid other_lba page other) in
-    let same : a.spare ≡ b.spare = let e : Some a.spare ≡ Some b.spare = sym a.said ∙ b.said in cc in
-    (sym a.nsid_is ∙ ap (λ (s : DataSpare). s.nsid) same ∙ b.nsid_is, sym a.lba_is ∙ ap (λ (s : DataSpare). s.lba) same ∙ b.lba_is)
+    kept_once c cells r nsid lba other_nsid other_lba page (kept nsid lba page there) (kept other_nsid other_lba page other)
 
 -- ---- a bad page
 

@@ -35,13 +35,22 @@ is_kept c cells r nsid lba page = nat_lt page (data_pages (geometry_of c)) && op
 abbrev pub AreKept : DriveConfig → List Cell → Reading → Type 0
 AreKept c cells r = (nsid lba page : ℕ) → r.pages nsid lba ≡ Some page → IsTrue (is_kept c cells r nsid lba page)
 
+-- a block comes before another, by namespace and address
+abbrev pub IsBefore : ℕ → ℕ → ℕ → ℕ → Type 0
+IsBefore n l nsid lba = (n < nsid) ⊎ ((n ≡ nsid) × (l < lba))
+
+-- each block stands on a data page, and no two blocks stand on one
+pub record StandApart (c : DriveConfig) (r : Reading) : Type 0 where
+  pub places : (nsid lba page : ℕ) → r.pages nsid lba ≡ Some page → page < data_pages (geometry_of c)
+  pub apart : (nsid lba other_nsid other_lba page : ℕ) → r.pages nsid lba ≡ Some page → r.pages other_nsid other_lba ≡ Some page → (nsid ≡ other_nsid) × (lba ≡ other_lba)
+
 -- this is the page of the first block, by namespace and address, that is not kept on its page
 pub record IsFirstUnkept (c : DriveConfig) (cells : List Cell) (r : Reading) (page : ℕ) : Type 0 where
   pub nsid : ℕ
   pub lba : ℕ
   pub there : r.pages nsid lba ≡ Some page
   pub unkept : is_kept c cells r nsid lba page ≡ false
-  pub before : (n l p : ℕ) → r.pages n l ≡ Some p → (n < nsid) ⊎ ((n ≡ nsid) × (l < lba)) → IsTrue (is_kept c cells r n l p)
+  pub before : (n l p : ℕ) → r.pages n l ≡ Some p → IsBefore n l nsid lba → IsTrue (is_kept c cells r n l p)
 
 -- what is told of the blocks: the page of the first that is not kept, or that all are
 abbrev pub TellsBlocks : DriveConfig → List Cell → Reading → Option ℕ → Type 0

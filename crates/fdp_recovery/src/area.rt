@@ -7,12 +7,12 @@ ghost use Rattle.fdp_base.specs.Config.{IsInRange};
 ghost use Rattle.fdp_base.specs.Geometry.{IsValidGeometry, area_pages};
 ghost use Rattle.fdp_checkpoint.specs.Pages.{IsBadIn};
 ghost use Rattle.fdp_flash.specs.Layout.{first_page};
+ghost use Rattle.fdp_flash.specs.OnlyReads.{ReadsOnly};
 ghost use Rattle.fdp_image.specs.Areas.{Sealed, area_unit, current_area};
 ghost use Rattle.fdp_image.specs.Replacing.{IsCheckpointOf};
 ghost use Rattle.fdp_recovery.specs.Opened.{EndsOpening};
 ghost use Rattle.fdp_recovery.specs.Reading.{SaysState, TellsArea, TellsCheckpoint};
 ghost use Rattle.fdp_recovery.specs.Ready.{IsReady, NeverFails};
-ghost use Rattle.fdp_recovery.specs.Walking.{OnlyLooks};
 ghost use Rattle.fdp_snapshot.specs.Checkpoint.{IsState, checkpoint_size};
 
 use crate::fields::bad_field;
@@ -40,7 +40,7 @@ pub fn read_area<F: Flash>(
     requires inside { LiesIn (F.state flash.old).geometry current.now }
     requires room { length page.old ≡ (F.state flash.old).geometry.block }
     requires current { IsTrue (F.state flash.old).told → IsCurrentSeal (F.state flash.old).geometry (F.state flash.old).cells current.now }
-    ensures looks { OnlyLooks (F.state flash.old) (F.state flash.new) }
+    ensures looks { ReadsOnly (area_pages (F.state flash.old).geometry + area_pages (F.state flash.old).geometry) (F.state flash.old) (F.state flash.new) }
     ensures told { IsTrue (F.state flash.old).told → (z : Sealed) → current_area (F.state flash.old).geometry (F.state flash.old).cells ≡ Some (current.now.area, z) → TellsArea config.now (F.state flash.old).geometry current.now.area z result }
     ensures ends { EndsOpening (F.state flash.old) (F.state flash.new) result }
     ensures ready { IfOk result (IsReady config.now (F.state flash.old).geometry) }
@@ -63,7 +63,7 @@ fn read_checkpoint<F: Flash>(
     requires inside { LiesIn (F.state flash.old).geometry current.now }
     requires room { length page.old ≡ (F.state flash.old).geometry.block }
     requires current { IsTrue (F.state flash.old).told → IsCurrentSeal (F.state flash.old).geometry (F.state flash.old).cells current.now }
-    ensures looks { OnlyLooks (F.state flash.old) (F.state flash.new) }
+    ensures looks { ReadsOnly (area_pages (F.state flash.old).geometry) (F.state flash.old) (F.state flash.new) }
     ensures told { IsTrue (F.state flash.old).told → (z : Sealed) → current_area (F.state flash.old).geometry (F.state flash.old).cells ≡ Some (current.now.area, z) → TellsCheckpoint config.now (F.state flash.old).geometry current.now.area z result }
     ensures ends { EndsOpening (F.state flash.old) (F.state flash.new) result }
     ensures ready { IfOk result (IsReady config.now (F.state flash.old).geometry) }
@@ -131,13 +131,16 @@ fn read_journal<F: Flash>(
     requires current { IsTrue (F.state flash.old).told → IsCurrentSeal (F.state flash.old).geometry (F.state flash.old).cells current.now }
     requires ready { IsReady config.now (F.state flash.old).geometry state }
     requires says { IsTrue (F.state flash.old).told → (z : Sealed) → current_area (F.state flash.old).geometry (F.state flash.old).cells ≡ Some (current.now.area, z) → SaysState config.now (F.state flash.old).geometry z state }
-    ensures looks { OnlyLooks (F.state flash.old) (F.state flash.new) }
+    ensures looks { ReadsOnly (area_pages (F.state flash.old).geometry) (F.state flash.old) (F.state flash.new) }
     ensures told { IsTrue (F.state flash.old).told → (z : Sealed) → current_area (F.state flash.old).geometry (F.state flash.old).cells ≡ Some (current.now.area, z) → TellsArea config.now (F.state flash.old).geometry current.now.area z result }
     ensures ends { EndsOpening (F.state flash.old) (F.state flash.new) result }
     ensures ready { IfOk result (IsReady config.now (F.state flash.old).geometry) }
 {
     let geometry = flash.geometry();
-    let mut loaded = LoadedState::new(config, state);
+    let mut loaded = match LoadedState::new(alloc, config, state) {
+        Ok(loaded) => loaded,
+        Err(_) => return Err(OpenFault::NoMemory),
+    };
     match replay(alloc, flash, current, page, &mut loaded) {
         Ok(_) => Ok(loaded.into_state()),
         Err(ReplayFault::Bad { number }) => Err(bad_record(&geometry, current, number)),

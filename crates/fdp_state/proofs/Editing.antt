@@ -83,3 +83,10 @@ module _ (old mid new : List (List (Option ℕ))) (id : ℕ) (list : List (Optio
 pub if_both : {X : Type 0} (a b : Bool) (x y : X) → (if a then (if b then x else y) else y) ≡ (if a && b then x else y)
 if_both true b x y = refl
 if_both false b x y = refl
+
+-- a place in the page list of an identifier
+pub id_of_place : (lists : List (List (Option ℕ))) (id lba : ℕ) → lba < listed lists id → IsTrue (is_namespace_id id)
+id_of_place lists id lba there = of_id (is_namespace_id id) refl there where
+  of_id : (b : Bool) → is_namespace_id id ≡ b → lba < (if b then option_map_or length (slice_get lists (id - 1)) 0 else 0) → IsTrue (is_namespace_id id)
+  of_id true is low = is
+  of_id false is low = absurd (omega (arith, low))

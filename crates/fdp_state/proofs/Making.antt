@@ -1,6 +1,6 @@
 -- What a loaded state says once a part of it was changed.
 use Rattle.std.proofs.Common.{◌≡◌, ℕ, ◌<◌, ◌≤◌, ◌++◌, Bool, true, List, filter, length, Option, refl, ap, sym, ◌∙◌, subst}
-use Rattle.std.specs.Prelude.{not, option_map}
+use Rattle.std.specs.Prelude.{◌&&◌, not, option_map}
 use Rattle.fdp_base.specs.declared.config.DriveConfig.{DriveConfig}
 use Rattle.fdp_base.specs.declared.entry.Totals.{Totals}
 use Rattle.fdp_base.specs.declared.event.Event.{Event}
@@ -15,43 +15,32 @@ use Rattle.fdp_image.specs.Changed.{changed, pages_after}
 use Rattle.fdp_image.specs.Checkpoint.{in_place, namespace_of, page_in_lists, reports_in}
 use Rattle.fdp_image.specs.Reading.{Reading, size_in}
 use Rattle.fdp_state.specs.declared.parts.Parts.{Parts}
-use Rattle.fdp_state.specs.Fits.{names_what_is}
-use Rattle.fdp_state.specs.Loaded.{IsLoaded}
-use Rattle.fdp_state.specs.Made.{IsMade}
+use Rattle.fdp_state.specs.Fits.{are_born, fits, names_what_is}
+use Rattle.fdp_state.specs.Good.{IsGood, IsSayable}
+use Rattle.fdp_state.specs.Loaded.{IsLoaded, NamesSizes}
+use Rattle.fdp_state.specs.Made.{HasPages, IsMade}
+use Rattle.fdp_state.specs.Owners.{AreOwners, Pages}
 use Rattle.fdp_state.specs.Parts.{IsSound, listed, reading_of}
+use Rattle.fdp_state.proofs.Keeping.{good-applied}
 use Rattle.fdp_state.proofs.Named.{index_after}
+use Rattle.fdp_state.proofs.Sayable.{sayable-applied}
 
--- only the page lists were changed
-module _ (old new : Parts) (rest : new ≡ record old { pages = new.pages }) where
-  reading-pages : (f : ℕ → ℕ → Option ℕ) → ((n lba : ℕ) → page_in_lists new.pages.items n lba ≡ f n lba) → reading_of new ≡ record (reading_of old) { pages = f }
-  unfolding reading_of
-  reading-pages f said = ap reading_of rest ∙ ap (λ (p : ℕ → ℕ → Option ℕ). record (reading_of old) { pages = p }) (λ d n lba. said n lba d)
-
-  same-size : (n : ℕ) → size_in (reading_of new) n ≡ size_in (reading_of old) n
-  unfolding reading_of
-  same-size n = ap (λ (p : Parts). size_in (reading_of p) n) rest
-
-  sound-pages : IsSound old → length new.pages.items ≡ 16 → ((n : ℕ) → listed new.pages.items n ≡ listed old.pages.items n) → IsSound new
-  sound-pages h lists sizes = record {
-    spaces = ap (λ (p : Parts). length p.spaces.items) rest ∙ h.spaces;
-    lists = lists;
-    sizes = λ n. sizes n ∙ h.sizes n ∙ sym (same-size n);
-    host_events = subst (λ (n : ℕ). n ≤ 32) (sym (ap (λ (p : Parts). length p.host_events.items) rest)) h.host_events;
-    controller_events = subst (λ (n : ℕ). n ≤ 32) (sym (ap (λ (p : Parts). length p.controller_events.items) rest)) h.controller_events;
-  }
-
-  pub made-pages : (c : DriveConfig) (position : ℕ) (change : Change) → IsSound old → length new.pages.items ≡ 16 → ((n : ℕ) → listed new.pages.items n ≡ listed old.pages.items n)
-      → changed c (reading_of old) position change ≡ reading_of old → ((n lba : ℕ) → page_in_lists new.pages.items n lba ≡ pages_after c (reading_of old) change n lba)
-      → IsMade c position change old new
-  unfolding reading_of
-  made-pages c position change h lists sizes same said = record {
-    reading = reading-pages (pages_after c (reading_of old) change) said ∙ ap (λ (r : Reading). record r { pages = pages_after c (reading_of old) change }) (sym same);
-    sound = sound-pages h lists sizes;
-    index = ap (λ (p : Parts). p.index) rest ∙ ap (λ (r : Reading). r.index) (sym same);
-  }
+-- only the pages of the blocks were changed
+pub made-pages : (c : DriveConfig) (position : ℕ) (change : Change) (old new : Parts) (pages : Pages) → HasPages old new pages → changed c (reading_of old) position change ≡ reading_of old
+    → ((n lba : ℕ) → pages n lba ≡ pages_after c (reading_of old) change n lba) → IsMade c position change old new
+unfolding reading_of
+made-pages c position change old new pages h same said = record {
+  reading =
+      ap reading_of h.rest
+      ∙ ap (λ (p : Pages). record (reading_of old) { pages = p }) (λ d n lba. (h.said n lba ∙ said n lba) d)
+      ∙ ap (λ (r : Reading). record r { pages = pages_after c (reading_of old) change }) (sym same);
+  sound = h.sound;
+  keys = ap (λ (p : Parts). p.keys) h.rest;
+  index = ap (λ (p : Parts). p.index) h.rest ∙ ap (λ (r : Reading). r.index) (sym same);
+}
 
 -- only the namespaces and the page lists were changed
-module _ (old new : Parts) (rest : new ≡ record old { spaces = new.spaces; pages = new.pages }) where
+module _ (old new : Parts) (rest : new ≡ record old { spaces = new.spaces; pages = new.pages; owners = new.owners }) where
   reading-spaces : (g : ℕ → Option Namespace) (f : ℕ → ℕ → Option ℕ) → ((n : ℕ) → option_map namespace_of (in_place new.spaces.items n) ≡ g n)
       → ((n lba : ℕ) → page_in_lists new.pages.items n lba ≡ f n lba) → reading_of new ≡ record (reading_of old) { namespaces = g; pages = f }
   unfolding reading_of
@@ -60,24 +49,27 @@ module _ (old new : Parts) (rest : new ≡ record old { spaces = new.spaces; pag
       ∙ ap (λ (q : ℕ → Option Namespace). record (reading_of old) { namespaces = q; pages = page_in_lists new.pages.items }) (λ d n. names n d)
       ∙ ap (λ (p : ℕ → ℕ → Option ℕ). record (reading_of old) { namespaces = g; pages = p }) (λ d n lba. said n lba d)
 
-  sound-spaces : IsSound old → length new.spaces.items ≡ 16 → length new.pages.items ≡ 16 → ((n : ℕ) → listed new.pages.items n ≡ size_in (reading_of new) n) → IsSound new
-  sound-spaces h spaces lists sizes = record {
+  sound-spaces : IsSound old → length new.spaces.items ≡ 16 → length new.pages.items ≡ 16 → ((n : ℕ) → listed new.pages.items n ≡ size_in (reading_of new) n)
+      → AreOwners (page_in_lists new.pages.items) new.owners.items → IsSound new
+  sound-spaces h spaces lists sizes owners = record {
     spaces = spaces;
     lists = lists;
     sizes = sizes;
     host_events = subst (λ (n : ℕ). n ≤ 32) (sym (ap (λ (p : Parts). length p.host_events.items) rest)) h.host_events;
     controller_events = subst (λ (n : ℕ). n ≤ 32) (sym (ap (λ (p : Parts). length p.controller_events.items) rest)) h.controller_events;
+    owners = owners;
   }
 
   pub made-spaces : (c : DriveConfig) (position : ℕ) (change : Change) → IsSound old → length new.spaces.items ≡ 16 → length new.pages.items ≡ 16
-      → ((n : ℕ) → listed new.pages.items n ≡ size_in (reading_of new) n) → (g : ℕ → Option Namespace) → changed c (reading_of old) position change ≡ record (reading_of old) { namespaces = g }
+      → ((n : ℕ) → listed new.pages.items n ≡ size_in (reading_of new) n) → AreOwners (page_in_lists new.pages.items) new.owners.items → (g : ℕ → Option Namespace) → changed c (reading_of old) position change ≡ record (reading_of old) { namespaces = g }
       → ((n : ℕ) → option_map namespace_of (in_place new.spaces.items n) ≡ g n)
       → ((n lba : ℕ) → page_in_lists new.pages.items n lba ≡ pages_after c (reading_of old) change n lba)
       → IsMade c position change old new
   unfolding reading_of
-  made-spaces c position change h spaces lists sizes g same names said = record {
+  made-spaces c position change h spaces lists sizes owners g same names said = record {
     reading = reading-spaces g (pages_after c (reading_of old) change) names said ∙ ap (λ (r : Reading). record r { pages = pages_after c (reading_of old) change }) (sym same);
-    sound = sound-spaces h spaces lists sizes;
+    sound = sound-spaces h spaces lists sizes owners;
+    keys = ap (λ (p : Parts). p.keys) rest;
     index = ap (λ (p : Parts). p.index) rest ∙ ap (λ (r : Reading). r.index) (sym same);
   }
 
@@ -94,6 +86,7 @@ module _ (old new : Parts) (rest : new ≡ record old { enabled = new.enabled; i
     sizes = λ n. ap (λ (p : Parts). listed p.pages.items n) rest ∙ h.sizes n ∙ sym (same-sizes n);
     host_events = subst (λ (n : ℕ). n ≤ 32) (sym (ap (λ (p : Parts). length p.host_events.items) rest)) h.host_events;
     controller_events = subst (λ (n : ℕ). n ≤ 32) (sym (ap (λ (p : Parts). length p.controller_events.items) rest)) h.controller_events;
+    owners = subst (λ (p : Parts). AreOwners (page_in_lists p.pages.items) p.owners.items) (sym rest) h.owners;
   }
 
   pub made-head : (c : DriveConfig) (position : ℕ) (change : Change) → IsSound old → (f : ℕ → EventKind → Bool)
@@ -107,17 +100,18 @@ module _ (old new : Parts) (rest : new ≡ record old { enabled = new.enabled; i
         ∙ ap (λ (q : ℕ → EventKind → Bool). record (reading_of old) { enabled = new.enabled; index = new.index; generation = new.generation; reports = q }) (λ d k kind. said k kind d)
         ∙ sym same;
     sound = sound-head h;
+    keys = ap (λ (p : Parts). p.keys) rest;
     index = sym (ap (λ (r : Reading). r.index) same);
   }
 
 -- nothing was changed
 pub made_update : (c : DriveConfig) (position nsid closed : ℕ) (pids : List ℕ) (s : Parts) → IsSound s → IsMade c position (changes.Update nsid closed pids) s s
 unfolding reading_of
-made_update c position nsid closed pids s h = record { reading = refl; sound = h; index = refl }
+made_update c position nsid closed pids s h = record { reading = refl; sound = h; keys = refl; index = refl }
 
 pub made_shut : (c : DriveConfig) (position rg ruh : ℕ) (s : Parts) → IsSound s → IsMade c position (changes.Shut rg ruh) s s
 unfolding reading_of
-made_shut c position rg ruh s h = record { reading = refl; sound = h; index = refl }
+made_shut c position rg ruh s h = record { reading = refl; sound = h; keys = refl; index = refl }
 
 -- events with those of a class behind them
 pub latest_are : (test : Event → Bool) (start old listing kept new : List Event) → new ≡ latest (start ++ filter test listing) → start ≡ old → listing ≡ kept → new ≡ latest (old ++ filter test kept)
@@ -157,14 +151,21 @@ module _ (c : DriveConfig) (old mid new : Parts) (change : Change) (totals : Tot
     sizes = λ n. ap (λ (p : Parts). listed p.pages.items n) rest ∙ made.sound.sizes n ∙ sym (whole_sizes n);
     host_events = host;
     controller_events = controller;
+    owners = subst (λ (p : Parts). AreOwners (page_in_lists p.pages.items) p.owners.items) (sym rest) made.sound.owners;
   }
 
-  pub whole_loaded : IsLoaded c old → names_what_is c (reading_of old) change ≡ true → length new.host_events.items ≤ 32 → length new.controller_events.items ≤ 32 → IsLoaded c new
+  pub whole_loaded : IsLoaded c old → are_born (reading_of old) totals.position ≡ true → names_what_is c (reading_of old) change ≡ true
+      → reading_of new ≡ applied c (reading_of old) (change, totals) → length new.host_events.items ≤ 32 → length new.controller_events.items ≤ 32 → IsLoaded c new
   unfolding reading_of
-  whole_loaded h fit host controller = record {
-    config = h.config;
-    sound = whole_sound host controller;
-    index =
-        subst (λ (k : ℕ). k < length c.fdp) (sym (ap (λ (p : Parts). p.index) rest ∙ made.index))
-        (index_after c (reading_of old) totals.position change h.index fit);
-  }
+  whole_loaded h born fit said host controller =
+      let fits_it : fits c (reading_of old) (change, totals) ≡ true = ap (λ (b : Bool). b && names_what_is c (reading_of old) change) born ∙ fit in
+      record {
+        config = h.config;
+        sound = whole_sound host controller;
+        index =
+            subst (λ (k : ℕ). k < length c.fdp) (sym (ap (λ (p : Parts). p.index) rest ∙ made.index))
+            (index_after c (reading_of old) totals.position change h.index fit);
+        keys = subst (NamesSizes c) (sym (ap (λ (p : Parts). p.keys) rest ∙ made.keys)) h.keys;
+        good = subst (IsGood c) (sym said) (good-applied c (reading_of old) (change, totals) h.good fits_it);
+        sayable = subst IsSayable (sym said) (sayable-applied c (reading_of old) h.config h.sayable (change, totals) fits_it);
+      }

@@ -1,13 +1,13 @@
 -- A namespace is put in its place with its page list, or taken away.
 use Rattle.std.proofs.Common.{◌≡◌, ◌≢◌, ℕ, zero, suc, replicate, ◌∷◌, ◌+◌, ◌-◌, ◌≤◌, Bool, true, false, IsTrue, List, [], length, Option, None, Some, refl, ap, sym, ◌∙◌, arith, ⊎_elim}
-use Rattle.std.specs.Prelude.{◌==◌, if◌then◌else◌, is_some, option_map, slice_get}
+use Rattle.std.specs.Prelude.{◌==◌, ◌&&◌, if◌then◌else◌, is_some, option_map, slice_get}
 use Rattle.std.specs.List.{list_all}
 use Rattle.std.specs.Option.{option_and_then, option_map_or}
 use Rattle.std.proofs.lemmas.Bool.{leb-true}
-use Rattle.std.proofs.lemmas.Bool.Decides.{eqb_tells}
+use Rattle.std.proofs.lemmas.Bool.Decides.{eqb_tells, nat_tests}
 use Rattle.fdp_base.specs.declared.command.Range.{Range}
 use Rattle.fdp_base.specs.declared.config.DriveConfig.{DriveConfig}
-use Rattle.fdp_base.specs.Numbers.{with_at}
+use Rattle.fdp_base.specs.Numbers.{is_among, with_at}
 use Rattle.fdp_rules.specs.PlainState.{Namespace}
 use Rattle.fdp_records.specs.declared.change.Change.{Change}
 use Rattle.fdp_snapshot.specs.declared.space.Space.{Space}
@@ -18,8 +18,10 @@ use Rattle.fdp_image.specs.Reading.{Reading, size_in}
 use Rattle.fdp_state.specs.declared.parts.Parts.{Parts}
 use Rattle.fdp_state.specs.Fits.{has_namespace, lie_within, lies_within}
 use Rattle.fdp_state.specs.Made.{IsMade}
+use Rattle.fdp_state.specs.Owners.{AreOwners, with_row}
 use Rattle.fdp_state.specs.Parts.{IsSound, listed, reading_of, row}
 use Rattle.fdp_state.proofs.Making.{made-spaces}
+use Rattle.fdp_state.proofs.Listing.{listed-within}
 use Rattle.fdp_state.proofs.Named.{left, right}
 
 -- a namespace that is there has an identifier that it may have
@@ -83,12 +85,12 @@ pub space_size : (space : Option Space) → option_map_or (λ (x : Namespace). x
 space_size None = refl
 space_size (Some x) = refl
 
-module _ (old new : Parts) (rest : new ≡ record old { spaces = new.spaces; pages = new.pages }) (nsid : ℕ) (space : Option Space) (list : List (Option ℕ)) (sound : IsSound old)
+module _ (old new : Parts) (rest : new ≡ record old { spaces = new.spaces; pages = new.pages; owners = new.owners }) (nsid : ℕ) (space : Option Space) (sound : IsSound old)
     (spaces : length new.spaces.items ≡ 16) (lists : length new.pages.items ≡ 16)
     (there : (n : ℕ) → in_place new.spaces.items n ≡ (if n == nsid then space else in_place old.spaces.items n))
-    (pages : (n lba : ℕ) → page_in_lists new.pages.items n lba ≡ (if n == nsid then row list lba else page_in_lists old.pages.items n lba))
-    (sizes : (n : ℕ) → listed new.pages.items n ≡ (if n == nsid then length list else listed old.pages.items n))
-    (fits : length list ≡ option_map_or (λ (x : Space). x.size) space 0) (empty : (lba : ℕ) → row list lba ≡ None) where
+    (pages : (n lba : ℕ) → page_in_lists new.pages.items n lba ≡ (if n == nsid then None else page_in_lists old.pages.items n lba))
+    (sizes : (n : ℕ) → listed new.pages.items n ≡ (if n == nsid then option_map_or (λ (x : Space). x.size) space 0 else listed old.pages.items n))
+    (owners : AreOwners (page_in_lists new.pages.items) new.owners.items) where
   names : (n : ℕ) → option_map namespace_of (in_place new.spaces.items n) ≡ with_at (reading_of old).namespaces nsid (option_map namespace_of space) n
   unfolding reading_of
   names n = ap (option_map namespace_of) (there n) ∙ map-if (n == nsid) space (in_place old.spaces.items n)
@@ -97,7 +99,7 @@ module _ (old new : Parts) (rest : new ≡ record old { spaces = new.spaces; pag
   unfolding reading_of
   new_sizes n =
       sizes n
-      ∙ ap (λ (k : ℕ). if n == nsid then k else listed old.pages.items n) (fits ∙ sym (space_size space))
+      ∙ ap (λ (k : ℕ). if n == nsid then k else listed old.pages.items n) (sym (space_size space))
       ∙ ap (λ (k : ℕ). if n == nsid then option_map_or (λ (x : Namespace). x.size) (option_map namespace_of space) 0 else k) (sound.sizes n)
       ∙ sym (size-if (n == nsid) (option_map namespace_of space) ((reading_of old).namespaces n))
       ∙ sym (ap (λ (o : Option Namespace). option_map_or (λ (x : Namespace). x.size) o 0) (names n))
@@ -107,8 +109,13 @@ module _ (old new : Parts) (rest : new ≡ record old { spaces = new.spaces; pag
       → ((n lba : ℕ) → pages_after c (reading_of old) change n lba ≡ (if n == nsid then None else (reading_of old).pages n lba)) → IsMade c position change old new
   unfolding reading_of
   made_place c position change same after =
-      made-spaces old new rest c position change sound spaces lists new_sizes (with_at (reading_of old).namespaces nsid (option_map namespace_of space)) same names
-      (λ n lba. pages n lba ∙ ap (λ (o : Option ℕ). if n == nsid then o else page_in_lists old.pages.items n lba) (empty lba) ∙ sym (after n lba))
+      made-spaces old new rest c position change sound spaces lists new_sizes owners (with_at (reading_of old).namespaces nsid (option_map namespace_of space)) same names
+      (λ n lba. pages n lba ∙ sym (after n lba))
+
+-- a page list that is put in a place, where no address has a page
+pub empty_pages : (list : List (Option ℕ)) (new old : List (List (Option ℕ))) (nsid n lba : ℕ) → page_in_lists new n lba ≡ (if n == nsid then row list lba else page_in_lists old n lba)
+    → ((l : ℕ) → row list l ≡ None) → page_in_lists new n lba ≡ (if n == nsid then None else page_in_lists old n lba)
+empty_pages list new old nsid n lba e none = e ∙ ap (λ (o : Option ℕ). if n == nsid then o else page_in_lists old n lba) (none lba)
 
 -- a namespace that was not there has no page to lose
 pub none_before : (s : Parts) (nsid : ℕ) → IsSound s → has_namespace (reading_of s) nsid ≡ false → (n lba : ℕ)
@@ -123,6 +130,32 @@ none_before s nsid h absent n lba =
     ∙ sym (ap (λ (b : Bool). if b then None else page_in_lists s.pages.items n lba) e.0))
     (λ (e : (n == nsid ≡ false) × (n ≢ nsid)). sym (ap (λ (b : Bool). if b then None else page_in_lists s.pages.items n lba) e.0))
     (eqb_tells n nsid)
+
+-- a namespace whose pages were all taken away
+pub cleared_all : (s : Parts) (nsid size : ℕ) → IsSound s → size ≡ size_in (reading_of s) nsid → (n lba : ℕ)
+    → with_row (λ (l : ℕ). None) (page_in_lists s.pages.items) nsid 0 size n lba ≡ (if n == nsid then None else page_in_lists s.pages.items n lba)
+cleared_all s nsid size h is n lba =
+    ⊎_elim
+    (λ (e : (n == nsid ≡ true) × (n ≡ nsid)).
+    ap (λ (b : Bool). if b && is_among 0 size lba then None else page_in_lists s.pages.items n lba) e.0
+    ∙ of_place e.1 (is_among 0 size lba) refl
+    ∙ sym (ap (λ (b : Bool). if b then None else page_in_lists s.pages.items n lba) e.0))
+    (λ (e : (n == nsid ≡ false) × (n ≢ nsid)).
+    ap (λ (b : Bool). if b && is_among 0 size lba then None else page_in_lists s.pages.items n lba) e.0
+    ∙ sym (ap (λ (b : Bool). if b then None else page_in_lists s.pages.items n lba) e.0))
+    (eqb_tells n nsid)
+  where
+    of_page : n ≡ nsid → size ≤ lba → (o : Option ℕ) → page_in_lists s.pages.items n lba ≡ o → page_in_lists s.pages.items n lba ≡ None
+    of_page same high None at = at
+    of_page same high (Some page) at = let low = listed-within s.pages.items n lba page at in absurd (omega (arith, high, low, is, h.sizes nsid, ap (listed s.pages.items) same))
+
+    of_place : n ≡ nsid → (b : Bool) → is_among 0 size lba ≡ b → (if b then None else page_in_lists s.pages.items n lba) ≡ None
+    of_place same true test = refl
+    of_place same false test = let high : size ≤ lba = grind (arith, nat_tests) in of_page same high (page_in_lists s.pages.items n lba) refl
+
+pub twice_none : (b : Bool) (o : Option ℕ) → (if b then None else (if b then None else o)) ≡ (if b then None else o)
+twice_none true o = refl
+twice_none false o = refl
 
 -- a list of empty rows
 pub blank_rows : (n lba : ℕ) → ◌≡◌ {A = Option ℕ} (row (replicate n None) lba) None

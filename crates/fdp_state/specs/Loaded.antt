@@ -1,10 +1,15 @@
 -- A loaded state.
-use Rattle.std.specs.Prelude.{◌≡◌, ℕ, ◌<◌, ◌≤◌, length}
+use Rattle.std.specs.Prelude.{◌≡◌, ℕ, ◌<◌, ◌≤◌, IsTrue, length}
+use Rattle.std.specs.List.{list_all}
 use Rattle.fdp_base.specs.declared.config.DriveConfig.{DriveConfig}
 use Rattle.fdp_base.specs.Config.{IsInRange}
 use Rattle.fdp_image.specs.Checkpoint.{reading_of_state}
+use Rattle.fdp_image.specs.CheckpointFields.{same_keys}
 use Rattle.fdp_image.specs.Reading.{Reading, size_in}
+use Rattle.fdp_snapshot.specs.declared.keys.Keys.{Keys}
 use Rattle.fdp_snapshot.specs.declared.state.State.{State}
+use Rattle.fdp_snapshot.specs.Checkpoint.{IsState}
+use Rattle.fdp_state.specs.Good.{IsGood, IsSayable}
 use Rattle.fdp_state.specs.declared.parts.Parts.{Parts}
 use Rattle.fdp_state.specs.Parts.{IsSound, listed, reading_of}
 
@@ -17,11 +22,25 @@ pub record Loaded : Type 0 where
 abbrev pub said_by : Loaded → Reading
 said_by s = reading_of s.parts
 
--- the state is sound, and its FDP configuration is one of the drive's
+-- the sizes are those of a drive of the configuration
+abbrev pub NamesSizes : DriveConfig → Keys → Type 0
+NamesSizes c k = IsTrue (list_all (λ same. same) (same_keys c k))
+
+-- the state is sound, names the sizes of the drive, says what such a drive may say, and a checkpoint has room for it
 pub record IsLoaded (c : DriveConfig) (s : Parts) : Type 0 where
   pub config : IsInRange c
   pub sound : IsSound s
   pub index : s.index < length c.fdp
+  pub keys : NamesSizes c s.keys
+  pub good : IsGood c (reading_of s)
+  pub sayable : IsSayable (reading_of s)
+
+-- a state of a drive of this configuration: a checkpoint has room for it, it names the sizes of the drive, and says what such a drive
+-- may say
+pub record IsDriveState (c : DriveConfig) (s : State) : Type 0 where
+  pub writable : IsState s
+  pub keys : NamesSizes c s.summary.keys
+  pub good : IsGood c (reading_of_state s)
 
 -- a state that can be loaded: sixteen places for namespaces, each with a page list as long as the namespace has blocks; at most 32
 -- events of each class

@@ -8,6 +8,7 @@ use Rattle.fdp_image.specs.Checkpoint.{in_place, namespace_of, page_in_lists, re
 use Rattle.fdp_image.specs.CheckpointRows.{is_namespace_id}
 use Rattle.fdp_image.specs.Reading.{Reading, size_in}
 use Rattle.fdp_state.specs.declared.parts.Parts.{Parts}
+use Rattle.fdp_state.specs.Owners.{AreOwners}
 
 -- what stands in a row of a table whose rows may be empty
 abbrev pub row : {X : Type 0} → List (Option X) → ℕ → Option X
@@ -46,10 +47,12 @@ named_in c handles pid =
     then option_map (λ ruh. named_target (group_of_pid c pid, ruh)) (slice_get handles (handle_of_pid c pid))
     else None
 
--- sixteen places for namespaces, each with a page list as long as the namespace has blocks; at most 32 events of each class
+-- sixteen places for namespaces, each with a page list as long as the namespace has blocks; at most 32 events of each class; the owners
+-- of the pages are those blocks
 pub record IsSound (s : Parts) : Type 0 where
   pub spaces : length s.spaces.items ≡ 16
   pub lists : length s.pages.items ≡ 16
   pub sizes : (nsid : ℕ) → listed s.pages.items nsid ≡ size_in (reading_of s) nsid
   pub host_events : length s.host_events.items ≤ 32
   pub controller_events : length s.controller_events.items ≤ 32
+  pub owners : AreOwners (page_in_lists s.pages.items) s.owners.items

@@ -70,6 +70,7 @@ fn make_whole(
     totals: Totals,
 ) -> Result<(), AllocError>
     requires loaded { IsLoaded config.now parts.old }
+    requires born { are_born (reading_of parts.old) totals.position ≡ true }
     requires fit { names_what_is config.now (reading_of parts.old) change ≡ true }
     ensures loaded { OnOk result (IsLoaded config.now parts.new) }
     ensures applied { OnOk result (reading_of parts.new ≡ applied config.now (reading_of parts.old) (change, totals)) }

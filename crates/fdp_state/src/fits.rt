@@ -71,7 +71,7 @@ pub fn are_data_pages(config: &DriveConfig, pages: &[u32]) -> bool
 }
 
 /// How many data pages there are.
-fn data_pages(config: &DriveConfig) -> u32
+pub fn data_pages(config: &DriveConfig) -> u32
     requires { IsInRange config.now }
     ensures { result ≡ data_pages (geometry_of config.now) }
 {

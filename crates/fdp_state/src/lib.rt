@@ -4,18 +4,19 @@
 mod apply;
 mod events;
 mod fits;
+mod index;
 mod latest;
 mod lists;
 mod loaded;
 mod make;
 mod masks;
+mod moved_blocks;
 mod moved_events;
 mod moves;
 mod names;
+mod owners;
 mod parts;
 mod rows;
-#[cfg(test)]
-mod tests;
 mod update_events;
 
 pub use fits::is_handle_list;

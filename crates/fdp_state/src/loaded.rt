@@ -1,14 +1,15 @@
-ghost use Rattle.std.specs.Prelude.{◌≡◌, ◌<◌, length};
+ghost use Rattle.std.specs.Prelude.{◌≡◌, IfOk};
 ghost use Rattle.fdp_base.specs.Config.{IsInRange};
 ghost use Rattle.fdp_image.specs.Checkpoint.{reading_of_state};
 
 use crate::apply::apply_to;
+use crate::index::owners_of;
 use crate::parts::{Parts, parts_of, state_of};
 use fdp_base::{DriveConfig, Totals};
 use fdp_records::Change;
 use fdp_replay::{Refusal, Replayed};
 use fdp_snapshot::State;
-use std::alloc::Global;
+use std::alloc::{AllocError, Global};
 use std::marker::Model;
 
 /// The state of a drive as it is read from an image.
@@ -29,29 +30,32 @@ impl<'a> Model for LoadedState<'a> {
 }
 
 impl<'a> LoadedState<'a> {
-    ghost use Rattle.fdp_state.specs.Loaded.{IsLoadable, said_by};
+    ghost use Rattle.fdp_state.specs.Loaded.{IsDriveState, said_by};
 
-    /// The state that a checkpoint says.
+    /// The state that a checkpoint says. It takes memory for a table of the data pages, and fails only for want of it.
     #[tactic(auto, unfolding(crate::specs::Parts::reading_of, fdp_image::specs::Checkpoint::reading_of_state))]
-    pub fn new(config: &'a DriveConfig, state: State) -> LoadedState<'a>
+    pub fn new(
+        alloc: Global,
+        config: &'a DriveConfig,
+        state: State,
+    ) -> Result<LoadedState<'a>, AllocError>
         requires config { IsInRange config.now }
-        requires loadable { IsLoadable state }
-        requires index { state.summary.index < length config.now.fdp }
-        ensures config { result.config ≡ config.now }
-        ensures said { said_by result ≡ reading_of_state state }
+        requires state { IsDriveState config.now state }
+        ensures config { IfOk result (λ s. s.config ≡ config.now) }
+        ensures said { IfOk result (λ s. said_by s ≡ reading_of_state state) }
     {
-        LoadedState {
+        let owners = owners_of(alloc, config, &state)?;
+        Ok(LoadedState {
             config,
-            parts: parts_of(state),
-        }
+            parts: parts_of(state, owners),
+        })
     }
 
     /// The state, as a checkpoint says it.
     #[tactic(auto, unfolding(crate::specs::Parts::reading_of, fdp_image::specs::Checkpoint::reading_of_state))]
     pub fn into_state(self) -> State
         ensures said { reading_of_state result ≡ said_by self.entry }
-        ensures loadable { IsLoadable result }
-        ensures index { result.summary.index < length self.entry.config.fdp }
+        ensures state { IsDriveState self.entry.config result }
     {
         let LoadedState { config: _, parts } = self;
         state_of(parts)

@@ -1,23 +1,28 @@
 //! What a saved change makes of a loaded state.
 
-ghost use Rattle.std.specs.Prelude.{◌≡◌, ◌<◌, ℕ, Bool, List, IsTrue, IfSome, OnErr, OnOk, false, true, length};
+ghost use Rattle.std.specs.Prelude.{◌≡◌, ◌+◌, ◌<◌, ◌≤◌, ℕ, All, Bool, List, None, IsTrue, IfSome, OnErr, OnOk, false, true, length};
 ghost use Rattle.fdp_base.specs.Config.{IsInRange};
 ghost use Rattle.fdp_base.specs.Geometry.{data_units};
 ghost use Rattle.fdp_base.specs.Placement.{geometry_of};
 ghost use Rattle.fdp_image.specs.CheckpointRows.{is_namespace_id};
+ghost use Rattle.fdp_base.specs.declared.entry.BlockName.{BlockName as Block};
 ghost use Rattle.fdp_base.specs.declared.config.DriveConfig.{DriveConfig as Config};
 ghost use Rattle.fdp_records.specs.declared.change.Change.TheVariants as changes;
 ghost use Rattle.fdp_records.specs.declared.change.UnitPages.{UnitPages as Pages};
 ghost use Rattle.fdp_state.specs.Fits.{has_namespace, lie_within, lies_within, names_what_is};
-ghost use Rattle.fdp_state.specs.Made.{IsMade};
-ghost use Rattle.fdp_state.specs.Parts.{IsSound, reading_of};
+ghost use Rattle.fdp_image.specs.Checkpoint.{page_in_lists};
+ghost use Rattle.fdp_state.specs.Made.{HasPages, IsMade};
+ghost use Rattle.fdp_state.specs.Owners.{with_pages, with_row};
+ghost use Rattle.fdp_state.specs.Parts.{IsSound, listed, reading_of};
 
+use crate::fits::size_of;
 use crate::lists::blank_list;
 use crate::masks::{no_reports, set_reports};
-use crate::moves::{moves_of, push_moved_lists};
+use crate::moved_blocks::push_moved_blocks;
+use crate::moves::moves_of;
 use crate::parts::Parts;
-use crate::rows::{clear_in, put_in, set_list, set_space};
-use fdp_base::{Bytes, DriveConfig, Range, Sequence};
+use crate::rows::{put_page, set_list, set_space};
+use fdp_base::{BlockName, Bytes, DriveConfig, Range, Sequence};
 use fdp_records::{Change, UnitPages};
 use fdp_snapshot::Space;
 use std::alloc::{AllocError, Global};
@@ -94,7 +99,9 @@ fn put_write(alloc: Global, parts: &mut Parts, nsid: u32, slba: u64, pages: &[u3
     requires within { lies_within (reading_of parts.old) nsid slba (length pages.now) ≡ true }
     ensures made { (c : Config) (position pid : ℕ) (invalid : Bool) → IsMade c position (changes.Write nsid slba pid invalid pages.now) parts.old parts.new }
 {
-    put_in(alloc, &mut parts.pages, nsid, slba, pages);
+    for (i, page) in pages.iter().enumerate() {
+        put_page(alloc, parts, nsid, slba + i as u64, Some(*page));
+    }
 }
 
 fn clear(alloc: Global, parts: &mut Parts, nsid: u32, ranges: &[Range])
@@ -103,7 +110,20 @@ fn clear(alloc: Global, parts: &mut Parts, nsid: u32, ranges: &[Range])
     requires within { lie_within (reading_of parts.old) nsid ranges.now ≡ true }
     ensures made { (c : Config) (position : ℕ) → IsMade c position (changes.Clear nsid ranges.now) parts.old parts.new }
 {
-    clear_in(alloc, &mut parts.pages, nsid, ranges);
+    for range in ranges {
+        clear_row(alloc, parts, nsid, range.slba, u64::from(range.length));
+    }
+}
+
+/// Takes the pages away from so many addresses of a namespace.
+fn clear_row(alloc: Global, parts: &mut Parts, nsid: u32, slba: u64, count: u64)
+    requires sound { IsSound parts.old }
+    requires within { slba + count ≤ listed parts.old.pages.items nsid }
+    ensures { HasPages parts.old parts.new (with_row (λ lba. None) (page_in_lists parts.old.pages.items) nsid slba count) }
+{
+    for i in 0..count {
+        put_page(alloc, parts, nsid, slba + i, None);
+    }
 }
 
 fn create(
@@ -138,6 +158,8 @@ fn delete(alloc: Global, parts: &mut Parts, nsid: u32)
     requires there { has_namespace (reading_of parts.old) nsid ≡ true }
     ensures made { (c : Config) (position : ℕ) → IsMade c position (changes.Delete nsid) parts.old parts.new }
 {
+    let size = size_of(parts, nsid);
+    clear_row(alloc, parts, nsid, 0, size);
     set_space(&mut parts.spaces, nsid, None);
     set_list(&mut parts.pages, nsid, Sequence::new(alloc));
 }
@@ -177,8 +199,19 @@ fn move_pages(
     ensures refused { OnErr result (parts.new ≡ parts.old) }
 {
     let moves = moves_of(alloc, config, victim, first, second)?;
-    let mut moved = Vec::new(alloc);
-    push_moved_lists(alloc, &mut moved, parts.pages.as_slice(), moves.as_slice())?;
-    parts.pages = moved;
+    let mut blocks = Vec::new(alloc);
+    push_moved_blocks(alloc, &mut blocks, parts, moves.as_slice())?;
+    put_blocks(alloc, parts, blocks.as_slice());
     Ok(())
+}
+
+/// Gives blocks their new pages, one after another.
+fn put_blocks(alloc: Global, parts: &mut Parts, blocks: &[(BlockName, u32)])
+    requires sound { IsSound parts.old }
+    requires within { All (λ (x : Block × ℕ). x.0.lba < listed parts.old.pages.items x.0.nsid) blocks.now }
+    ensures { HasPages parts.old parts.new (with_pages (page_in_lists parts.old.pages.items) blocks.now) }
+{
+    for x in blocks {
+        put_page(alloc, parts, x.0.nsid, x.0.lba, Some(x.1));
+    }
 }

@@ -1,7 +1,6 @@
 //! The events of a move.
 
 ghost use Rattle.std.specs.Prelude.{◌≡◌, ◌+◌, ◌-◌, ◌<◌, ◌==◌, ◌++◌, ◌∷◌, [], ℕ, false, IfOk, OnOk, if◌then◌else◌, filter, flat_map, length, zip};
-ghost use Rattle.std.specs.Option.{option_map_or};
 ghost use Rattle.fdp_base.specs.Config.{IsInRange};
 ghost use Rattle.fdp_base.specs.Geometry.{data_units};
 ghost use Rattle.fdp_base.specs.Numbers.{numbers_below};
@@ -12,20 +11,18 @@ ghost use Rattle.fdp_rules.specs.Room.{handles_in_force};
 ghost use Rattle.fdp_rules.specs.Sites.{group_of};
 ghost use Rattle.fdp_image.specs.ChangeEvents.{moved_of_handle};
 ghost use Rattle.fdp_image.specs.Outline.{outline_before};
-ghost use Rattle.fdp_image.specs.Reading.{blocks_in, blocks_on};
+ghost use Rattle.fdp_image.specs.Reading.{blocks_on};
 ghost use Rattle.fdp_state.specs.Parts.{IsSound, reading_of};
 
 use crate::events::{event_position, group_of};
-use crate::fits::size_of;
+use crate::moved_blocks::push_blocks;
 use crate::moves::page_numbers;
 use crate::parts::Parts;
-use crate::rows::page_at;
 use fdp_base::{BlockName, DriveConfig, Event, EventFlags, EventKind};
-use fdp_commands::NAMESPACE_IDS;
 use fdp_records::UnitPages;
 use std::alloc::{AllocError, Global};
 
-/// The events of a move: for each handle in force one, if blocks of it were moved. For each moved page it looks at all blocks.
+/// The events of a move: for each handle in force one, if blocks of it were moved.
 pub fn moved_events(
     alloc: Global,
     config: &DriveConfig,
@@ -76,7 +73,6 @@ fn push_moved(
 }
 
 /// Pushes the blocks of a page that moved with a handle, if it is this one.
-#[tactic(auto, using(crate::proofs::Moving::blocks_are))]
 fn push_if_of(
     moved: &mut Vec<BlockName>,
     parts: &Parts,
@@ -88,70 +84,9 @@ fn push_if_of(
     ensures { OnOk result (moved.new.items ≡ moved.old.items ++ (if handle == ruh then blocks_on (reading_of parts.now) number else [])) }
 {
     if handle == ruh {
-        push_blocks_on(moved, parts, number, &NAMESPACE_IDS)?;
+        push_blocks(moved, parts, number)?;
     }
     Ok(())
-}
-
-/// Pushes the blocks of some namespaces that have a page.
-fn push_blocks_on(
-    blocks: &mut Vec<BlockName>,
-    parts: &Parts,
-    page: u32,
-    ids: &[u32],
-) -> Result<(), AllocError>
-    requires sound { IsSound parts.now }
-    ensures { OnOk result (blocks.new.items ≡ blocks.old.items ++ flat_map (blocks_in (reading_of parts.now) page) ids.now) }
-{
-    match ids.split_first() {
-        Some((nsid, ids)) => {
-            push_blocks_in(blocks, parts, page, *nsid)?;
-            push_blocks_on(blocks, parts, page, ids)
-        }
-        None => Ok(()),
-    }
-}
-
-/// Pushes the blocks of a namespace that have a page.
-fn push_blocks_in(
-    blocks: &mut Vec<BlockName>,
-    parts: &Parts,
-    page: u32,
-    nsid: u32,
-) -> Result<(), AllocError>
-    requires sound { IsSound parts.now }
-    ensures { OnOk result (blocks.new.items ≡ blocks.old.items ++ blocks_in (reading_of parts.now) page nsid) }
-{
-    let size = size_of(parts, nsid);
-    for lba in 0..size {
-        push_if_there(blocks, page_at(parts, nsid, lba), page, nsid, lba)?;
-    }
-    Ok(())
-}
-
-/// Pushes a block whose page this is.
-fn push_if_there(
-    blocks: &mut Vec<BlockName>,
-    entry: Option<u32>,
-    page: u32,
-    nsid: u32,
-    lba: u64,
-) -> Result<(), AllocError>
-    ensures { OnOk result (blocks.new.items ≡ blocks.old.items ++ (if option_map_or (λ x. x == page) entry false then record { nsid = nsid; lba = lba } ∷ [] else [])) }
-{
-    if is_page(entry, page) {
-        blocks.push(BlockName { nsid, lba })?;
-    }
-    Ok(())
-}
-
-fn is_page(entry: Option<u32>, page: u32) -> bool
-    ensures { result ≡ option_map_or (λ x. x == page) entry false }
-{
-    match entry {
-        Some(x) => x == page,
-        None => false,
-    }
 }
 
 /// Pushes the event of the blocks that were moved of a handle, if there are such.

@@ -1,6 +1,6 @@
-//! The pages that a relocation moved.
+//! The pages that a relocation moved, and where to.
 
-ghost use Rattle.std.specs.Prelude.{◌≡◌, ℕ, ◌*◌, ◌<◌, ◌++◌, length, nat_lt, zip, IfOk, IfSome, OnOk, Option, List, [], ◌∷◌, if◌then◌else◌, map, option_map};
+ghost use Rattle.std.specs.Prelude.{◌≡◌, ◌*◌, ◌<◌, ◌++◌, length, nat_lt, zip, IfOk, IfSome, OnOk, [], ◌∷◌, if◌then◌else◌};
 ghost use Rattle.fdp_records.specs.declared.change.UnitPages.{UnitPages as Pages};
 ghost use Rattle.std.specs.List.{list_all};
 ghost use Rattle.fdp_base.specs.Config.{IsInRange};
@@ -8,12 +8,11 @@ ghost use Rattle.fdp_base.specs.Geometry.{data_units};
 ghost use Rattle.fdp_base.specs.Placement.{geometry_of};
 ghost use Rattle.fdp_records.specs.Records.{target_or_none};
 ghost use Rattle.fdp_image.specs.Bits.{is_bit_set};
-ghost use Rattle.fdp_image.specs.Changed.{moved_to, moves_of, page_numbers};
+ghost use Rattle.fdp_image.specs.Changed.{moves_of, page_numbers};
 ghost use Rattle.fdp_state.specs.Fits.{are_of_data_unit};
 
-use fdp_base::{DriveConfig, Sequence};
+use fdp_base::DriveConfig;
 use fdp_records::{PageSet, UnitPages};
-use fdp_snapshot::PageList;
 use std::alloc::{AllocError, Global};
 
 /// The numbers of some pages of a data unit.
@@ -148,75 +147,4 @@ fn push_moves(moves: &mut Vec<(u32, u32)>, from: &[u32], to: &[u32]) -> Result<(
         },
         None => Ok(()),
     }
-}
-
-/// Where a page is, once these pages were moved.
-fn moved_to(moves: &[(u32, u32)], page: u32) -> u32
-    ensures { result ≡ moved_to moves.now page }
-{
-    match moves.split_first() {
-        Some((x, rest)) => {
-            if x.0 == page {
-                x.1
-            } else {
-                moved_to(rest, page)
-            }
-        }
-        None => page,
-    }
-}
-
-fn moved_entry(moves: &[(u32, u32)], page: Option<u32>) -> Option<u32>
-    ensures { result ≡ option_map (moved_to moves.now) page }
-{
-    match page {
-        Some(page) => Some(moved_to(moves, page)),
-        None => None,
-    }
-}
-
-/// A page list in which each page is where it was moved to.
-fn moved_list(
-    alloc: Global,
-    list: &[Option<u32>],
-    moves: &[(u32, u32)],
-) -> Result<PageList, AllocError>
-    ensures { IfOk result (λ l. l ≡ map (λ (x : Option ℕ). option_map (moved_to moves.now) x) list.now) }
-{
-    let mut pages = Vec::new(alloc);
-    for page in list {
-        pages.push(moved_entry(moves, *page))?;
-    }
-    Ok(Sequence::from_vec(pages))
-}
-
-/// Pushes the page lists in which each page is where it was moved to. It looks at each block of each namespace.
-pub fn push_moved_lists(
-    alloc: Global,
-    moved: &mut Vec<PageList>,
-    lists: &[PageList],
-    moves: &[(u32, u32)],
-) -> Result<(), AllocError>
-    ensures { OnOk result (moved.new.items ≡ moved.old.items ++ map (λ (list : List (Option ℕ)). map (λ (x : Option ℕ). option_map (moved_to moves.now) x) list) lists.now) }
-{
-    match lists.split_first() {
-        Some((list, lists)) => {
-            push_moved_list(alloc, moved, list.as_slice(), moves)?;
-            push_moved_lists(alloc, moved, lists, moves)
-        }
-        None => Ok(()),
-    }
-}
-
-fn push_moved_list(
-    alloc: Global,
-    moved: &mut Vec<PageList>,
-    list: &[Option<u32>],
-    moves: &[(u32, u32)],
-) -> Result<(), AllocError>
-    ensures { OnOk result (moved.new.items ≡ moved.old.items ++ map (λ (x : Option ℕ). option_map (moved_to moves.now) x) list.now ∷ []) }
-{
-    let list = moved_list(alloc, list, moves)?;
-    moved.push(list)?;
-    Ok(())
 }

@@ -1,5 +1,6 @@
 ghost use Rattle.std.specs.Prelude.{◌≡◌};
 
+use crate::owners::Owner;
 use fdp_base::{Event, Sequence, Totals};
 use fdp_snapshot::{Keys, PageList, Space, State, Summary};
 
@@ -18,15 +19,18 @@ pub struct Parts {
     pub pages: Vec<PageList>,
     pub host_events: Vec<Event>,
     pub controller_events: Vec<Event>,
+    /// The block that stands on each data page.
+    pub owners: Vec<Owner>,
 }
 
-/// Takes a state apart.
-pub fn parts_of(state: State) -> Parts
-    ensures rest { result ≡ record { keys = state.summary.keys; totals = state.summary.totals; enabled = state.summary.enabled; index = state.summary.index; generation = state.summary.generation; masks = state.summary.masks; spaces = result.spaces; pages = result.pages; host_events = result.host_events; controller_events = result.controller_events } }
+/// Takes a state apart, beside the owners of its pages.
+pub fn parts_of(state: State, owners: Vec<Owner>) -> Parts
+    ensures rest { result ≡ record { keys = state.summary.keys; totals = state.summary.totals; enabled = state.summary.enabled; index = state.summary.index; generation = state.summary.generation; masks = state.summary.masks; spaces = result.spaces; pages = result.pages; host_events = result.host_events; controller_events = result.controller_events; owners = result.owners } }
     ensures spaces { result.spaces.items ≡ state.summary.spaces }
     ensures pages { result.pages.items ≡ state.pages }
     ensures host_events { result.host_events.items ≡ state.summary.host_events }
     ensures controller_events { result.controller_events.items ≡ state.summary.controller_events }
+    ensures owners { result.owners.items ≡ owners.items }
 {
     let State { summary, pages } = state;
     let Summary {
@@ -51,6 +55,7 @@ pub fn parts_of(state: State) -> Parts
         pages: pages.into_vec(),
         host_events: host_events.into_vec(),
         controller_events: controller_events.into_vec(),
+        owners,
     }
 }
 
@@ -69,6 +74,7 @@ pub fn state_of(parts: Parts) -> State
         pages,
         host_events,
         controller_events,
+        owners: _,
     } = parts;
     State {
         summary: Summary {

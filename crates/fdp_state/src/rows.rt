@@ -1,17 +1,16 @@
 //! The places of namespaces, and of their page lists, by identifier.
 
-ghost use Rattle.std.specs.Prelude.{◌≡◌, ℕ, ◌==◌, ◌+◌, ◌-◌, ◌≤◌, ◌&&◌, [], None, Some, IsTrue, if◌then◌else◌, length, slice_get, slice_set};
+ghost use Rattle.std.specs.Prelude.{◌≡◌, ℕ, ◌==◌, ◌-◌, ◌^◌, ◌<◌, [], IsTrue, if◌then◌else◌, length, slice_set};
 ghost use Rattle.std.specs.Option.{option_copied};
-ghost use Rattle.fdp_base.specs.declared.command.Range.{Range as Stretch};
-ghost use Rattle.fdp_base.specs.Numbers.{is_among};
-ghost use Rattle.fdp_rules.specs.Effect.{is_in_ranges};
 ghost use Rattle.fdp_image.specs.Checkpoint.{in_place, page_in_lists};
 ghost use Rattle.fdp_image.specs.CheckpointRows.{is_namespace_id};
+ghost use Rattle.fdp_state.specs.Made.{HasPages};
+ghost use Rattle.fdp_state.specs.Owners.{with_page};
 ghost use Rattle.fdp_state.specs.Parts.{IsSound, handles_at, listed, reading_of, row};
 
-use crate::lists::{clear_ranges, put_pages};
+use crate::owners::{claim, release};
 use crate::parts::Parts;
-use fdp_base::{Range, Sequence};
+use fdp_base::{BlockName, Sequence};
 use fdp_snapshot::{PageList, Space};
 use std::alloc::Global;
 use std::mem;
@@ -98,30 +97,29 @@ pub fn set_list(lists: &mut Vec<PageList>, nsid: u32, list: PageList)
     lists[nsid as usize - 1] = list;
 }
 
-/// Puts pages at the addresses of a namespace from `slba` on.
-pub fn put_in(alloc: Global, lists: &mut Vec<PageList>, nsid: u32, slba: u64, pages: &[u32])
-    requires id { IsTrue (is_namespace_id nsid) }
-    requires rows { length lists.old.items ≡ 16 }
-    requires within { slba + length pages.now ≤ listed lists.old.items nsid }
-    ensures pages { (n lba : ℕ) → page_in_lists lists.new.items n lba ≡ (if n == nsid && is_among slba (length pages.now) lba then slice_get pages.now (lba - slba) else page_in_lists lists.old.items n lba) }
-    ensures sizes { (n : ℕ) → listed lists.new.items n ≡ listed lists.old.items n }
-    ensures rows { length lists.new.items ≡ 16 }
+/// Gives a block another page, or none.
+pub fn put_page(alloc: Global, parts: &mut Parts, nsid: u32, lba: u64, page: Option<u32>)
+    requires sound { IsSound parts.old }
+    requires within { lba < listed parts.old.pages.items nsid }
+    ensures put { HasPages parts.old parts.new (with_page (page_in_lists parts.old.pages.items) (record { nsid = nsid; lba = lba }) page) }
+    ensures small { lba < 2 ^ 63 }
 {
-    let mut list = take_list(alloc, lists, nsid);
-    put_pages(list.as_mut_slice(), slba, pages);
-    set_list(lists, nsid, Sequence::from_vec(list));
+    let old = page_at(parts, nsid, lba);
+    release(&mut parts.owners, old);
+    claim(&mut parts.owners, BlockName { nsid, lba }, page);
+    put_in(alloc, &mut parts.pages, nsid, lba, page);
 }
 
-/// Takes the pages away from the addresses of some ranges of a namespace.
-pub fn clear_in(alloc: Global, lists: &mut Vec<PageList>, nsid: u32, ranges: &[Range])
-    requires id { IsTrue (is_namespace_id nsid) }
+/// Puts a page, or none, at an address of a namespace.
+fn put_in(alloc: Global, lists: &mut Vec<PageList>, nsid: u32, lba: u64, page: Option<u32>)
     requires rows { length lists.old.items ≡ 16 }
-    requires within { (x : Stretch) (k : ℕ) → slice_get ranges.now k ≡ Some x → x.slba + x.length ≤ listed lists.old.items nsid }
-    ensures pages { (n lba : ℕ) → page_in_lists lists.new.items n lba ≡ (if n == nsid && is_in_ranges ranges.now lba then None else page_in_lists lists.old.items n lba) }
+    requires within { lba < listed lists.old.items nsid }
+    ensures pages { (n l : ℕ) → page_in_lists lists.new.items n l ≡ with_page (page_in_lists lists.old.items) (record { nsid = nsid; lba = lba }) page n l }
     ensures sizes { (n : ℕ) → listed lists.new.items n ≡ listed lists.old.items n }
     ensures rows { length lists.new.items ≡ 16 }
+    ensures small { lba < 2 ^ 63 }
 {
     let mut list = take_list(alloc, lists, nsid);
-    clear_ranges(list.as_mut_slice(), ranges);
+    list[lba as usize] = page;
     set_list(lists, nsid, Sequence::from_vec(list));
 }

@@ -6,7 +6,8 @@ use Rattle.fdp_image.specs.Areas.{area_unit}
 use Rattle.fdp_replay.specs.declared.replayed.ReplayFault.{ReplayFault}
 use Rattle.fdp_replay.specs.Replay.{TellsJournal}
 use Rattle.fdp_state.specs.Fits.{fits}
-use Rattle.fdp_state.specs.Loaded.{said_by}
+use Rattle.fdp_state.specs.Loaded.{IsDriveState, said_by}
+use Rattle.fdp_state.proofs.Loadable.{loadable}
 use Rattle.fdp_recovery.specs.declared.opened.OpenFault.{OpenFault}
 use Rattle.fdp_recovery.specs.declared.opened.OpenFault.TheVariants as faults
 use Rattle.fdp_recovery.specs.Reading.{TellsArea}
@@ -14,13 +15,13 @@ use Rattle.fdp_recovery.proofs.Passing.{current_seal}
 use Rattle.fdp_recovery.proofs.Replayed.{bad_journal, whole_journal}
 use Rattle.fdp_recovery.proofs.area.read_journal.Goals as goal
 
-pub returns-in-Ok-clause-told : goal.returns-in-Ok-clause-told
-returns-in-Ok-clause-told g c told z current =
+pub returns-in-Ok-replay-clause-told : goal.returns-in-Ok-replay-clause-told
+returns-in-Ok-replay-clause-told g c told z current =
     let s = g.F.Flash.state c.args.flash.now in
     let config = c.args.config.now in
-    let h = subst (λ (k : DriveConfig). TellsJournal fits k z.journal (said_by c.new-loaded.result) (said_by c.replay.new.state) (Ok c.in-Ok.field-0)) c.new-loaded.ensures.config (c.in-Ok.ensures.told told z current) in
-    whole_journal config s.geometry z c.args.state c.into_state.result c.in-Ok.field-0 (said_by c.new-loaded.result) (said_by c.replay.new.state)
-    (c.requires.says told z current) c.new-loaded.ensures.said c.into_state.ensures.said h.0 h.1
+    let h = subst (λ (k : DriveConfig). TellsJournal fits k z.journal (said_by c.in-Ok.loaded) (said_by c.replay.new.state) (Ok c.in-Ok-replay.field-0)) c.in-Ok.ensures.config (c.in-Ok-replay.ensures.told told z current) in
+    whole_journal config s.geometry z c.args.state c.into_state.result c.in-Ok-replay.field-0 (said_by c.in-Ok.loaded) (said_by c.replay.new.state)
+    (c.requires.says told z current) c.in-Ok.ensures.said c.into_state.ensures.said h.0 h.1
 
 pub returns-in-Err-Bad-clause-told : goal.returns-in-Err-Bad-clause-told
 returns-in-Err-Bad-clause-told g c told z current =
@@ -29,13 +30,13 @@ returns-in-Err-Bad-clause-told g c told z current =
     let x = c.args.current.now in
     let number = c.in-Err-Bad.number in
     let cut = c.geometry-geometry.result in
-    let first = subst (λ (k : DriveConfig). TellsJournal fits k z.journal (said_by c.new-loaded.result) (said_by c.replay.new.state) (Err c.in-Err-Bad.field-0)) c.new-loaded.ensures.config (c.in-Err-Bad.ensures.told told z current) in
-    let h = subst (λ (f : ReplayFault). TellsJournal fits config z.journal (said_by c.new-loaded.result) (said_by c.replay.new.state) (Err f)) c.in-Err-Bad.field-0-is first in
+    let first = subst (λ (k : DriveConfig). TellsJournal fits k z.journal (said_by c.in-Ok.loaded) (said_by c.replay.new.state) (Err c.in-Err-Bad.field-0)) c.in-Ok.ensures.config (c.in-Err-Bad.ensures.told told z current) in
+    let h = subst (λ (f : ReplayFault). TellsJournal fits config z.journal (said_by c.in-Ok.loaded) (said_by c.replay.new.state) (Err f)) c.in-Err-Bad.field-0-is first in
     let answer : c.bad_record.result ≡ faults.BadImage (first_page s.geometry (area_unit s.geometry x.area) + (suc x.seal.checkpoint + number)) =
     c.bad_record.ensures ∙ ap (λ (n : ℕ). faults.BadImage (first_page cut (area_unit cut x.area) + (suc x.seal.checkpoint + n))) c.in-Err-Bad.number-is
     ∙ ap (λ (y : Geometry). faults.BadImage (first_page y (area_unit y x.area) + (suc x.seal.checkpoint + number))) c.geometry-geometry.ensures.value in
     subst (λ (f : OpenFault). TellsArea config s.geometry x.area z (Err f)) (sym answer)
-    (bad_journal config s.geometry x.area z c.args.state number x.seal.checkpoint _ (said_by c.new-loaded.result) (said_by c.replay.new.state) c.requires.ready.cut (c.requires.says told z current) c.new-loaded.ensures.said
+    (bad_journal config s.geometry x.area z c.args.state number x.seal.checkpoint _ (said_by c.in-Ok.loaded) (said_by c.replay.new.state) c.requires.ready.cut (c.requires.says told z current) c.in-Ok.ensures.said
     ((current_seal s.geometry s.cells x z (c.requires.current told) current).checkpoint) h.1 (inl h.0) refl)
 
 pub returns-in-Err-Unfit-clause-told : goal.returns-in-Err-Unfit-clause-told
@@ -45,11 +46,17 @@ returns-in-Err-Unfit-clause-told g c told z current =
     let x = c.args.current.now in
     let number = c.in-Err-Unfit.number in
     let cut = c.geometry-geometry.result in
-    let first = subst (λ (k : DriveConfig). TellsJournal fits k z.journal (said_by c.new-loaded.result) (said_by c.replay.new.state) (Err c.in-Err-Unfit.field-0)) c.new-loaded.ensures.config (c.in-Err-Unfit.ensures.told told z current) in
-    let h = subst (λ (f : ReplayFault). TellsJournal fits config z.journal (said_by c.new-loaded.result) (said_by c.replay.new.state) (Err f)) c.in-Err-Unfit.field-0-is first in
+    let first = subst (λ (k : DriveConfig). TellsJournal fits k z.journal (said_by c.in-Ok.loaded) (said_by c.replay.new.state) (Err c.in-Err-Unfit.field-0)) c.in-Ok.ensures.config (c.in-Err-Unfit.ensures.told told z current) in
+    let h = subst (λ (f : ReplayFault). TellsJournal fits config z.journal (said_by c.in-Ok.loaded) (said_by c.replay.new.state) (Err f)) c.in-Err-Unfit.field-0-is first in
     let answer : c.bad_record-in-Err-Unfit.result ≡ faults.BadImage (first_page s.geometry (area_unit s.geometry x.area) + (suc x.seal.checkpoint + number)) =
     c.bad_record-in-Err-Unfit.ensures ∙ ap (λ (n : ℕ). faults.BadImage (first_page cut (area_unit cut x.area) + (suc x.seal.checkpoint + n))) c.in-Err-Unfit.number-is
     ∙ ap (λ (y : Geometry). faults.BadImage (first_page y (area_unit y x.area) + (suc x.seal.checkpoint + number))) c.geometry-geometry.ensures.value in
     subst (λ (f : OpenFault). TellsArea config s.geometry x.area z (Err f)) (sym answer)
-    (bad_journal config s.geometry x.area z c.args.state number x.seal.checkpoint _ (said_by c.new-loaded.result) (said_by c.replay.new.state) c.requires.ready.cut (c.requires.says told z current) c.new-loaded.ensures.said
+    (bad_journal config s.geometry x.area z c.args.state number x.seal.checkpoint _ (said_by c.in-Ok.loaded) (said_by c.replay.new.state) c.requires.ready.cut (c.requires.says told z current) c.in-Ok.ensures.said
     ((current_seal s.geometry s.cells x z (c.requires.current told) current).checkpoint) h.1 (inr h.0) refl)
+
+pub returns-in-Ok-replay-clause-ready : goal.returns-in-Ok-replay-clause-ready
+returns-in-Ok-replay-clause-ready g c =
+    let config = c.in-Ok-replay.ensures.config ∙ c.in-Ok.ensures.config in
+    let state = subst (λ (k : DriveConfig). IsDriveState k c.into_state.result) config c.into_state.ensures.state in
+    record { cut = c.requires.ready.cut; state = state; loadable = loadable c.into_state.result state.writable }

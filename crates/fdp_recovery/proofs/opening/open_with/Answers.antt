@@ -1,13 +1,16 @@
-use Rattle.std.proofs.Common.{◌≡◌, List, Option, None, arith, length, subst}
+use Rattle.std.proofs.Common.{◌≡◌, ◌+◌, List, Option, None, arith, length, subst}
 use Rattle.std.specs.Prelude.{IfSome}
 use Rattle.std.proofs.lemmas.Grind.{common_steps}
 use Rattle.fdp_areas.specs.declared.seal.Current.{Current}
 use Rattle.fdp_areas.specs.Seals.{IsCurrentSeal, LiesIn, TellsCurrent}
 use Rattle.fdp_base.specs.declared.config.Geometry.{Geometry}
 use Rattle.fdp_flash.specs.declared.cell.Cell.{Cell}
-use Rattle.fdp_image.specs.Areas.{current_area}
+use Rattle.fdp_base.specs.Geometry.{area_pages}
+use Rattle.fdp_flash.specs.OnlyReads.{ReadsOnly}
+use Rattle.fdp_flash.proofs.OnlyReads.{reads_fewer, reads_joined}
+use Rattle.fdp_image.specs.Areas.{current_area, data_pages}
 use Rattle.fdp_recovery.specs.Opened.{TellsOpened}
-use Rattle.fdp_recovery.proofs.Ends.{cut_after, ends_behind, looked, looks_joined, told_after, told_before}
+use Rattle.fdp_recovery.proofs.Ends.{cut_after, cut_before, ends_behind, looked, told_after, told_before}
 use Rattle.fdp_recovery.proofs.opening.open_with.Goals as goal
 
 pub open_area-requires-clause-inside : goal.open_area-requires-clause-inside
@@ -30,7 +33,11 @@ open_area-requires-clause-current g c =
     (λ told. subst (TellsCurrent a.geometry a.cells) c.in-Ok-Some.field-0-is (c.in-Ok-Some.ensures.found told))
 
 pub returns-in-Ok-Some-clause-looks : goal.returns-in-Ok-Some-clause-looks
-returns-in-Ok-Some-clause-looks g c = looks_joined _ _ _ (looked _ _ _ c.in-Ok-Some.ensures.looks) c.open_area.ensures.looks
+returns-in-Ok-Some-clause-looks g c =
+    let a = g.F.Flash.state c.args.flash.now in
+    let b = g.F.Flash.state c.find_current.new.flash in
+    let pages = cut_before a b (λ (x : Geometry). ReadsOnly (area_pages x + area_pages x + data_pages x) b (g.F.Flash.state c.open_area.new.flash)) (looked _ a b c.in-Ok-Some.ensures.looks) c.open_area.ensures.looks in
+    reads_fewer _ _ a _ (omega arith) (reads_joined _ _ a b _ c.in-Ok-Some.ensures.looks pages)
 
 pub returns-in-Ok-Some-clause-told : goal.returns-in-Ok-Some-clause-told
 returns-in-Ok-Some-clause-told g c =
@@ -55,7 +62,11 @@ open_unsealed-requires-clause-unsealed g c =
     (λ told. subst (TellsCurrent a.geometry a.cells) c.in-Ok-None.field-0-is (c.in-Ok-None.ensures.found told))
 
 pub returns-in-Ok-None-clause-looks : goal.returns-in-Ok-None-clause-looks
-returns-in-Ok-None-clause-looks g c = looks_joined _ _ _ (looked _ _ _ c.in-Ok-None.ensures.looks) c.open_unsealed.ensures.looks
+returns-in-Ok-None-clause-looks g c =
+    let a = g.F.Flash.state c.args.flash.now in
+    let b = g.F.Flash.state c.find_current.new.flash in
+    let pages = cut_before a b (λ (x : Geometry). ReadsOnly (data_pages x) b (g.F.Flash.state c.open_unsealed.new.flash)) (looked _ a b c.in-Ok-None.ensures.looks) c.open_unsealed.ensures.looks in
+    reads_fewer _ _ a _ (omega arith) (reads_joined _ _ a b _ c.in-Ok-None.ensures.looks pages)
 
 pub returns-in-Ok-None-clause-told : goal.returns-in-Ok-None-clause-told
 returns-in-Ok-None-clause-told g c =

@@ -1,11 +1,19 @@
-use Rattle.std.proofs.Common.{◌∙◌, ℕ, List, Option, ap, length, refl}
-use Rattle.fdp_state.specs.Parts.{reading_of, row}
-use Rattle.fdp_state.proofs.Spacing.{made_place, none_before}
+use Rattle.std.proofs.Common.{◌≡◌, ◌∙◌, ℕ, None, List, Option, ap, length, refl, sym}
+use Rattle.std.specs.Prelude.{◌==◌, if◌then◌else◌}
+use Rattle.fdp_image.specs.Checkpoint.{page_in_lists}
+use Rattle.fdp_state.specs.Parts.{listed, reading_of, row}
+use Rattle.fdp_state.proofs.Owning.{owners-as}
+use Rattle.fdp_state.proofs.Spacing.{empty_pages, made_place, none_before}
 use Rattle.fdp_state.proofs.make.create.Goals as goal
 
 pub returns-clause-made : goal.returns-clause-made
 unfolding reading_of
 returns-clause-made c k =
-    made_place _ _ refl c.args.nsid _ c.from_vec.result c.requires.sound c.set_space.ensures.rows c.set_list.ensures.rows c.set_space.ensures.place c.set_list.ensures.pages c.set_list.ensures.sizes
-    (ap length c.from_vec.ensures ∙ c.in_ok-list.ensures.size) (λ lba. ap (λ (list : List (Option ℕ)). row list lba) c.from_vec.ensures ∙ c.in_ok-list.ensures.rows lba) k _ _ refl
-    (λ n lba. none_before c.args.parts.now c.args.nsid c.requires.sound c.requires.free n lba)
+    let old = c.args.parts.now.pages.items in
+    let new = c.set_list.new.lists.items in
+    let none = none_before c.args.parts.now c.args.nsid c.requires.sound c.requires.free in
+    let pages : (n lba : ℕ) → page_in_lists new n lba ≡ (if n == c.args.nsid then None else page_in_lists old n lba) =
+    λ n lba. empty_pages c.from_vec.result new old c.args.nsid n lba (c.set_list.ensures.pages n lba) (λ l. ap (λ (list : List (Option ℕ)). row list l) c.from_vec.ensures ∙ c.in_ok-list.ensures.rows l) in
+    made_place c.args.parts.now _ refl c.args.nsid _ c.requires.sound c.set_space.ensures.rows c.set_list.ensures.rows c.set_space.ensures.place pages
+    (λ n. c.set_list.ensures.sizes n ∙ ap (λ (m : ℕ). if n == c.args.nsid then m else listed old n) (ap length c.from_vec.ensures ∙ c.in_ok-list.ensures.size))
+    (owners-as (page_in_lists old) (page_in_lists new) _ (λ n l. pages n l ∙ sym (none n l)) c.requires.sound.owners) k _ _ refl none

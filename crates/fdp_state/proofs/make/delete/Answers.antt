@@ -1,7 +1,14 @@
-use Rattle.std.proofs.Common.{ℕ, List, None, Option, ap, length, refl}
-use Rattle.fdp_state.specs.Parts.{reading_of, row}
-use Rattle.fdp_state.proofs.Spacing.{made_place, there_good}
+use Rattle.std.proofs.Common.{◌≡◌, ◌∙◌, ℕ, None, List, Option, ap, arith, length, refl, sym}
+use Rattle.std.specs.Prelude.{◌==◌, if◌then◌else◌}
+use Rattle.fdp_image.specs.Checkpoint.{in_place, page_in_lists}
+use Rattle.fdp_state.specs.declared.parts.Parts.{Parts}
+use Rattle.fdp_state.specs.Parts.{listed, reading_of, row}
+use Rattle.fdp_state.proofs.Owning.{owners-as}
+use Rattle.fdp_state.proofs.Spacing.{cleared_all, empty_pages, made_place, there_good, twice_none}
 use Rattle.fdp_state.proofs.make.delete.Goals as goal
+
+pub clear_row-requires-clause-within : goal.clear_row-requires-clause-within
+clear_row-requires-clause-within c = omega (arith, c.size_of-size.ensures, c.requires.sound.sizes c.args.nsid)
 
 pub set_space-requires-clause-id : goal.set_space-requires-clause-id
 set_space-requires-clause-id c = there_good c.args.parts.now c.args.nsid c.requires.there
@@ -11,8 +18,25 @@ set_list-requires-clause-id c = there_good c.args.parts.now c.args.nsid c.requir
 
 pub returns : goal.returns
 unfolding reading_of
-returns c = record {
-  made = λ k position.
-      made_place _ _ refl c.args.nsid None c.new.result c.requires.sound c.set_space.ensures.rows c.set_list.ensures.rows c.set_space.ensures.place c.set_list.ensures.pages c.set_list.ensures.sizes
-      (ap length c.new.ensures) (λ lba. ap (λ (list : List (Option ℕ)). row list lba) c.new.ensures) k position _ refl (λ n lba. refl);
-}
+returns c =
+    let old : Parts = c.args.parts.now in
+    let mid : Parts = c.clear_row.new.parts in
+    let lists = c.set_list.new.lists.items in
+    let nsid = c.args.nsid in
+    let h = c.clear_row.ensures in
+    let gone : (n l : ℕ) → page_in_lists mid.pages.items n l ≡ (if n == nsid then None else page_in_lists old.pages.items n l) =
+    λ n l. h.said n l ∙ cleared_all old nsid c.size_of-size.result c.requires.sound c.size_of-size.ensures n l in
+    let pages : (n l : ℕ) → page_in_lists lists n l ≡ (if n == nsid then None else page_in_lists old.pages.items n l) =
+    λ n l.
+    empty_pages c.new.result lists mid.pages.items nsid n l (c.set_list.ensures.pages n l) (λ k. ap (λ (list : List (Option ℕ)). row list k) c.new.ensures)
+    ∙ ap (λ (o : Option ℕ). if n == nsid then None else o) (gone n l)
+    ∙ twice_none (n == nsid) (page_in_lists old.pages.items n l) in
+    record {
+      made = λ k position.
+          made_place old _ (ap (λ (q : Parts). record q { spaces = c.set_space.new.spaces; pages = c.set_list.new.lists }) h.rest) nsid None c.requires.sound c.set_space.ensures.rows c.set_list.ensures.rows
+          (λ n. c.set_space.ensures.place n ∙ ap (λ (q : Parts). if n == nsid then None else in_place q.spaces.items n) h.rest)
+          pages
+          (λ n. c.set_list.ensures.sizes n ∙ ap (λ (m : ℕ). if n == nsid then m else listed mid.pages.items n) (ap length c.new.ensures) ∙ ap (λ (m : ℕ). if n == nsid then 0 else m) (h.sizes n))
+          (owners-as (page_in_lists mid.pages.items) (page_in_lists lists) _ (λ n l. pages n l ∙ sym (gone n l)) h.sound.owners)
+          k position _ refl (λ n l. refl);
+    }
