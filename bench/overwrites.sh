@@ -1,6 +1,6 @@
 #!/bin/sh
-# Measures writes of one block to drives that are filled to their budget: of 4,096 pages in units of 64, and of 262,144 pages in units of 64
-# and of 2, each block as often, and four of five writes to a fifth of the blocks. Prints commands per second, programs for each block
+# Measures writes of one block to drives that are filled to their budget: of 4,096 and of 262,144 pages in units of 64, and of 64 and
+# of 129,000 units of 2; each block as often, and four of five writes to a fifth of the blocks. Prints commands per second, programs for each block
 # that the host wrote, and the steps of relocation for each unit that it emptied: its copies, its move and its erase. The filling is
 # measured apart and taken off.
 # Usage: bench/overwrites.sh [WRITES]: so many writes, 20000 if not given. It plays rows on the program of crates/fdp_core_rows, which is
@@ -51,4 +51,5 @@ measure() {
 
 measure 64 62 1 64
 measure 64 4032 32 64
+measure 2 64 16 2
 measure 2 129000 1022 2
