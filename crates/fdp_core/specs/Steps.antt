@@ -29,7 +29,7 @@ pub record MayBegin {F : Type 0} (group : Seen F) (queue number : ℕ) (command 
 
 -- The flash before and after calls that added these entries: just these calls were made. Its programs are the pages that were placed or
 -- copied, and where an entry tells of a failed call one of the calls failed. Where the cells are told, each unit of which an entry tells
--- that it was erased is all blank, and a data unit of which none tells that, nor that its erase failed, is all blank just where it was.
+-- that it was erased is all blank, and a data unit of which none tells that, nor that its erase failed, is all blank only where it was before.
 pub record Matches (old new : FlashState) (es : List Entry) (calls : List Call) : Type 0 where
   pub made : MakesCalls old new calls
   pub programs : new.programs ≡ counted_more old.programs (media_blocks es)
