@@ -139,3 +139,20 @@ word_of (commands.GetFdp g) = codes "get-fdp"
 word_of (commands.SetEvents s) = codes "set-events"
 word_of (commands.Create c) = codes "create"
 word_of (commands.Other o) = codes "entry"
+
+-- a command that puts another configuration in force
+abbrev pub is_setting : Command → Bool
+is_setting (commands.Write w) = false
+is_setting (commands.Read r) = false
+is_setting (commands.Zero z) = false
+is_setting (commands.Dealloc d) = false
+is_setting (commands.Flush f) = false
+is_setting (commands.Delete d) = false
+is_setting (commands.Status s) = false
+is_setting (commands.Update u) = false
+is_setting (commands.Log l) = false
+is_setting (commands.SetFdp s) = true
+is_setting (commands.GetFdp g) = false
+is_setting (commands.SetEvents s) = false
+is_setting (commands.Create c) = false
+is_setting (commands.Other o) = false

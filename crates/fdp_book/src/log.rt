@@ -5,9 +5,6 @@ use fdp_base::{BlockName, Entry};
 use std::alloc::{AllocError, Global};
 use std::marker::Model;
 
-/// The most steps of one drive.
-pub const MOST_STEPS: u32 = 1 << 30;
-
 /// The most entries that a step adds.
 pub const MOST_STEP_ENTRIES: u32 = 300;
 

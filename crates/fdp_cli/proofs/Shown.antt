@@ -14,6 +14,7 @@ use Rattle.fdp_base.specs.declared.limits.TheConstants.{MOST_TRACE_COMMANDS}
 use Rattle.fdp_base.specs.Counts.{counted}
 use Rattle.fdp_base.specs.Geometry.{all_pages}
 use Rattle.fdp_base.specs.Placement.{geometry_of}
+use Rattle.fdp_base.specs.EntryKinds.{is_shut, loses_unit}
 use Rattle.fdp_calls.specs.Calls.{counted_more, has_failed}
 use Rattle.fdp_core.specs.Seen.{HoldsHistory, IsLegalOver, IsNewOver, Seen}
 use Rattle.fdp_core.specs.Silence.{OthersStaySilent}
@@ -23,7 +24,7 @@ use Rattle.fdp_flash.specs.declared.plan.Plan.{Plan}
 use Rattle.fdp_flash.specs.FlashMem.{BeginsWith, plan_of, state_of as memory_state}
 use Rattle.fdp_flash.specs.Plan.{plan_is_empty}
 use Rattle.fdp_io.specs.Sink.{HoldsFront, SinkState}
-use Rattle.fdp_ledger.specs.Told.{is_media_reply, is_shut, loses_unit, tells_failure}
+use Rattle.fdp_ledger.specs.Told.{is_media_reply, tells_failure}
 use Rattle.fdp_rules.specs.History.{Found, first_state, fresh, point_of, state_of, totals_of}
 use Rattle.fdp_rules.specs.Legal.{IsLegal}
 use Rattle.fdp_rules.specs.Queue.{completed, numbered}

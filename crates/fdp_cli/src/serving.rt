@@ -2,14 +2,11 @@ ghost use Rattle.std.specs.Prelude.{◌≡◌, ◌≤◌, All, MatchResult, leng
 ghost use Rattle.fdp_cli.specs.Servable.{IsServable};
 ghost use Rattle.fdp_cli.specs.Serving.{EndsWrite, HasStep, IsIdle, IsPlacing, IsStopped, PlacesAll, Serves, ServesOne, StopsShort};
 
-use fdp_base::{Command, MOST_TRACE_COMMANDS};
+use fdp_base::{Command, MOST_STEPS, MOST_TRACE_COMMANDS};
 use fdp_book::{Room, Ticket};
 use fdp_core::{Begun, Group, Placed};
 use fdp_flash::Flash;
 use std::alloc::{AllocError, Global};
-
-/// The most steps of a drive in one run.
-const MOST_STEPS: u32 = 1 << 30;
 
 /// Why a trace was not served whole.
 #[derive(Clone, Copy, Debug, PartialEq, Eq)]

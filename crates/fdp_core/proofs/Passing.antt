@@ -30,11 +30,12 @@ use Rattle.fdp_isolation.specs.Laned.{IsKnown}
 use Rattle.fdp_ledger.specs.declared.counts.Counts.{Counts}
 use Rattle.fdp_ledger.specs.Emptied.{ErasedAreBlank, OnlyErasesEmpty}
 use Rattle.fdp_ledger.specs.Ledger.{IsLedger}
-use Rattle.fdp_ledger.specs.Told.{is_erased, tells_failure}
+use Rattle.fdp_ledger.specs.Told.{tells_failure}
 use Rattle.fdp_ledger.specs.WornOut.{IsWornOut}
 use Rattle.fdp_ledger.proofs.Promised.{worn-out}
 use Rattle.fdp_rules.specs.History.{Found, point_of, state_of}
 use Rattle.fdp_base.specs.Placement.{geometry_of}
+use Rattle.fdp_base.specs.EntryKinds.{empties}
 use Rattle.fdp_ledger.proofs.Blank.{none-free_starved, ErasesNoUnit, erased-behind, erased-none, erased-relocated}
 use Rattle.fdp_ledger.proofs.Emptied.{emptied-joined, emptied-none, same-emptied}
 use Rattle.fdp_ledger.proofs.Relocated.{emptied-relocated}
@@ -211,7 +212,7 @@ relocates-made state old new rg Image x run stands low group handed h =
 
 -- entries that tell of no erase, one behind another
 pub erases-none : (es fs : List Entry) → ErasesNoUnit es → ErasesNoUnit fs → ErasesNoUnit (es ++ fs)
-erases-none es fs p q unit = list_any-append (is_erased unit) es fs ∙ ap (λ (k : Bool). k || list_any (is_erased unit) fs) (p unit) ∙ q unit
+erases-none es fs p q unit = list_any-append (empties unit) es fs ∙ ap (λ (k : Bool). k || list_any (empties unit) fs) (p unit) ∙ q unit
 
 matches-joined : (a b c : FlashState) (es fs : List Entry) (xs ys : List Call) → ErasesNoUnit es → Matches a b es xs → Matches b c fs ys → Matches a c (es ++ fs) (xs ++ ys)
 matches-joined a b c es fs xs ys none p q = record {

@@ -18,6 +18,7 @@ use Rattle.fdp_base.specs.declared.status.TheConstants.Status as statuses
 use Rattle.fdp_base.specs.CommandKinds.{blocks_written, write_of}
 use Rattle.fdp_base.specs.Numbers.{count_below, is_among}
 use Rattle.fdp_base.specs.Placement.{budget_of}
+use Rattle.fdp_base.specs.EntryKinds.{empties}
 use Rattle.fdp_book.specs.declared.ticket.Done.{Done}
 use Rattle.fdp_book.specs.declared.ticket.Ticket.{Ticket}
 use Rattle.fdp_book.specs.Book.{BookSeen, IsLonger, point_in, state_in}
@@ -41,7 +42,7 @@ use Rattle.fdp_ledger.specs.declared.counts.Counts.{Counts}
 use Rattle.fdp_ledger.specs.Ledger.{IsLedger}
 use Rattle.fdp_ledger.proofs.Emptied.{emptied-joined, emptied-none, same-emptied}
 use Rattle.fdp_ledger.specs.WornOut.{IsWornOut}
-use Rattle.fdp_ledger.specs.Told.{is_erased, is_media_reply, tells_failure}
+use Rattle.fdp_ledger.specs.Told.{is_media_reply, tells_failure}
 use Rattle.fdp_ledger.proofs.Moments.{may-tell, new-moment}
 use Rattle.fdp_relocation.specs.Entries.{AreRelocationIn, IsRelocationIn}
 use Rattle.fdp_relocation.proofs.Keeping.{keeps-there, keeps-ticket}
@@ -128,7 +129,7 @@ matches-host f n es calls queue number moment command reply h same = record {
   made = h.made;
   programs = h.programs ∙ ap (counted_more f.programs) pages;
   failed = λ some. either (list_any tells_failure es) h.failed (sym (list_any-append tells_failure es (host queue number command reply moment ∷ [])) ∙ some);
-  erased = λ told. record { blank = λ unit some. (h.erased told).blank unit (first (list_any (is_erased unit) es) (sym (list_any-append (is_erased unit) es (host queue number command reply moment ∷ [])) ∙ some)) };
+  erased = λ told. record { blank = λ unit some. (h.erased told).blank unit (first (list_any (empties unit) es) (sym (list_any-append (empties unit) es (host queue number command reply moment ∷ [])) ∙ some)) };
   emptied = λ told. emptied-joined f.geometry f.cells n.cells n.cells es (host queue number command reply moment ∷ []) (h.emptied told)
       (emptied-none f.geometry n.cells n.cells (host queue number command reply moment ∷ []) (same-emptied f.geometry n.cells n.cells refl));
 }

@@ -9,7 +9,7 @@ ghost use Rattle.fdp_core_tests.specs.Played.{CameToBegin, CameToCollect, CameTo
 
 use crate::formed::{has_spare, may_play};
 use crate::noted::Noted;
-use fdp_base::{Command, Entry};
+use fdp_base::{Command, Entry, MOST_STEPS};
 use fdp_book::{Done, Room, Stage, Ticket};
 use fdp_core::{Advance, Begun, Group, Placed};
 use fdp_flash::Flash;
@@ -18,9 +18,6 @@ use std::marker::Model;
 
 /// The rows of a player: one for each queue that a drive may have, and row 0, which stays empty.
 const ROWS: usize = 17;
-
-/// The most steps that a player makes, and takes memory for.
-const MOST_STEPS: u32 = 1_000_000_000;
 
 /// A drive, and for each queue the write that it started last. It begins commands and goes on with their writes, relocates between
 /// their steps, and asks the drive before each step whether it may make it.
@@ -58,7 +55,7 @@ impl<F: Flash + Drop> Player<F> {
 }
 
 impl<F: Flash> Player<F> {
-    /// Takes the memory for a step, if the drive has not made a billion of them.
+    /// Takes the memory for a step, if the drive may make one.
     pub fn reserve(&mut self) -> Result<(), AllocError>
         ensures ok { OnOk result (self.old.group.book.spent < MOST_STEPS → 1 ≤ self.new.group.book.spare) }
         ensures kept { self.new ≡ record self.old { group = with_spare self.old.group self.new.group.book.spare } }

@@ -6,11 +6,12 @@ use Rattle.fdp_base.specs.declared.command.Command.TheVariants as commands
 use Rattle.fdp_base.specs.declared.entry.Entry.{Entry}
 use Rattle.fdp_base.specs.declared.entry.Entry.TheVariants as entries
 use Rattle.fdp_base.specs.declared.entry.Reply.{Reply}
+use Rattle.fdp_base.specs.CommandKinds.{is_setting}
 use Rattle.fdp_book.specs.declared.ticket.Done.{Done}
 use Rattle.fdp_book.specs.Book.{BookSeen, IsLed, IsLonger, point_in, state_in}
 use Rattle.fdp_book.specs.Steps.{Completes, IsServed}
 use Rattle.fdp_flash.specs.declared.cell.Cell.{Cell}
-use Rattle.fdp_isolation.specs.Isolated.{is_setting, sets_placement}
+use Rattle.fdp_isolation.specs.Isolated.{sets_placement}
 use Rattle.fdp_isolation.specs.Laned.{AreLaned, IsKnown}
 use Rattle.fdp_isolation.proofs.Entries.{AreQuiet, generation-next, no, only-placed-host, point-one, written-one}
 use Rattle.fdp_isolation.proofs.Keeping.{laned-still, owners-fill}

@@ -10,13 +10,14 @@ use Rattle.fdp_base.specs.declared.config.DriveConfig.{DriveConfig}
 use Rattle.fdp_base.specs.declared.entry.Entry.{Entry}
 use Rattle.fdp_base.specs.declared.entry.Entry.TheVariants as entries
 use Rattle.fdp_base.specs.declared.entry.Reply.{Reply}
-use Rattle.fdp_base.specs.CommandKinds.{is_write}
+use Rattle.fdp_base.specs.CommandKinds.{is_setting, is_write}
 use Rattle.fdp_book.specs.Book.{BookSeen, IsLonger, point_in, state_in, written_in}
 use Rattle.fdp_book.specs.Configured.{no_pages}
 use Rattle.fdp_base.specs.declared.entry.Spot.{Spot}
+use Rattle.fdp_base.specs.EntryKinds.{empties, puts_into}
 use Rattle.fdp_history.specs.Orderly.{IsOrderly}
 use Rattle.fdp_history.proofs.Effects.{fewer-going}
-use Rattle.fdp_isolation.specs.Isolated.{before_erase, empties, is_setting, puts_into, sets_placement, since_setting}
+use Rattle.fdp_isolation.specs.Isolated.{before_erase, sets_placement, since_setting}
 use Rattle.fdp_locations.specs.Written.{Written, written_after, written_by}
 use Rattle.fdp_locations.proofs.Histories.{written_by-push}
 use Rattle.fdp_pointers.specs.Facts.{HasOnlyPlaced}

@@ -7,11 +7,12 @@ use Rattle.fdp_base.specs.declared.config.Class.{Class}
 use Rattle.fdp_base.specs.declared.config.DriveConfig.{DriveConfig}
 use Rattle.fdp_base.specs.declared.entry.Entry.{Entry}
 use Rattle.fdp_base.specs.declared.entry.Spot.{Spot}
+use Rattle.fdp_base.specs.EntryKinds.{puts_into}
 use Rattle.fdp_book.specs.Book.{BookSeen, state_in}
 use Rattle.fdp_flash.specs.declared.cell.Cell.{Cell}
 use Rattle.fdp_handles.specs.HandleTable.{HandleTable, reference_at}
 use Rattle.fdp_image.specs.Isolation.{EachPage}
-use Rattle.fdp_isolation.specs.Isolated.{puts_into, since_setting}
+use Rattle.fdp_isolation.specs.Isolated.{since_setting}
 use Rattle.fdp_isolation.specs.Laned.{AreLaned, GoesOneWay, IsLaned, lane_by}
 use Rattle.fdp_isolation.proofs.Entries.{IsQuietStep, put-before, since-longer}
 use Rattle.fdp_isolation.proofs.Pages.{KeepsPages, each-both, each-kept}

@@ -10,13 +10,14 @@ use Rattle.fdp_base.specs.declared.config.Geometry.{Geometry}
 use Rattle.fdp_base.specs.declared.entry.Entry.{Entry}
 use Rattle.fdp_base.specs.Numbers.{numbers_from}
 use Rattle.fdp_base.specs.Placement.{geometry_of}
+use Rattle.fdp_base.specs.EntryKinds.{empties, puts_into}
 use Rattle.fdp_book.specs.Book.{BookSeen, IsFirst, IsLonger}
 use Rattle.fdp_flash.specs.declared.cell.Cell.{Cell}
 use Rattle.fdp_flash.specs.Cells.{IsBlankUnit}
 use Rattle.fdp_image.specs.Reads.{is_blank}
 use Rattle.fdp_image.specs.Roomy.{is_blank_at, is_blank_unit, page_in}
 use Rattle.fdp_isolation.specs.Alone.{AreLeftAlone, IsLeftAlone, gets_none}
-use Rattle.fdp_isolation.specs.Isolated.{IsWornDown, LeavesUsed, before_erase, empties, puts_into, since_setting}
+use Rattle.fdp_isolation.specs.Isolated.{IsWornDown, LeavesUsed, before_erase, since_setting}
 use Rattle.fdp_isolation.specs.Laned.{StandsOver}
 use Rattle.fdp_isolation.proofs.Promised.{no-entries}
 use Rattle.fdp_isolation.proofs.Entries.{AreQuiet, before-none, before-some, emptied-before, no, since-longer}

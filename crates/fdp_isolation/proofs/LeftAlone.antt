@@ -12,6 +12,8 @@ use Rattle.fdp_base.specs.declared.entry.Spot.{Spot}
 use Rattle.fdp_base.specs.declared.status.Status.{Status}
 use Rattle.fdp_base.specs.Placement.{geometry_of}
 use Rattle.fdp_base.specs.Spare.{data_spare}
+use Rattle.fdp_base.specs.EntryKinds.{puts_into}
+use Rattle.fdp_base.specs.CommandKinds.{is_setting}
 use Rattle.fdp_book.specs.declared.ticket.Done.{Done}
 use Rattle.fdp_book.specs.declared.ticket.Ticket.{Ticket}
 use Rattle.fdp_book.specs.Book.{BookSeen, state_in}
@@ -24,7 +26,7 @@ use Rattle.fdp_flash.specs.declared.cell.Cell.{Cell}
 use Rattle.fdp_flash.specs.Cells.{ProgramMayLeave}
 use Rattle.fdp_flash.proofs.Pages.{program_other_unit}
 use Rattle.fdp_isolation.specs.Alone.{AreLeftAlone, gets_none}
-use Rattle.fdp_isolation.specs.Isolated.{IsWornDown, is_setting, puts_into}
+use Rattle.fdp_isolation.specs.Isolated.{IsWornDown}
 use Rattle.fdp_isolation.specs.Laned.{IsKnown}
 use Rattle.fdp_isolation.proofs.Answered.{served-quiet}
 use Rattle.fdp_isolation.proofs.Entries.{no}

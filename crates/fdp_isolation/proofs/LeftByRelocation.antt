@@ -9,6 +9,7 @@ use Rattle.fdp_base.specs.declared.entry.Entry.{Entry}
 use Rattle.fdp_base.specs.declared.entry.Entry.TheVariants as entries
 use Rattle.fdp_base.specs.Placement.{geometry_of}
 use Rattle.fdp_base.specs.Spare.{data_spare}
+use Rattle.fdp_base.specs.EntryKinds.{empties, puts_into}
 use Rattle.fdp_book.specs.Book.{BookSeen, state_in}
 use Rattle.fdp_book.specs.Relocating.{Relocates, told_by}
 use Rattle.fdp_collector.specs.declared.step.Lost.TheVariants as lost
@@ -30,7 +31,7 @@ use Rattle.fdp_flash.specs.Layout.{page_number}
 use Rattle.fdp_flash.proofs.Pages.{erased_may_leave, program_other_unit, same_outside_page}
 use Rattle.fdp_image.specs.Roomy.{page_in}
 use Rattle.fdp_isolation.specs.Alone.{AreLeftAlone, gets_none}
-use Rattle.fdp_isolation.specs.Isolated.{IsWornDown, empties, puts_into, since_setting}
+use Rattle.fdp_isolation.specs.Isolated.{IsWornDown, since_setting}
 use Rattle.fdp_isolation.specs.Laned.{AreLaned, StandsOver}
 use Rattle.fdp_isolation.proofs.Copying.{is-opened}
 use Rattle.fdp_isolation.proofs.Entries.{AreQuiet, no}

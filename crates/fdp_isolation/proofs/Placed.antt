@@ -13,9 +13,10 @@ use Rattle.fdp_base.specs.declared.entry.Shut.{Shut}
 use Rattle.fdp_base.specs.declared.entry.Spot.{Spot}
 use Rattle.fdp_base.specs.declared.spare.DataSpare.{DataSpare}
 use Rattle.fdp_base.specs.declared.status.Status.{Status}
-use Rattle.fdp_base.specs.CommandKinds.{write_of}
+use Rattle.fdp_base.specs.CommandKinds.{is_setting, write_of}
 use Rattle.fdp_base.specs.Placement.{geometry_of}
 use Rattle.fdp_base.specs.Spare.{data_spare}
+use Rattle.fdp_base.specs.EntryKinds.{puts_into}
 use Rattle.fdp_book.specs.declared.ticket.Done.{Done}
 use Rattle.fdp_book.specs.declared.ticket.Ticket.{Ticket}
 use Rattle.fdp_book.specs.Book.{BookSeen, IsLed, IsLonger, point_in, state_in, written_in}
@@ -27,7 +28,7 @@ use Rattle.fdp_flash.specs.Cells.{ProgramMayLeave}
 use Rattle.fdp_handles.specs.HandleTable.{HandleTable, reference_at}
 use Rattle.fdp_history.proofs.Placing.{going_with-is}
 use Rattle.fdp_history.proofs.Points.{orderly-next}
-use Rattle.fdp_isolation.specs.Isolated.{is_setting, puts_into, sets_placement, since_setting}
+use Rattle.fdp_isolation.specs.Isolated.{sets_placement, since_setting}
 use Rattle.fdp_isolation.specs.Laned.{AreLaned, StandsOver, IsKnown, IsLaned}
 use Rattle.fdp_isolation.proofs.Entries.{AreQuiet, generation-next, only-placed-host, point-two, put-before, put-cases, quiet-one, written-one, written-two}
 use Rattle.fdp_isolation.proofs.Filling.{NamesHandle, fills-unit, filled-by, filled-pages, handle-pages, handle-way}

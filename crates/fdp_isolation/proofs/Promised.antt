@@ -12,13 +12,14 @@ use Rattle.fdp_base.specs.declared.entry.Spot.{Spot}
 use Rattle.fdp_base.specs.declared.spare.DataSpare.{DataSpare}
 use Rattle.fdp_base.specs.Placement.{geometry_of}
 use Rattle.fdp_base.specs.Spare.{data_spare}
+use Rattle.fdp_base.specs.EntryKinds.{puts_into}
 use Rattle.fdp_book.specs.Book.{BookSeen, IsFirst, point_in, state_in, written_in}
 use Rattle.fdp_flash.specs.declared.cell.Cell.{Cell}
 use Rattle.fdp_flash.specs.Cells.{IsBlankUnit}
 use Rattle.fdp_image.specs.CheckpointFields.{is_persistent}
 use Rattle.fdp_image.specs.Isolation.{EachPage, IsIsolated}
 use Rattle.fdp_image.specs.Roomy.{page_in}
-use Rattle.fdp_isolation.specs.Isolated.{IsIsolatedDrive, has_live, puts_into, since_setting}
+use Rattle.fdp_isolation.specs.Isolated.{IsIsolatedDrive, has_live, since_setting}
 use Rattle.fdp_isolation.specs.Laned.{AreLaned, GoesOneWay, StandsOver, IsKnown, lane_by}
 use Rattle.fdp_isolation.proofs.Filling.{data-unit, target-unit}
 use Rattle.fdp_isolation.proofs.Pages.{HasNoPage, blank-unit-none, each-both, each-none, each-weaker}

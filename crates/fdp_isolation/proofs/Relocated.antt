@@ -27,7 +27,7 @@ use Rattle.fdp_flash.specs.Cells.{EraseMayLeave, ProgramMayLeave}
 use Rattle.fdp_flash.specs.FlashState.{FlashState}
 use Rattle.fdp_flash.proofs.Pages.{erased_may_leave}
 use Rattle.fdp_handles.specs.HandleTable.{HandleTable, reference_at}
-use Rattle.fdp_isolation.specs.Isolated.{puts_into, sets_placement, since_setting}
+use Rattle.fdp_isolation.specs.Isolated.{sets_placement, since_setting}
 use Rattle.fdp_isolation.specs.Laned.{AreLaned, StandsOver}
 use Rattle.fdp_isolation.proofs.Copying.{KeepsTargets, copied-fills, copied-pages, same-targets, used-targets, went-targets}
 use Rattle.fdp_isolation.proofs.Entries.{IsQuietStep, put-before, put-cases, quiet-none, quiet-one}
@@ -41,6 +41,7 @@ use Rattle.fdp_passes.specs.GroupPasses.{GroupPasses, target_at}
 use Rattle.fdp_rules.specs.Step.{Follows}
 use Rattle.fdp_units.specs.UnitTable.{Cut, IsGroup}
 use Rattle.std.proofs.lemmas.Bool.{cases_eq}
+use Rattle.fdp_base.specs.EntryKinds.{puts_into}
 
 module _ (old new : BookSeen) (before after : FlashState) (rg : ℕ) (may_erase : Bool) (told : IsTrue before.told) (geometry : before.geometry ≡ geometry_of old.config) (low : rg < old.config.groups) (kept : StandsOver old before.cells) (h : AreLaned old before.cells) where
   -- ---- what stays

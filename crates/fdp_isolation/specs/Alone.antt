@@ -4,10 +4,11 @@ use Rattle.std.specs.List.{list_any}
 use Rattle.fdp_base.specs.declared.config.DriveConfig.{DriveConfig}
 use Rattle.fdp_base.specs.declared.entry.Entry.{Entry}
 use Rattle.fdp_base.specs.Placement.{geometry_of}
+use Rattle.fdp_base.specs.EntryKinds.{empties}
 use Rattle.fdp_book.specs.Book.{BookSeen}
 use Rattle.fdp_flash.specs.declared.cell.Cell.{Cell}
 use Rattle.fdp_image.specs.Roomy.{is_blank_unit}
-use Rattle.fdp_isolation.specs.Isolated.{GetsNoPage, empties, since_setting}
+use Rattle.fdp_isolation.specs.Isolated.{GetsNoPage, since_setting}
 use Rattle.fdp_pages.specs.PageTables.{PageTables}
 use Rattle.fdp_rules.specs.Step.{IsDataUnit}
 use Rattle.fdp_units.specs.declared.state.UnitState.{UnitState}

@@ -9,9 +9,10 @@ use Rattle.fdp_base.specs.declared.config.Geometry.{Geometry}
 use Rattle.fdp_base.specs.declared.entry.Entry.{Entry}
 use Rattle.fdp_base.specs.declared.entry.Entry.TheVariants as entries
 use Rattle.fdp_base.specs.declared.entry.Host.{Host}
-use Rattle.fdp_base.specs.EntryKinds.{host_of}
+use Rattle.fdp_base.specs.EntryKinds.{empties, host_of, puts_into}
 use Rattle.fdp_base.specs.Numbers.{numbers_below}
 use Rattle.fdp_base.specs.Placement.{geometry_of}
+use Rattle.fdp_base.specs.CommandKinds.{is_setting}
 use Rattle.fdp_flash.specs.declared.cell.Cell.{Cell}
 use Rattle.fdp_flash.specs.declared.cell.Cell.TheVariants.{Blank, Torn}
 use Rattle.fdp_flash.specs.Layout.{page_number}
@@ -21,54 +22,7 @@ use Rattle.fdp_rules.specs.Point.{Point}
 use Rattle.fdp_rules.specs.Sites.{is_live}
 use Rattle.fdp_rules.specs.Step.{IsDataUnit}
 
--- ---- what entries tell of a unit
-
--- a page was put into a unit: that of a write, or a copy
-abbrev pub puts_into : ℕ → Entry → Bool
-puts_into unit (entries.Host h) = false
-puts_into unit (entries.Started s) = false
-puts_into unit (entries.Placed p) = p.unit == unit
-puts_into unit (entries.Copied x) = x.to.unit == unit
-puts_into unit (entries.Moved m) = false
-puts_into unit (entries.Erased e) = false
-puts_into unit (entries.Retired r) = false
-puts_into unit (entries.Aside a) = false
-puts_into unit (entries.Shut s) = false
-puts_into unit (entries.Worn w) = false
-puts_into unit entries.Reopened = false
-
--- a unit was erased
-abbrev pub empties : ℕ → Entry → Bool
-empties unit (entries.Host h) = false
-empties unit (entries.Started s) = false
-empties unit (entries.Placed p) = false
-empties unit (entries.Copied x) = false
-empties unit (entries.Moved m) = false
-empties unit (entries.Erased e) = e.unit == unit
-empties unit (entries.Retired r) = false
-empties unit (entries.Aside a) = false
-empties unit (entries.Shut s) = false
-empties unit (entries.Worn w) = false
-empties unit entries.Reopened = false
-
 -- ---- since when
-
--- a command that puts another configuration in force
-abbrev pub is_setting : Command → Bool
-is_setting (commands.Write w) = false
-is_setting (commands.Read r) = false
-is_setting (commands.Zero z) = false
-is_setting (commands.Dealloc d) = false
-is_setting (commands.Flush f) = false
-is_setting (commands.Delete d) = false
-is_setting (commands.Status s) = false
-is_setting (commands.Update u) = false
-is_setting (commands.Log l) = false
-is_setting (commands.SetFdp s) = true
-is_setting (commands.GetFdp g) = false
-is_setting (commands.SetEvents s) = false
-is_setting (commands.Create c) = false
-is_setting (commands.Other o) = false
 
 -- another configuration came in force
 abbrev pub sets_placement : Entry → Bool

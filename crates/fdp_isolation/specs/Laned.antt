@@ -9,11 +9,12 @@ use Rattle.fdp_base.specs.declared.entry.Spot.{Spot}
 use Rattle.fdp_base.specs.declared.spare.DataSpare.{DataSpare}
 use Rattle.fdp_base.specs.Config.{IsValidConfig}
 use Rattle.fdp_base.specs.Placement.{geometry_of}
+use Rattle.fdp_base.specs.EntryKinds.{puts_into}
 use Rattle.fdp_book.specs.Book.{BookSeen, IsLed, point_in, state_in, written_in}
 use Rattle.fdp_flash.specs.declared.cell.Cell.{Cell}
 use Rattle.fdp_history.specs.Orderly.{IsOrderly}
 use Rattle.fdp_image.specs.Isolation.{EachPage}
-use Rattle.fdp_isolation.specs.Isolated.{puts_into, since_setting}
+use Rattle.fdp_isolation.specs.Isolated.{since_setting}
 use Rattle.fdp_locations.specs.Located.{AreUnitsOf}
 use Rattle.fdp_locations.specs.Stored.{HoldsWritten}
 use Rattle.fdp_owners.specs.declared.owner.Owner.{Owner}

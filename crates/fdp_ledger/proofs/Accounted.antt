@@ -8,6 +8,7 @@ use Rattle.fdp_base.specs.declared.entry.Entry.{Entry}
 use Rattle.fdp_base.specs.declared.entry.Spot.{Spot}
 use Rattle.fdp_base.specs.Counts.{Rose}
 use Rattle.fdp_base.proofs.Sums.{count_from}
+use Rattle.fdp_base.specs.EntryKinds.{unit_erased, unit_filled}
 use Rattle.fdp_calls.specs.Calls.{erase_at, program_at}
 use Rattle.fdp_collector.proofs.Kept.{unit-was}
 use Rattle.fdp_flash.specs.Cells.{IsBlankUnit}
@@ -17,7 +18,6 @@ use Rattle.fdp_units.specs.DataUnits.{is_free, is_lost}
 use Rattle.fdp_units.specs.UnitTable.{UnitTable, state_at}
 use Rattle.fdp_ledger.specs.declared.counts.Counts.{Counts}
 use Rattle.fdp_ledger.specs.Ledger.{AreAccounted, is_vain}
-use Rattle.fdp_ledger.specs.Told.{unit_erased, unit_filled}
 use Rattle.fdp_ledger.specs.Uses.{idle_erases, used_by}
 use Rattle.fdp_ledger.specs.WornOut.{FailsIn, calls_since, erases}
 use Rattle.fdp_ledger.proofs.Called.{ErasesNone, IsAfter, fails-now, fails-still}

@@ -8,6 +8,7 @@ use Rattle.fdp_base.specs.declared.config.Geometry.{Geometry}
 use Rattle.fdp_base.specs.declared.entry.Entry.{Entry}
 use Rattle.fdp_base.specs.declared.entry.Spot.{Spot}
 use Rattle.fdp_base.specs.Placement.{geometry_of}
+use Rattle.fdp_base.specs.EntryKinds.{empties}
 use Rattle.fdp_book.specs.declared.ticket.Ticket.{Ticket}
 use Rattle.fdp_book.specs.Book.{BookSeen, state_in, written_in}
 use Rattle.fdp_book.specs.Relocating.{Relocates, told_by}
@@ -31,7 +32,6 @@ use Rattle.fdp_rules.specs.PlainState.{Going}
 use Rattle.fdp_units.specs.UnitTable.{HasNoFree, UnitTable}
 use Rattle.fdp_ledger.specs.Calls.{FailsToProgram}
 use Rattle.fdp_ledger.specs.Emptied.{ErasedAreBlank, OnlyErasesEmpty}
-use Rattle.fdp_ledger.specs.Told.{is_erased}
 use Rattle.fdp_ledger.proofs.Emptied.{emptied-none, failed-emptied, programmed-emptied, same-emptied}
 use Rattle.fdp_ledger.proofs.Placed.{next-blank}
 use Rattle.fdp_ledger.proofs.Units.{KeepsUnits, recounts-keep, starved-keeps}
@@ -58,7 +58,7 @@ module _ (b : BookSeen) (old now : FlashState) (ticket : Ticket) (g : Going) (sp
 
 -- no unit was erased
 abbrev pub ErasesNoUnit : List Entry → Type 0
-ErasesNoUnit es = (unit : ℕ) → list_any (is_erased unit) es ≡ false
+ErasesNoUnit es = (unit : ℕ) → list_any (empties unit) es ≡ false
 
 pub erased-none : (g : Geometry) (cells : List Cell) (es : List Entry) → ErasesNoUnit es → ErasedAreBlank g cells es
 erased-none g cells es none = record { blank = λ unit erased. absurd (no (sym erased ∙ none unit)) }
@@ -66,7 +66,7 @@ erased-none g cells es none = record { blank = λ unit erased. absurd (no (sym e
 -- behind entries that tell of no erase
 pub erased-behind : (g : Geometry) (cells : List Cell) (xs ys : List Entry) → ErasesNoUnit xs → ErasedAreBlank g cells ys → ErasedAreBlank g cells (xs ++ ys)
 erased-behind g cells xs ys none h = record {
-  blank = λ unit erased. h.blank unit (second (list_any (is_erased unit) xs) (list_any (is_erased unit) ys) (none unit) (sym (list_any-append (is_erased unit) xs ys) ∙ erased));
+  blank = λ unit erased. h.blank unit (second (list_any (empties unit) xs) (list_any (empties unit) ys) (none unit) (sym (list_any-append (empties unit) xs ys) ∙ erased));
 } where
   second : (x y : Bool) → x ≡ false → (x || y) ≡ true → y ≡ true
   second true y e h = absurd (no e)

@@ -5,7 +5,7 @@ use Rattle.std.specs.Option.{option_map_or}
 use Rattle.std.proofs.lemmas.List.{append-nil}
 use Rattle.std.proofs.lemmas.List.Sums.{fold-append, sum_by-append}
 use Rattle.fdp_base.specs.declared.entry.Entry.{Entry}
-use Rattle.fdp_ledger.specs.Told.{is_erased, is_unit, unit_erased, unit_filled}
+use Rattle.fdp_base.specs.EntryKinds.{empties, is_unit, unit_erased, unit_filled}
 use Rattle.fdp_ledger.specs.Uses.{idle_after, idle_erases, idle_of, no_units, used_after, used_by}
 
 pub used-push : (es : List Entry) (e : Entry) → used_by (es ++ e ∷ []) ≡ used_after (used_by es) e
@@ -35,7 +35,7 @@ and-true false = refl
 
 pub quiet-used : (used : ℕ → Bool) (e : Entry) → IsQuiet e → (unit : ℕ) → used_after used e unit ≡ used unit
 quiet-used used e h unit =
-    ap (λ (o : Option ℕ). is_unit unit o || used unit && not (is_erased unit e)) h.filled ∙ ap (λ (o : Option ℕ). used unit && not (is_unit unit o)) h.erased ∙ and-true (used unit)
+    ap (λ (o : Option ℕ). is_unit unit o || used unit && not (empties unit e)) h.filled ∙ ap (λ (o : Option ℕ). used unit && not (is_unit unit o)) h.erased ∙ and-true (used unit)
 
 pub quiet-idle : (used : ℕ → Bool) (e : Entry) → IsQuiet e → idle_of used e ≡ 0
 quiet-idle used e h = ap (λ (o : Option ℕ). option_map_or (λ unit. if used unit then 0 else 1) o 0) h.erased
@@ -67,12 +67,12 @@ quiet-two es a b first second =
 -- an entry of a page: its unit got one, and no other; no erase is told
 pub filled-used : (used : ℕ → Bool) (e : Entry) (unit : ℕ) → unit_filled e ≡ Some unit → unit_erased e ≡ None → used_after used e unit ≡ true
 filled-used used e unit filled erased =
-    ap (λ (o : Option ℕ). is_unit unit o || used unit && not (is_erased unit e)) filled ∙ ap (λ (b : Bool). b || used unit && not (is_erased unit e)) (eq-eqb unit unit refl)
+    ap (λ (o : Option ℕ). is_unit unit o || used unit && not (empties unit e)) filled ∙ ap (λ (b : Bool). b || used unit && not (empties unit e)) (eq-eqb unit unit refl)
 
 pub filled-other : (used : ℕ → Bool) (e : Entry) (unit other : ℕ) → unit_filled e ≡ Some unit → unit_erased e ≡ None → other ≢ unit → used_after used e other ≡ used other
 filled-other used e unit other filled erased ne =
-    ap (λ (o : Option ℕ). is_unit other o || used other && not (is_erased other e)) filled
-    ∙ ap (λ (b : Bool). b || used other && not (is_erased other e)) (ne_eqb unit other (λ same. ne (sym same)))
+    ap (λ (o : Option ℕ). is_unit other o || used other && not (empties other e)) filled
+    ∙ ap (λ (b : Bool). b || used other && not (empties other e)) (ne_eqb unit other (λ same. ne (sym same)))
     ∙ ap (λ (o : Option ℕ). used other && not (is_unit other o)) erased ∙ and-true (used other)
 
 pub filled-idle : (used : ℕ → Bool) (e : Entry) → unit_erased e ≡ None → idle_of used e ≡ 0
@@ -81,7 +81,7 @@ filled-idle used e erased = ap (λ (o : Option ℕ). option_map_or (λ unit. if 
 -- an entry of an erase
 pub erased-used : (used : ℕ → Bool) (e : Entry) (unit : ℕ) → unit_filled e ≡ None → unit_erased e ≡ Some unit → used_after used e unit ≡ false
 erased-used used e unit filled erased =
-    ap (λ (o : Option ℕ). is_unit unit o || used unit && not (is_erased unit e)) filled
+    ap (λ (o : Option ℕ). is_unit unit o || used unit && not (empties unit e)) filled
     ∙ ap (λ (o : Option ℕ). used unit && not (is_unit unit o)) erased
     ∙ ap (λ (b : Bool). used unit && not b) (eq-eqb unit unit refl) ∙ and-false (used unit) where
       and-false : (b : Bool) → (b && false) ≡ false
@@ -90,7 +90,7 @@ erased-used used e unit filled erased =
 
 pub erased-other : (used : ℕ → Bool) (e : Entry) (unit other : ℕ) → unit_filled e ≡ None → unit_erased e ≡ Some unit → other ≢ unit → used_after used e other ≡ used other
 erased-other used e unit other filled erased ne =
-    ap (λ (o : Option ℕ). is_unit other o || used other && not (is_erased other e)) filled
+    ap (λ (o : Option ℕ). is_unit other o || used other && not (empties other e)) filled
     ∙ ap (λ (o : Option ℕ). used other && not (is_unit other o)) erased
     ∙ ap (λ (b : Bool). used other && not b) (ne_eqb unit other (λ same. ne (sym same))) ∙ and-true (used other)
 

@@ -7,6 +7,7 @@ use Rattle.std.proofs.lemmas.List.Sums.{sum_by-append}
 use Rattle.fdp_base.specs.declared.entry.Entry.{Entry}
 use Rattle.fdp_base.specs.Counts.{Rose}
 use Rattle.fdp_base.specs.Numbers.{count_below}
+use Rattle.fdp_base.specs.EntryKinds.{is_shut, loses_unit, wears_group}
 use Rattle.fdp_book.specs.Book.{BookSeen, IsLonger, state_in}
 use Rattle.fdp_calls.specs.Calls.{counted_more}
 use Rattle.fdp_calls.proofs.Made.{counted_more-add, counted_more-none}
@@ -19,7 +20,7 @@ use Rattle.fdp_units.specs.UnitTable.{IsGroup, UnitTable, cut_of}
 use Rattle.fdp_ledger.specs.declared.counts.Counts.{Counts}
 use Rattle.fdp_ledger.specs.Counted.{CountedSince}
 use Rattle.fdp_ledger.specs.Ledger.{AreAccounted, HasFreeUnits, IsLedger, is_vain}
-use Rattle.fdp_ledger.specs.Told.{is_media_reply, is_shut, loses_unit, wears_group}
+use Rattle.fdp_ledger.specs.Told.{is_media_reply}
 use Rattle.fdp_ledger.specs.Uses.{idle_erases}
 use Rattle.fdp_ledger.proofs.Accounted.{accounted-kept}
 use Rattle.fdp_ledger.proofs.Called.{ErasesNone, IsAfter}

@@ -6,6 +6,7 @@ use Rattle.fdp_base.specs.declared.config.Geometry.{Geometry}
 use Rattle.fdp_base.specs.declared.entry.Entry.TheVariants as entries
 use Rattle.fdp_base.specs.declared.entry.Spot.{Spot}
 use Rattle.fdp_base.specs.Placement.{geometry_of}
+use Rattle.fdp_base.specs.EntryKinds.{is_shut, loses_unit}
 use Rattle.fdp_book.specs.declared.ticket.Ticket.{Ticket}
 use Rattle.fdp_book.specs.Book.{BookSeen, state_in, written_in}
 use Rattle.fdp_book.specs.Steps.{Places}
@@ -29,7 +30,7 @@ use Rattle.fdp_units.specs.DataUnits.{is_free}
 use Rattle.fdp_units.specs.UnitTable.{Cut, IsFreeUnit, count_in, group_in, state_at, unit_at}
 use Rattle.fdp_ledger.specs.declared.counts.Counts.{Counts}
 use Rattle.fdp_ledger.specs.Ledger.{HasFreeUnits, IsLedger}
-use Rattle.fdp_ledger.specs.Told.{is_media_reply, is_shut, loses_unit}
+use Rattle.fdp_ledger.specs.Told.{is_media_reply}
 use Rattle.fdp_ledger.proofs.Accounted.{accounted-filled}
 use Rattle.fdp_ledger.proofs.Called.{after-made}
 use Rattle.fdp_ledger.proofs.Emptied.{programmed-emptied, programmed-whole, whole-unblank}

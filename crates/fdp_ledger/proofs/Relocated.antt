@@ -10,6 +10,7 @@ use Rattle.fdp_base.specs.declared.entry.Spot.{Spot}
 use Rattle.fdp_base.specs.Counts.{Rose, counted}
 use Rattle.fdp_base.specs.Placement.{geometry_of}
 use Rattle.fdp_base.specs.Spare.{data_spare}
+use Rattle.fdp_base.specs.EntryKinds.{is_shut, loses_unit, unit_erased, unit_filled, wears_group}
 use Rattle.fdp_book.specs.Book.{BookSeen, IsLonger, point_in, state_in, written_in}
 use Rattle.fdp_book.specs.Relocating.{Relocates, told_by}
 use Rattle.fdp_calls.specs.Calls.{erase_at, fetch_at, program_at}
@@ -52,7 +53,7 @@ use Rattle.fdp_units.specs.UnitTable.{IsGroup, cut_of, group_in, state_at, unit_
 use Rattle.fdp_ledger.specs.declared.counts.Counts.{Counts}
 use Rattle.fdp_ledger.specs.Emptied.{OnlyErasesEmpty}
 use Rattle.fdp_ledger.specs.Ledger.{HasFreeUnits, IsLedger}
-use Rattle.fdp_ledger.specs.Told.{is_media_reply, is_shut, loses_unit, unit_erased, unit_filled, wears_group}
+use Rattle.fdp_ledger.specs.Told.{is_media_reply}
 use Rattle.fdp_ledger.proofs.Accounted.{accounted-erased, accounted-filled, accounted-kept, accounted-spoilt}
 use Rattle.fdp_ledger.proofs.Called.{ErasesNone, IsAfter, after-erased, after-made, after-uncalled}
 use Rattle.fdp_ledger.proofs.Emptied.{emptied-erase, emptied-none, failed-emptied, outside-emptied, programmed-emptied, programmed-whole, same-emptied, whole-unblank}

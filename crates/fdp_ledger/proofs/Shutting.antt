@@ -5,6 +5,7 @@ use Rattle.fdp_base.specs.declared.entry.Entry.TheVariants as entries
 use Rattle.fdp_base.specs.declared.entry.Spot.{Spot}
 use Rattle.fdp_base.specs.declared.status.Status.{Status}
 use Rattle.fdp_base.specs.Placement.{geometry_of}
+use Rattle.fdp_base.specs.EntryKinds.{is_shut, loses_unit}
 use Rattle.fdp_book.specs.declared.ticket.Done.{Done}
 use Rattle.fdp_book.specs.declared.ticket.Ticket.{Ticket}
 use Rattle.fdp_book.specs.Book.{BookSeen, state_in, written_in}
@@ -21,7 +22,7 @@ use Rattle.fdp_rules.specs.PlainState.{Going}
 use Rattle.fdp_ledger.specs.declared.counts.Counts.{Counts}
 pub use Rattle.fdp_ledger.specs.Calls.{FailsToProgram}
 use Rattle.fdp_ledger.specs.Ledger.{IsLedger}
-use Rattle.fdp_ledger.specs.Told.{is_media_reply, is_shut, loses_unit}
+use Rattle.fdp_ledger.specs.Told.{is_media_reply}
 use Rattle.fdp_ledger.proofs.Accounted.{accounted-spoilt}
 use Rattle.fdp_ledger.proofs.Called.{after-made}
 use Rattle.fdp_ledger.proofs.Emptied.{failed-emptied}

@@ -3,11 +3,12 @@ use Rattle.std.specs.Prelude.{◌≡◌, ◌≤◌, IsTrue, List, count_by}
 use Rattle.std.specs.List.{list_any}
 use Rattle.fdp_base.specs.declared.entry.Entry.{Entry}
 use Rattle.fdp_base.specs.Counts.{Rose}
+use Rattle.fdp_base.specs.EntryKinds.{is_shut, loses_unit, wears_group}
 use Rattle.fdp_calls.specs.Calls.{counted_more}
 use Rattle.fdp_flash.specs.FlashState.{FlashState}
 use Rattle.fdp_rules.specs.Totals.{media_blocks}
 use Rattle.fdp_ledger.specs.declared.counts.Counts.{Counts}
-use Rattle.fdp_ledger.specs.Told.{is_media_reply, is_shut, loses_unit, wears_group}
+use Rattle.fdp_ledger.specs.Told.{is_media_reply}
 use Rattle.fdp_ledger.specs.Uses.{idle_erases}
 
 -- what a flash has counted

@@ -4,9 +4,10 @@ use Rattle.std.specs.List.{list_any}
 use Rattle.fdp_base.specs.declared.config.Geometry.{Geometry}
 use Rattle.fdp_base.specs.declared.entry.Entry.{Entry}
 use Rattle.fdp_base.specs.Geometry.{data_units}
+use Rattle.fdp_base.specs.EntryKinds.{empties}
 use Rattle.fdp_flash.specs.declared.cell.Cell.{Cell}
 use Rattle.fdp_flash.specs.Cells.{IsBlankUnit}
-use Rattle.fdp_ledger.specs.Told.{is_erase, is_erased}
+use Rattle.fdp_ledger.specs.Told.{is_erase}
 
 -- a data unit that is all blank was so before, unless one of these entries tells that it was erased, or that its erase failed
 pub record OnlyErasesEmpty (g : Geometry) (old new : List Cell) (es : List Entry) : Type 0 where
@@ -14,4 +15,4 @@ pub record OnlyErasesEmpty (g : Geometry) (old new : List Cell) (es : List Entry
 
 -- each unit that one of these entries tells to be erased is all blank
 pub record ErasedAreBlank (g : Geometry) (cells : List Cell) (es : List Entry) : Type 0 where
-  pub blank : (unit : ℕ) → IsTrue (list_any (is_erased unit) es) → IsBlankUnit g cells unit
+  pub blank : (unit : ℕ) → IsTrue (list_any (empties unit) es) → IsBlankUnit g cells unit

@@ -2,7 +2,7 @@
 use Rattle.std.specs.Prelude.{ℕ, ◌+◌, Bool, false, not, ◌&&◌, ◌||◌, List, [], ◌∷◌, fold, if◌then◌else◌}
 use Rattle.std.specs.Option.{option_map_or}
 use Rattle.fdp_base.specs.declared.entry.Entry.{Entry}
-use Rattle.fdp_ledger.specs.Told.{is_erased, is_unit, unit_erased, unit_filled}
+use Rattle.fdp_base.specs.EntryKinds.{empties, is_unit, unit_erased, unit_filled}
 
 -- no unit
 abbrev pub no_units : ℕ → Bool
@@ -10,7 +10,7 @@ no_units unit = false
 
 -- the units that got a page since their last erase, after an entry more
 abbrev pub used_after : (ℕ → Bool) → Entry → ℕ → Bool
-used_after used e unit = is_unit unit (unit_filled e) || used unit && not (is_erased unit e)
+used_after used e unit = is_unit unit (unit_filled e) || used unit && not (empties unit e)
 
 -- the units of which a page was placed or copied since their last Erased entry
 unfoldable pub used_by : List Entry → ℕ → Bool
