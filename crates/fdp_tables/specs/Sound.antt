@@ -1,5 +1,5 @@
 -- What is true of the tables of every plain machine.
-use Rattle.std.specs.Prelude.{ℕ, ◌≡◌, ◌+◌, ◌*◌, ◌<◌, ◌≤◌, IsTrue, IfSome, Some, length, slice_get, slice_index}
+use Rattle.std.specs.Prelude.{ℕ, ◌≡◌, ◌+◌, ◌*◌, ◌^◌, ◌<◌, ◌≤◌, IsTrue, IfSome, Some, length, slice_get, slice_index}
 use Rattle.std.specs.Option.{IsSomeAnd}
 use Rattle.fdp_rules.specs.Change.{birth_of}
 use Rattle.fdp_base.specs.CommandKinds.{blocks_written, write_of}
@@ -27,7 +27,7 @@ pub record IsSoundGoing (k : Kept) (g : Going) : Type 0 where
 pub record IsSound (k : Kept) : Type 0 where
   pub config : IsValidConfig k.config
   pub index : k.index < length k.config.fdp
-  pub generation : k.generation ≤ length k.entries.items
+  pub generation : k.generation ≤ 2 ^ 31 + length k.entries.items
   pub spaces : length k.spaces.items ≡ 17
   pub handles : (nsid : ℕ) → length (handles_of (plain_of k) nsid) ≤ 16
   pub known : (nsid i : ℕ) → slice_index (handles_of (plain_of k) nsid) i < 16
