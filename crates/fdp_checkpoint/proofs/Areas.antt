@@ -1,11 +1,10 @@
 -- An area that is erased, and one whose pages are programmed one after another.
-use Rattle.std.proofs.Common.{◌≡◌, ◌≢◌, ℕ, ◌+◌, ◌-◌, ◌*◌, ◌/◌, ◌%◌, ◌<◌, ◌≤◌, ◌⊎◌, List, length, set, Some, refl, sym, ap, ◌∙◌, subst, arith, inl, inr}
+use Rattle.std.proofs.Common.{◌≡◌, ℕ, ◌+◌, ◌/◌, ◌%◌, ◌<◌, ◌≤◌, List, length, set, refl, sym, ap, ◌∙◌, arith, inl, inr}
 use Rattle.std.specs.Prelude.{slice_get}
 use Rattle.fdp_base.specs.declared.config.Geometry.{Geometry}
 use Rattle.fdp_base.specs.declared.entry.Spot.{Spot}
 use Rattle.fdp_base.specs.Geometry.{IsValidGeometry, all_pages, area_pages}
 use Rattle.fdp_flash.specs.declared.cell.Cell.{Cell}
-use Rattle.fdp_flash.specs.declared.cell.Cell.TheVariants.{Blank, Torn}
 use Rattle.fdp_flash.specs.Area.{AreaMayLeave, IsBlankArea}
 use Rattle.fdp_flash.specs.Cells.{ProgramMayLeave}
 use Rattle.fdp_flash.specs.Layout.{first_page, page_number}

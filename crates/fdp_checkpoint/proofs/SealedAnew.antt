@@ -1,7 +1,7 @@
 -- The pages of a checkpoint in an area: unsealed while they are programmed, and sealed by its seal.
-use Rattle.std.proofs.Common.{◌≡◌, ◌≢◌, ℕ, zero, suc, ◌+◌, ◌-◌, ◌*◌, ◌/◌, ◌%◌, ◌<◌, ◌≤◌, ◌⊎◌, Bool, true, false, IsTrue, List, [], ◌∷◌, ◌++◌, drop, length, replicate, set, take, Option, Some, None, refl, sym, ap, ◌∙◌, subst, arith, inl, inr}
-use Rattle.std.specs.Prelude.{◌==◌, bytes_eq, if◌then◌else◌, slice_get}
-use Rattle.std.specs.List.{concat, list_all}
+use Rattle.std.proofs.Common.{◌≡◌, ◌≢◌, ℕ, zero, suc, ◌+◌, ◌-◌, ◌*◌, ◌%◌, ◌<◌, ◌≤◌, ◌⊎◌, Bool, true, false, List, [], ◌∷◌, ◌++◌, drop, length, set, take, Option, Some, None, refl, sym, ap, ◌∙◌, subst, arith, inl, inr}
+use Rattle.std.specs.Prelude.{if◌then◌else◌, slice_get}
+use Rattle.std.specs.List.{concat}
 use Rattle.std.specs.Option.{option_and_then, option_map_or}
 use Rattle.std.proofs.lemmas.Bool.{cases_eq, cases_lt}
 use Rattle.std.proofs.lemmas.List.{drop-drop, length-drop, length-set, take_all}
@@ -10,15 +10,13 @@ use Rattle.std.proofs.lemmas.Slice.Eq.{bytes_eq-Decides}
 use Rattle.fdp_flash.specs.declared.cell.Cell.{Cell}
 use Rattle.fdp_flash.specs.declared.cell.Cell.TheVariants.{Blank, Torn, Whole}
 use Rattle.fdp_flash.proofs.Lists.{slice_get-set_other, slice_get-set_same}
-use Rattle.fdp_image.specs.Areas.{Sealed, first_stamp, is_seal, leading, more, page_bytes, sealed_behind, sealed_by, sealed_in, stamp_of}
+use Rattle.fdp_image.specs.Areas.{first_stamp, is_seal, leading, more, page_bytes, sealed_behind, sealed_by, sealed_in, stamp_of}
 use Rattle.fdp_image.specs.Fields.{are_zeros, pieces}
 use Rattle.fdp_image.specs.Replacing.{IsCheckpointOf, IsNewlySealed, new_stamp, pages_for}
 use Rattle.fdp_image.specs.Saving.{AreBlankFrom}
-use Rattle.fdp_image.proofs.Journaling.{IsSealed, leading_blank, sealed_with, slice_get-drop}
+use Rattle.fdp_image.proofs.Journaling.{leading_blank, sealed_with, slice_get-drop}
 use Rattle.fdp_records.specs.declared.spare.Stamp.{Stamp}
-use Rattle.fdp_records.specs.declared.spare.SystemKind.{SystemKind}
 use Rattle.fdp_records.specs.declared.spare.SystemKind.TheVariants.{Checkpoint, Journal, Seal}
-use Rattle.fdp_records.specs.declared.spare.SystemSpare.{SystemSpare}
 use Rattle.fdp_records.specs.Spares.{said_by_system, system_spare}
 use Rattle.fdp_snapshot.specs.declared.state.State.{State}
 use Rattle.fdp_snapshot.specs.declared.state.Summary.{Summary}

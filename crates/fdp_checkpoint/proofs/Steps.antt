@@ -1,21 +1,21 @@
 -- The steps of writing a checkpoint, each over the states of the flash before and after it.
-use Rattle.std.proofs.Common.{◌≡◌, ◌≢◌, ℕ, suc, ◌+◌, ◌-◌, ◌*◌, ◌<◌, ◌≤◌, ◌⊎◌, true, IsTrue, List, [], ◌∷◌, ◌++◌, length, drop, set, take, Option, Some, None, refl, sym, ap, ◌∙◌, subst, arith, inl, inr}
+use Rattle.std.proofs.Common.{◌≡◌, ℕ, suc, ◌+◌, ◌-◌, ◌*◌, ◌/◌, ◌<◌, ◌≤◌, true, IsTrue, List, [], ◌∷◌, ◌++◌, length, drop, set, take, Option, Some, refl, sym, ap, ◌∙◌, subst, arith, inl, inr}
 use Rattle.std.specs.Prelude.{◌==◌}
 use Rattle.std.proofs.Math.Nat.{mul-le-mul_right}
 use Rattle.std.proofs.lemmas.Bool.{eqb-true, or_cases}
 use Rattle.fdp_base.specs.declared.config.Geometry.{Geometry}
 use Rattle.fdp_base.specs.declared.entry.Spot.{Spot}
-use Rattle.fdp_base.specs.Geometry.{IsValidGeometry, all_pages, area_pages}
+use Rattle.fdp_base.specs.Geometry.{IsValidGeometry, all_pages, area_pages, data_units}
 use Rattle.fdp_flash.specs.declared.answer.Wrote.{Wrote}
 use Rattle.fdp_flash.specs.declared.answer.Wrote.TheVariants.{Done, Failed}
 use Rattle.fdp_flash.specs.declared.cell.Cell.{Cell}
-use Rattle.fdp_flash.specs.declared.cell.Cell.TheVariants.{Blank, Torn, Whole}
+use Rattle.fdp_flash.specs.declared.cell.Cell.TheVariants.{Whole}
 use Rattle.fdp_flash.specs.Answers.{Programs}
 use Rattle.fdp_flash.specs.Area.{AreaMayLeave, IsBlankArea}
 use Rattle.fdp_flash.specs.Cells.{ProgramMayLeave}
 use Rattle.fdp_flash.specs.FlashState.{Begins, Ends, FlashState, IsWellFormed}
 use Rattle.fdp_flash.specs.Failing.{FailsLast}
-use Rattle.fdp_flash.specs.Layout.{first_page, page_number}
+use Rattle.fdp_flash.specs.Layout.{page_number}
 use Rattle.fdp_flash.specs.Planned.{Makes, MakesPlanned, StopsAt, calls_from, erase_of}
 use Rattle.fdp_flash.specs.Runs.{Holds}
 use Rattle.fdp_flash.proofs.Calls.{program_leaves}
@@ -25,11 +25,12 @@ use Rattle.fdp_flash.proofs.Held.{holds_joined, holds_weakened}
 use Rattle.fdp_flash.proofs.Pages.{programmed_may_leave}
 use Rattle.fdp_flash.proofs.Runs.{run_of_program}
 use Rattle.fdp_image.specs.Areas.{area_of, area_unit, sealed_in}
-use Rattle.fdp_image.specs.Replacing.{IsNewlySealed, IsReplacedIn, MayBeWritten, new_stamp, pages_for}
+use Rattle.fdp_image.specs.Replacing.{IsNewlySealed, MayBeWritten, new_stamp, pages_for}
 use Rattle.fdp_image.specs.Saving.{AreBlankFrom}
 use Rattle.fdp_image.specs.Spots.{spot_in}
 use Rattle.fdp_image.proofs.NextRecord.{area_long}
 use Rattle.fdp_image.proofs.Replacing.{may_be_written}
+use Rattle.fdp_records.specs.declared.spare.SystemKind.{SystemKind}
 use Rattle.fdp_records.specs.declared.spare.SystemKind.TheVariants as kinds
 use Rattle.fdp_records.specs.Spares.{said_by_system, system_spare}
 use Rattle.fdp_snapshot.specs.declared.state.State.{State}
@@ -70,6 +71,13 @@ program_holds Fact now new at spare bytes result b a each = record {
   run = run_of_program now new at spare bytes result (λ m image. Fact image) b a (λ told later image left. each told image left);
   cells = λ told. each told new.cells (program_leaves now new at spare bytes result a told);
 }
+
+-- a program of a page of a system area is not one of a data page
+pub program_uncounted : (x : Target) (kind : SystemKind) (number : ℕ) (bytes : List ℕ) (now new : FlashState) (result : Wrote) → x.geometry ≡ now.geometry → ProgramsIn x kind number bytes now new result → new.programs ≡ now.programs
+program_uncounted x kind number bytes now new Done same p =
+    let behind : data_units x.geometry ≤ area_unit x.geometry x.area + number / x.geometry.unit_pages = omega arith in
+    p.answer.system_done refl (subst (λ (g : Geometry). data_units g ≤ area_unit x.geometry x.area + number / x.geometry.unit_pages) same behind)
+program_uncounted x kind number bytes now new Failed same p = p.answer.not_done refl
 
 -- ---- the pages
 

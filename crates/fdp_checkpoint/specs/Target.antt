@@ -1,6 +1,5 @@
 -- A program of a page of a system area.
 use Rattle.std.specs.Prelude.{◌≡◌, ℕ, ◌+◌, List}
-use Rattle.fdp_base.specs.declared.entry.Spot.{Spot}
 use Rattle.fdp_flash.specs.declared.answer.Wrote.{Wrote}
 use Rattle.fdp_flash.specs.Answers.{Programs}
 use Rattle.fdp_flash.specs.FlashState.{Begins, FlashState}

@@ -1,5 +1,5 @@
 -- A checkpoint that is written: its pages, what is between the calls, and which calls are made.
-use Rattle.std.specs.Prelude.{◌≡◌, ◌⊎◌, ℕ, suc, ◌+◌, ◌*◌, ◌<◌, List, ◌++◌, drop, slice_get, take, Some, None}
+use Rattle.std.specs.Prelude.{◌≡◌, ◌⊎◌, ℕ, suc, ◌+◌, ◌*◌, ◌<◌, List, ◌++◌, drop, slice_get, take, Option, Some, None}
 use Rattle.fdp_base.specs.declared.config.Geometry.{Geometry}
 use Rattle.fdp_flash.specs.declared.cell.Cell.{Cell}
 use Rattle.fdp_flash.specs.declared.cell.Cell.TheVariants.{Whole}
@@ -12,7 +12,12 @@ use Rattle.fdp_image.specs.Spots.{spot_in}
 use Rattle.fdp_records.specs.declared.spare.SystemKind.TheVariants.{Checkpoint}
 use Rattle.fdp_records.specs.Spares.{system_spare}
 use Rattle.fdp_snapshot.specs.declared.state.State.{State}
+use Rattle.fdp_snapshot.specs.declared.state.Summary.{Summary}
 use Rattle.fdp_snapshot.specs.Checkpoint.{checkpoint_of}
+
+-- a summary with the pages of its blocks is a state
+abbrev pub with_pages : Summary → List (List (Option ℕ)) → State
+with_pages summary pages = record { summary = summary; pages = pages }
 
 -- the bytes of a page of the checkpoint of a state, which takes so many pages
 abbrev pub page_of : ℕ → ℕ → State → ℕ → List ℕ

@@ -18,6 +18,7 @@ pub fn erase<F: Flash>(flash: &mut F, target: &Target) -> Wrote
     ensures held { Holds (IsErasing target.now.geometry target.now.area (F.state flash.old).cells) (F.state flash.old) (F.state flash.new) }
     ensures done { IsTrue (F.state flash.old).told → result ≡ Wrote.Done → AreBlankFrom 0 (area_of target.now.geometry target.now.area (F.state flash.new).cells) }
     ensures faultless { result ≡ Wrote.Done → (F.state flash.new).faults ≡ (F.state flash.old).faults }
+    ensures programs { (F.state flash.new).programs ≡ (F.state flash.old).programs }
     ensures calls { MakesPlanned (F.state flash.old) (F.state flash.new) (calls_from erase_of (area_unit target.now.geometry target.now.area) target.now.geometry.area_units) result }
     ensures failed { result ≡ Wrote.Failed → FailsLast (F.state flash.old) (F.state flash.new) (F.state flash.new).moment }
 {

@@ -18,4 +18,4 @@ pub use count::page_count;
 pub use fault::{CheckpointFault, ContentFault, FoundCheckpoint};
 pub use laws::{bad_checkpoint_is_none_of_the_image, checkpoint_is_that_of_the_image};
 pub use reading::{read, read_content};
-pub use writing::write;
+pub use writing::{VERSION, write};

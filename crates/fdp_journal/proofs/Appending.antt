@@ -1,20 +1,23 @@
 -- What the program of a record may leave, and what it leaves once it is done.
-use Rattle.std.proofs.Common.{◌≡◌, ℕ, ◌+◌, ◌<◌, ◌≤◌, ◌∷◌, [], ◌++◌, IsTrue, List, length, Some, refl, sym, ap, subst, ◌∙◌, arith, length-append}
+use Rattle.std.proofs.Common.{◌≡◌, ℕ, ◌+◌, ◌/◌, ◌<◌, ◌≤◌, ◌∷◌, [], ◌++◌, IsTrue, List, length, Some, refl, sym, ap, subst, ◌∙◌, arith, length-append}
 use Rattle.fdp_base.specs.declared.config.DriveConfig.{DriveConfig}
 use Rattle.fdp_base.specs.declared.config.Geometry.{Geometry}
 use Rattle.fdp_base.specs.declared.entry.Spot.{Spot}
 use Rattle.fdp_base.specs.declared.entry.Totals.{Totals}
-use Rattle.fdp_base.specs.Geometry.{all_pages, area_pages}
+use Rattle.fdp_base.specs.Geometry.{all_pages, area_pages, data_units}
 use Rattle.fdp_base.specs.Placement.{geometry_of}
 use Rattle.fdp_flash.specs.declared.cell.Cell.{Cell}
 use Rattle.fdp_flash.specs.declared.answer.Wrote.{Wrote}
 use Rattle.fdp_flash.specs.declared.answer.Wrote.TheVariants.{Done, Failed}
-use Rattle.fdp_flash.specs.Answers.{Programs}
+use Rattle.fdp_flash.specs.declared.answer.Operation.TheVariants.{Program}
+use Rattle.fdp_flash.specs.Answers.{Programs, wrote_failed}
 use Rattle.fdp_flash.specs.Cells.{IsBlankFrom, IsProgrammed, ProgramMayLeave}
 use Rattle.fdp_flash.specs.FlashState.{Begins, FlashState, IsWellFormed}
+use Rattle.fdp_flash.specs.Planned.{Makes}
 use Rattle.fdp_flash.specs.Runs.{Runs}
 use Rattle.fdp_flash.proofs.Calls.{program_leaves}
 use Rattle.fdp_flash.proofs.Failing.{program_failed}
+use Rattle.fdp_flash.proofs.Planned.{none_made, one_made}
 use Rattle.fdp_flash.proofs.Runs.{run_of_program}
 use Rattle.fdp_flash.specs.Layout.{first_page, page_number}
 use Rattle.fdp_flash.proofs.Pages.{program_other}
@@ -26,9 +29,10 @@ use Rattle.fdp_records.specs.Spares.{system_spare}
 use Rattle.fdp_image.specs.Areas.{Sealed, area_unit}
 use Rattle.fdp_image.specs.Reads.{next_page}
 use Rattle.fdp_image.specs.Saving.{CanGoOn, IsCurrent, IsNextRecord}
+use Rattle.fdp_image.specs.Spots.{spot_in}
 use Rattle.fdp_image.proofs.AreaPages.{blank_from_area}
 use Rattle.fdp_image.proofs.NextRecord.{extent_one, next_page_current, next_page_done, next_record_reads, next_record_saved}
-use Rattle.fdp_journal.specs.Journal.{Appends, FallsInDoubt, IsAppended, IsJournalIn, MayBeAppended, Writes, doubted, with_record}
+use Rattle.fdp_journal.specs.Journal.{Appends, FallsInDoubt, IsAppended, IsJournalIn, MayBeAppended, Writes, doubted, record_call, with_record}
 use Rattle.fdp_journal.specs.JournalState.{JournalState, next_in}
 
 -- the spare bytes of the next record of a journal
@@ -130,15 +134,16 @@ pub record IsAtHand (j : JournalState) (old : FlashState) (at : Spot) (spare byt
   pub journal : IsTrue old.told → IsJournalIn old.cells j
   pub room : next_in j < area_pages j.geometry
   pub place : page_number j.geometry at ≡ first_page j.geometry (area_unit j.geometry j.area) + next_in j
+  pub spot : at ≡ spot_in j.geometry j.area (next_in j)
   pub spare_is : spare ≡ spare_of j
   pub tells : decoded bytes ≡ Some x
 
 -- the journal by its fields is the one that contracts see
 pub at_hand : (j inside : JournalState) (old : FlashState) (at : Spot) (spare bytes : List ℕ) (x : Change × Totals) (next : ℕ) → inside ≡ j
     → IsWellFormed old → old.geometry ≡ j.geometry → inside.area ≤ 1 → (IsTrue old.told → IsJournalIn old.cells j) → next_in j < area_pages j.geometry → next ≡ next_in j
-    → page_number inside.geometry at ≡ first_page inside.geometry (area_unit inside.geometry inside.area) + next → spare ≡ spare_of j → decoded bytes ≡ Some x
+    → page_number inside.geometry at ≡ first_page inside.geometry (area_unit inside.geometry inside.area) + next → at ≡ spot_in inside.geometry inside.area next → spare ≡ spare_of j → decoded bytes ≡ Some x
     → IsAtHand j old at spare bytes x
-at_hand j inside old at spare bytes x next same w geometry area journal room next_is place spare_is tells = record {
+at_hand j inside old at spare bytes x next same w geometry area journal room next_is place spot spare_is tells = record {
   well_formed = w;
   geometry = geometry;
   area = subst (λ (k : JournalState). k.area ≤ 1) same area;
@@ -147,6 +152,7 @@ at_hand j inside old at spare bytes x next same w geometry area journal room nex
   place =
       subst (λ (k : JournalState). page_number k.geometry at ≡ first_page k.geometry (area_unit k.geometry k.area) + next) same place
       ∙ ap (λ (n : ℕ). first_page j.geometry (area_unit j.geometry j.area) + n) next_is;
+  spot = subst (λ (k : JournalState). at ≡ spot_in k.geometry k.area next) same spot ∙ ap (spot_in j.geometry j.area) next_is;
   spare_is = spare_is;
   tells = tells;
 }
@@ -175,6 +181,21 @@ cells_left : (j : JournalState) (old new : FlashState) (at : Spot) (spare bytes 
     → Programs old new at spare bytes result → IsTrue old.told → MayBeAppended old.cells j x new.cells
 cells_left j old new at spare bytes x result h a told = left_of j old at spare bytes x h told new.cells (program_leaves old new at spare bytes result a told)
 
+-- the program is that of the next page of the journal, and no data page
+program_made : (j : JournalState) (old new : FlashState) (at : Spot) (spare bytes : List ℕ) (x : Change × Totals) (result : Wrote) → IsAtHand j old at spare bytes x
+    → Begins old new → Programs old new at spare bytes result → Makes old new (record (record_call j) { failed = wrote_failed result } ∷ [])
+program_made j old new at spare bytes x result h b a =
+    subst (λ (s : Spot). Makes old new (record { operation = Program; at = s; failed = wrote_failed result } ∷ [])) h.spot
+    (one_made old old new [] (record { operation = Program; at = at; failed = wrote_failed result }) _ (none_made old h.well_formed) b a.ended)
+
+program_uncounted : (j : JournalState) (old new : FlashState) (at : Spot) (spare bytes : List ℕ) (x : Change × Totals) (result : Wrote) → IsAtHand j old at spare bytes x
+    → Programs old new at spare bytes result → new.programs ≡ old.programs
+program_uncounted j old new at spare bytes x Done h a =
+    let behind : data_units j.geometry ≤ area_unit j.geometry j.area + next_in j / j.geometry.unit_pages = omega arith in
+    let there : data_units j.geometry ≤ at.unit = subst (λ (s : Spot). data_units j.geometry ≤ s.unit) (sym h.spot) behind in
+    a.system_done refl (subst (λ (g : Geometry). data_units g ≤ at.unit) (sym h.geometry) there)
+program_uncounted j old new at spare bytes x Failed h a = a.not_done refl
+
 appends : (j : JournalState) (old new : FlashState) (at : Spot) (spare bytes : List ℕ) (x : Change × Totals) → IsAtHand j old at spare bytes x
     → Begins old new → Programs old new at spare bytes Done → Appends j (with_record j) old new x
 appends j old new at spare bytes x h b a =
@@ -184,17 +205,21 @@ appends j old new at spare bytes x h b a =
     record {
       journal = refl;
       one_call = b.moment;
+      call = program_made j old new at spare bytes x Done h b a;
       faults = a.ended.no_fault refl;
+      programs = program_uncounted j old new at spare bytes x Done h a;
       goes_on = λ told. journal_in j old.cells at bytes new.cells (h.journal (before told)) (size_of j old at spare bytes x h (before told)) h.room h.place (done (before told));
       saved = λ told. is_appended j old.cells at bytes x new.cells (place_of j old.cells at (size_of j old at spare bytes x h (before told)) (h.journal (before told)) h.room h.place) h.tells (done (before told));
     }
 
-falls_in_doubt : (j : JournalState) (old new : FlashState) (at : Spot) (spare bytes : List ℕ) → IsWellFormed new
+falls_in_doubt : (j : JournalState) (old new : FlashState) (at : Spot) (spare bytes : List ℕ) (x : Change × Totals) → IsAtHand j old at spare bytes x → IsWellFormed new
     → Begins old new → Programs old new at spare bytes Failed → FallsInDoubt j (doubted j) old new new.moment
-falls_in_doubt j old new at spare bytes w b a = record {
+falls_in_doubt j old new at spare bytes x h w b a = record {
   journal = refl;
   one_call = b.moment;
+  call = program_made j old new at spare bytes x Failed h b a;
   fails = program_failed old new at spare bytes w b a;
+  programs = program_uncounted j old new at spare bytes x Failed h a;
 }
 
 pub writes : (j : JournalState) (old new : FlashState) (at : Spot) (spare bytes : List ℕ) (x : Change × Totals) (result : Wrote) → IsAtHand j old at spare bytes x → IsWellFormed new
@@ -203,5 +228,5 @@ writes j old new at spare bytes x result h w b a = record {
   images = images_of j old new at spare bytes x result h b a;
   left = cells_left j old new at spare bytes x result h a;
   done = λ is. appends j old new at spare bytes x h b (subst (Programs old new at spare bytes) is a);
-  failed = λ is. falls_in_doubt j old new at spare bytes w b (subst (Programs old new at spare bytes) is a);
+  failed = λ is. falls_in_doubt j old new at spare bytes x h w b (subst (Programs old new at spare bytes) is a);
 }

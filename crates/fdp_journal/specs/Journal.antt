@@ -1,5 +1,5 @@
 -- A journal in the cells of a flash, and what an append to it leaves.
-use Rattle.std.specs.Prelude.{◌≡◌, ◌≢◌, ℕ, ◌+◌, ◌≤◌, IsTrue, true, List, length, slice_get, Some}
+use Rattle.std.specs.Prelude.{◌≡◌, ◌≢◌, ℕ, ◌+◌, ◌≤◌, IsTrue, true, List, [], ◌∷◌, length, slice_get, Some}
 use Rattle.fdp_base.specs.declared.config.DriveConfig.{DriveConfig}
 use Rattle.fdp_base.specs.declared.entry.Totals.{Totals}
 use Rattle.fdp_base.specs.Geometry.{area_pages}
@@ -7,8 +7,9 @@ use Rattle.fdp_base.specs.Placement.{geometry_of}
 use Rattle.fdp_flash.specs.declared.answer.Wrote.{Wrote}
 use Rattle.fdp_flash.specs.declared.answer.Wrote.TheVariants.{Done, Failed}
 use Rattle.fdp_flash.specs.declared.cell.Cell.{Cell}
-use Rattle.fdp_flash.specs.FlashState.{FlashState}
+use Rattle.fdp_flash.specs.FlashState.{Call, FlashState}
 use Rattle.fdp_flash.specs.Layout.{first_page}
+use Rattle.fdp_flash.specs.Planned.{Makes, program_of}
 use Rattle.fdp_flash.specs.Runs.{Runs}
 use Rattle.fdp_base.specs.Counts.{counted}
 use Rattle.fdp_records.specs.declared.change.Change.{Change}
@@ -18,6 +19,7 @@ use Rattle.fdp_flash.specs.Failing.{FailsLast}
 use Rattle.fdp_image.specs.Reading.{Reading}
 use Rattle.fdp_image.specs.Reads.{reads_as}
 use Rattle.fdp_image.specs.Saving.{CanGoOn, IsCurrent, ReadsWithOrWithout}
+use Rattle.fdp_image.specs.Spots.{spot_in}
 use Rattle.fdp_journal.specs.JournalState.{JournalState, next_in}
 
 -- a journal is that of these cells: its area is current with so many checkpoint pages and records, and blank behind them
@@ -35,6 +37,10 @@ IsFull j = area_pages j.geometry ≤ next_in j
 -- the page of the flash where the next record goes
 abbrev pub next_of : JournalState → ℕ
 next_of j = first_page j.geometry (area_unit j.geometry j.area) + next_in j
+
+-- the program of the next record
+abbrev pub record_call : JournalState → Call
+record_call j = program_of (spot_in j.geometry j.area (next_in j))
 
 -- Cells that an append of a change may leave: each page but the next of the journal is as it was, so all data pages and the whole
 -- other area are; the journal's area is still the current one; and whatever the cells read as, they read so, or so with the change.
@@ -56,11 +62,14 @@ with_record j = record j { records = j.records + 1 }
 abbrev pub doubted : JournalState → JournalState
 doubted j = record j { in_doubt = true }
 
--- The program of a record was done, the one call that was made: the journal has a record more, and the cells read with the change.
+-- The program of a record was done, the one call that was made: the journal has a record more, and the cells read with the change. It is no
+-- page of data.
 pub record Appends (old new : JournalState) (before after : FlashState) (x : Change × Totals) : Type 0 where
   pub journal : new ≡ with_record old
   pub one_call : after.moment ≡ counted before.moment
+  pub call : Makes before after (record_call old ∷ [])
   pub faults : after.faults ≡ before.faults
+  pub programs : after.programs ≡ before.programs
   pub goes_on : IsTrue after.told → IsJournalIn after.cells new
   pub saved : IsTrue after.told → IsAppended before.cells old x after.cells
 
@@ -68,7 +77,9 @@ pub record Appends (old new : JournalState) (before after : FlashState) (x : Cha
 pub record FallsInDoubt (old new : JournalState) (before after : FlashState) (moment : ℕ) : Type 0 where
   pub journal : new ≡ doubted old
   pub one_call : after.moment ≡ counted before.moment
+  pub call : Makes before after (record (record_call old) { failed = true } ∷ [])
   pub fails : FailsLast before after moment
+  pub programs : after.programs ≡ before.programs
 
 -- What the program of a record does, by its answer; whatever a stop in it or a failure leaves is one of the cells that an append may leave.
 pub record Writes (j : JournalState) (before after : FlashState) (x : Change × Totals) (result : Wrote) : Type 0 where

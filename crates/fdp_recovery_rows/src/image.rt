@@ -123,7 +123,15 @@ pub fn with_checkpoint(
     let mut page = vec![in alloc; 0u8; geometry.block as usize]?;
     match page_count(&geometry, &state.summary) {
         Some(_count) => {
-            let _wrote: Wrote = write(&mut flash, area, epoch, &state, page.as_mut_slice());
+            let pages = state.pages.as_slice();
+            let _wrote: Wrote = write(
+                &mut flash,
+                area,
+                epoch,
+                &state.summary,
+                pages,
+                page.as_mut_slice(),
+            );
         }
         None => {}
     }

@@ -1,4 +1,4 @@
-use Rattle.std.proofs.Common.{◌≡◌, ◌<◌, ◌∙◌, arith, true, false, IsTrue, List, Some, ap, refl, subst, sym, length, ℕ, Bool, rules}
+use Rattle.std.proofs.Common.{◌≡◌, ◌<◌, ◌∙◌, arith, true, false, List, Some, ap, refl, subst, sym, length, ℕ, Bool, rules}
 use Rattle.std.specs.Prelude.{slice_get}
 use Rattle.std.specs.List.{concat}
 use Rattle.std.proofs.lemmas.List.{length-append, take_all}

@@ -1,4 +1,4 @@
-use Rattle.std.proofs.Common.{◌≡◌, IsTrue, List, ℕ, Some, refl, subst, sym}
+use Rattle.std.proofs.Common.{◌≡◌, List, ℕ, Some, refl, subst, sym}
 use Rattle.std.specs.Prelude.{slice_get}
 use Rattle.fdp_flash.specs.declared.cell.Cell.TheVariants.{Whole}
 use Rattle.fdp_flash.specs.Layout.{page_number}

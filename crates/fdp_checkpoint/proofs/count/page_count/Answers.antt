@@ -1,4 +1,4 @@
-use Rattle.std.proofs.Common.{◌≡◌, ◌+◌, ◌-◌, ◌*◌, ◌/◌, ◌∙◌, ap, sym, arith, refl, ℕ}
+use Rattle.std.proofs.Common.{◌+◌, ◌-◌, ◌/◌, ◌∙◌, ap, sym, arith, refl, ℕ}
 use Rattle.fdp_checkpoint.proofs.Counted.{count_short, room_is}
 use Rattle.fdp_checkpoint.proofs.Steps.{block_some}
 use Rattle.fdp_checkpoint.proofs.Telling.{size_is, size_least}

@@ -1,4 +1,4 @@
-use Rattle.std.proofs.Common.{◌≡◌, ◌∙◌, ◌+◌, ◌*◌, sym, subst, ap, ℕ, refl, arith}
+use Rattle.std.proofs.Common.{◌∙◌, ◌+◌, ◌*◌, subst, ap, ℕ}
 use Rattle.fdp_flash.specs.Planned.{MakesPlanned, calls_from, erase_of}
 use Rattle.fdp_checkpoint.proofs.Steps.{erase_blank, erase_held}
 use Rattle.fdp_checkpoint.proofs.erasing.erase.Goals as goal

@@ -4,8 +4,9 @@ use Rattle.fdp_flash.specs.Planned.{calls_from}
 use Rattle.fdp_flash.proofs.Failing.{failed_behind, program_failed}
 use Rattle.fdp_flash.proofs.Held.{holds_at_start}
 use Rattle.fdp_flash.proofs.Planned.{none_made}
+use Rattle.fdp_checkpoint.specs.Writing.{with_pages}
 use Rattle.fdp_checkpoint.proofs.SealedAnew.{pages_none}
-use Rattle.fdp_checkpoint.proofs.Steps.{IsFilling, fill_held, fill_pages, fill_start, page_made, page_stops, put_by}
+use Rattle.fdp_checkpoint.proofs.Steps.{IsFilling, fill_held, fill_pages, fill_start, page_made, page_stops, program_uncounted, put_by}
 use Rattle.fdp_checkpoint.proofs.Telling.{area_small}
 use Rattle.fdp_checkpoint.proofs.filling.fill.Goals as goal
 
@@ -18,6 +19,7 @@ loop-number-init g c =
       held = holds_at_start _ s (fill_start _ _ s c.requires.blank);
       pages = λ told. pages_none _ _ _ _ _ (c.requires.blank told);
       faultless = refl;
+      programs = refl;
       made = none_made s (g.met.F.Flash.well_formed c.args.flash.now);
     }
 
@@ -31,7 +33,7 @@ pub loop-number-preserved : goal.loop-number-preserved
 loop-number-preserved g c =
     let inv = c.loop-number.invariant in
     let x = c.args.target.now in
-    let filling : IsFilling x c.loop-number.number c.args.count c.args.state.now c.put_page.new.into (g.F.Flash.state c.args.flash.now) (g.F.Flash.state c.loop-number.flash) = record {
+    let filling : IsFilling x c.loop-number.number c.args.count (with_pages c.args.summary.now c.args.pages.now) c.put_page.new.into (g.F.Flash.state c.args.flash.now) (g.F.Flash.state c.loop-number.flash) = record {
       geometry = c.requires.geometry ∙ sym inv.held.run.geometry;
       area = c.requires.area;
       stamp = c.requires.stamp;
@@ -40,7 +42,7 @@ loop-number-preserved g c =
       held = inv.held;
       pages = inv.pages;
       bytes_are =
-          put_by c.args.fixed.now c.args.state.now _ _ c.loop-number.number c.args.count x.geometry.block c.put_page.new.into c.as_slice.ensures (inv.size ∙ c.requires.room) c.requires.fixed c.requires.long c.requires.state
+          put_by c.args.fixed.now (with_pages c.args.summary.now c.args.pages.now) _ _ c.loop-number.number c.args.count x.geometry.block c.put_page.new.into refl (inv.size ∙ c.requires.room) c.requires.fixed c.requires.long c.requires.state
           (omega (arith, c.loop-number-test.true)) c.requires.fits c.put_page.ensures;
     } in
     record {
@@ -48,6 +50,7 @@ loop-number-preserved g c =
       held = fill_held x _ _ _ _ _ _ _ _ filling c.in-Done.ensures;
       pages = fill_pages x _ _ _ _ _ _ _ filling c.in-Done.ensures;
       faultless = c.in-Done.ensures.answer.ended.no_fault refl ∙ inv.faultless;
+      programs = program_uncounted x _ c.loop-number.number _ _ _ _ filling.geometry c.in-Done.ensures ∙ inv.programs;
       made = page_made x c.loop-number.number _ _ _ _ inv.made c.in-Done.ensures;
     }
 
@@ -55,7 +58,7 @@ pub returns-in-Failed-clause-held : goal.returns-in-Failed-clause-held
 returns-in-Failed-clause-held g c =
     let inv = c.loop-number.invariant in
     let x = c.args.target.now in
-    let filling : IsFilling x c.loop-number.number c.args.count c.args.state.now c.put_page.new.into (g.F.Flash.state c.args.flash.now) (g.F.Flash.state c.loop-number.flash) = record {
+    let filling : IsFilling x c.loop-number.number c.args.count (with_pages c.args.summary.now c.args.pages.now) c.put_page.new.into (g.F.Flash.state c.args.flash.now) (g.F.Flash.state c.loop-number.flash) = record {
       geometry = c.requires.geometry ∙ sym inv.held.run.geometry;
       area = c.requires.area;
       stamp = c.requires.stamp;
@@ -64,7 +67,7 @@ returns-in-Failed-clause-held g c =
       held = inv.held;
       pages = inv.pages;
       bytes_are =
-          put_by c.args.fixed.now c.args.state.now _ _ c.loop-number.number c.args.count x.geometry.block c.put_page.new.into c.as_slice.ensures (inv.size ∙ c.requires.room) c.requires.fixed c.requires.long c.requires.state
+          put_by c.args.fixed.now (with_pages c.args.summary.now c.args.pages.now) _ _ c.loop-number.number c.args.count x.geometry.block c.put_page.new.into refl (inv.size ∙ c.requires.room) c.requires.fixed c.requires.long c.requires.state
           (omega (arith, c.loop-number-test.true)) c.requires.fits c.put_page.ensures;
     } in
     fill_held x _ _ _ _ _ _ _ _ filling c.in-Failed.ensures
@@ -77,3 +80,8 @@ returns-in-Failed-clause-calls g c =
 pub returns-in-Failed-clause-failed : goal.returns-in-Failed-clause-failed
 returns-in-Failed-clause-failed g c is =
     failed_behind _ _ _ _ _ c.loop-number.invariant.held.run (program_failed _ _ _ _ _ (g.met.F.Flash.well_formed c.program_page.new.flash) c.in-Failed.ensures.call c.in-Failed.ensures.answer)
+
+pub returns-in-Failed-clause-programs : goal.returns-in-Failed-clause-programs
+returns-in-Failed-clause-programs g c =
+    let inv = c.loop-number.invariant in
+    program_uncounted c.args.target.now _ c.loop-number.number _ _ _ _ (c.requires.geometry ∙ sym inv.held.run.geometry) c.in-Failed.ensures ∙ inv.programs

@@ -1,2 +1,0 @@
-use Rattle.std.proofs.Common.{◌≡◌, ◌∙◌, ◌≤◌, subst, sym, arith, refl}
-use Rattle.fdp_checkpoint.proofs.reading.read.Goals as goal

@@ -1,4 +1,4 @@
-use Rattle.std.proofs.Common.{◌≡◌, ◌∙◌, ◌+◌, ◌-◌, ◌/◌, ◌<◌, ◌≤◌, ap, sym, refl, subst, arith, inl, inr, length, ℕ, Err}
+use Rattle.std.proofs.Common.{◌∙◌, ◌+◌, ◌-◌, ◌/◌, ◌<◌, ◌≤◌, ap, refl, subst, arith, inl, inr, length, ℕ, Err}
 use Rattle.fdp_flash.specs.Layout.{first_page}
 use Rattle.fdp_image.specs.Areas.{area_unit}
 use Rattle.fdp_snapshot.specs.declared.state.Summary.{Summary}

@@ -1,13 +1,14 @@
-use Rattle.std.proofs.Common.{◌≡◌, ◌∙◌, IsTrue, subst, sym, refl}
+use Rattle.std.proofs.Common.{◌∙◌, IsTrue, subst, sym, refl}
 use Rattle.fdp_flash.proofs.Failing.{failed_behind}
+use Rattle.fdp_checkpoint.specs.Writing.{with_pages}
 use Rattle.fdp_checkpoint.proofs.Steps.{content_calls, content_fits, fixed_size_is, pages_stop, sealing_behind, unsealed_sealing}
 use Rattle.fdp_checkpoint.proofs.writing.put_content.Goals as goal
 
 pub fill-requires-clause-fits : goal.fill-requires-clause-fits
-fill-requires-clause-fits g c = content_fits c.args.target.now.geometry c.args.count c.args.state.now c.requires.valid c.requires.count
+fill-requires-clause-fits g c = content_fits c.args.target.now.geometry c.args.count (with_pages c.args.summary.now c.args.pages.now) c.requires.valid c.requires.count
 
 pub fill-requires-clause-long : goal.fill-requires-clause-long
-fill-requires-clause-long g c = fixed_size_is c.args.fixed.now c.args.state.now c.requires.state c.requires.fits c.requires.fixed
+fill-requires-clause-long g c = fixed_size_is c.args.fixed.now (with_pages c.args.summary.now c.args.pages.now) c.requires.state c.requires.fits c.requires.fixed
 
 pub seal-requires-clause-geometry : goal.seal-requires-clause-geometry
 seal-requires-clause-geometry g c = c.requires.geometry ∙ sym c.in-Done.ensures.held.run.geometry

@@ -11,11 +11,11 @@ pub program-requires-clause-order : goal.program-requires-clause-order
 program-requires-clause-order g c =
     order _ _ _ _ _ _
     (at_hand _ _ _ _ _ _ _ _ c.self.view_is (g.met.F.Flash.well_formed c.args.flash.now) c.requires.geometry c.self.invariant.area c.requires.cells c.requires.room c.next.ensures.value
-    c.page_of_area-at.ensures.place c.next_spare-spare.ensures c.encode.ensures.told)
+    c.page_of_area-at.ensures.place c.page_of_area-at.ensures.spot c.next_spare-spare.ensures c.encode.ensures.told)
 
 pub returns-clause-written : goal.returns-clause-written
 returns-clause-written g c =
     writes _ _ _ _ _ _ _ _
     (at_hand _ _ _ _ _ _ _ _ c.self.view_is (g.met.F.Flash.well_formed c.args.flash.now) c.requires.geometry c.self.invariant.area c.requires.cells c.requires.room c.next.ensures.value
-    c.page_of_area-at.ensures.place c.next_spare-spare.ensures c.encode.ensures.told)
+    c.page_of_area-at.ensures.place c.page_of_area-at.ensures.spot c.next_spare-spare.ensures c.encode.ensures.told)
     (g.met.F.Flash.well_formed c.program.new.self) c.program.ensures.call c.program.ensures.answer
