@@ -1,0 +1,11 @@
+pub mod Among
+pub mod Chosen
+pub mod Alone
+pub mod Replaced
+pub mod Checkpointed
+pub mod Appended
+pub mod Made
+pub mod Joined
+pub mod Beginning
+pub mod DataPages
+pub mod Room

@@ -1,0 +1,4 @@
+pub mod Calls
+pub mod Said
+pub mod Saver
+pub mod Saving

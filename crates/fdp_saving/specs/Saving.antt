@@ -1,0 +1,79 @@
+-- What a checkpoint and a saving leave the areas to say.
+use Rattle.std.specs.Prelude.{◌≡◌, Bool, List, [], ◌∷◌, if◌then◌else◌}
+use Rattle.fdp_base.specs.declared.config.DriveConfig.{DriveConfig}
+use Rattle.fdp_base.specs.declared.entry.Totals.{Totals}
+use Rattle.fdp_base.specs.Placement.{geometry_of}
+use Rattle.fdp_flash.specs.declared.answer.Wrote.{Wrote}
+use Rattle.fdp_flash.specs.declared.answer.Wrote.TheVariants as wrote
+use Rattle.fdp_flash.specs.declared.cell.Cell.{Cell}
+use Rattle.fdp_flash.specs.Failing.{FailsLast}
+use Rattle.fdp_flash.specs.FlashState.{FlashState}
+use Rattle.fdp_records.specs.declared.change.Change.{Change}
+use Rattle.fdp_snapshot.specs.declared.state.State.{State}
+use Rattle.fdp_image.specs.Applied.{applied}
+use Rattle.fdp_image.specs.Checkpoint.{reading_of_state}
+use Rattle.fdp_image.specs.Reading.{Reading}
+use Rattle.fdp_image.specs.Replacing.{NamesSizes}
+use Rattle.fdp_journal.specs.JournalState.{JournalState}
+use Rattle.fdp_saving.specs.declared.saved.Saved.{Saved}
+use Rattle.fdp_saving.specs.declared.saved.Saved.TheVariants as answers
+use Rattle.fdp_saving.specs.Said.{AreasSay, AreasSayOneOf}
+
+-- the flash of a saver is that of a drive of this configuration, whose sizes the state names
+pub record IsOfDrive (c : DriveConfig) (s : JournalState) (given : State) : Type 0 where
+  pub geometry : geometry_of c ≡ s.geometry
+  pub sizes : NamesSizes c given
+
+-- what is said then: the drive as it was given, where a checkpoint of it was wanted, else what was said before
+abbrev pub base_of : Bool → Reading → State → Reading
+base_of wanted own given = if wanted then reading_of_state given else own
+
+-- what may be read while a checkpoint is written
+abbrev pub within_checkpoint : Reading → Reading → State → List Reading
+within_checkpoint own tried given = own ∷ tried ∷ reading_of_state given ∷ []
+
+-- what may be read while a checkpoint is written, where one was wanted
+abbrev pub within_renewal : Bool → Reading → Reading → State → List Reading
+within_renewal wanted own tried given = own ∷ tried ∷ base_of wanted own given ∷ []
+
+-- what may be read while the record of a change is appended to what is read
+abbrev pub within_append : DriveConfig → Reading → Change × Totals → List Reading
+within_append c own x = own ∷ applied c own x ∷ []
+
+-- what may be read while a change is saved
+abbrev pub within_saving : DriveConfig → Bool → Reading → Reading → State → Change × Totals → List Reading
+within_saving c wanted own tried given x = own ∷ tried ∷ base_of wanted own given ∷ applied c (base_of wanted own given) x ∷ []
+
+-- what the areas say after a checkpoint, by its answer: the state that was given, or what they said; where it failed, the other area may say
+-- that state, or what it said
+abbrev pub SayAfterCheckpoint : DriveConfig → JournalState → List Cell → Reading → Reading → State → Wrote → Type 0
+SayAfterCheckpoint c s cells own tried given wrote.Done = AreasSay c s cells (reading_of_state given) (reading_of_state given)
+SayAfterCheckpoint c s cells own tried given wrote.Failed = AreasSayOneOf c s cells (own ∷ []) (tried ∷ reading_of_state given ∷ [])
+
+-- what the areas say after a checkpoint where one was wanted, by the answer
+abbrev pub SayAfterRenewal : DriveConfig → JournalState → List Cell → Reading → Reading → State → Reading → Wrote → Type 0
+SayAfterRenewal c s cells own tried given base wrote.Done = AreasSay c s cells base base
+SayAfterRenewal c s cells own tried given base wrote.Failed = SayAfterCheckpoint c s cells own tried given wrote.Failed
+
+-- what the areas say after the program of a record upon a reading, by its answer
+abbrev pub SayAfterAppend : DriveConfig → JournalState → List Cell → Reading → Change × Totals → Wrote → Type 0
+SayAfterAppend c s cells base x wrote.Done = AreasSay c s cells (applied c base x) (applied c base x)
+SayAfterAppend c s cells base x wrote.Failed = AreasSayOneOf c s cells (within_append c base x) (within_append c base x)
+
+-- what the areas say after a saving upon a reading, by its answer: that with the change; that with the change or without; or, where the
+-- checkpoint before it failed, what they say then
+abbrev pub SayAfterSaving : DriveConfig → JournalState → List Cell → Reading → Reading → State → Reading → Change × Totals → Saved → Type 0
+SayAfterSaving c s cells own tried given base x answers.Done = SayAfterAppend c s cells base x wrote.Done
+SayAfterSaving c s cells own tried given base x (answers.Doubtful moment) = SayAfterAppend c s cells base x wrote.Failed
+SayAfterSaving c s cells own tried given base x (answers.Unsaved moment) = SayAfterCheckpoint c s cells own tried given wrote.Failed
+
+-- a saving fails only where its last call did, at the moment that it tells; else no fault was counted
+abbrev pub EndsSaving : FlashState → FlashState → Saved → Type 0
+EndsSaving old new answers.Done = new.faults ≡ old.faults
+EndsSaving old new (answers.Doubtful moment) = FailsLast old new moment
+EndsSaving old new (answers.Unsaved moment) = FailsLast old new moment
+
+-- a checkpoint likewise
+abbrev pub EndsCheckpoint : FlashState → FlashState → Wrote → Type 0
+EndsCheckpoint old new wrote.Done = new.faults ≡ old.faults
+EndsCheckpoint old new wrote.Failed = FailsLast old new new.moment
