@@ -9,14 +9,13 @@ use Rattle.fdp_base.specs.declared.entry.Reply.{Reply}
 use Rattle.fdp_base.specs.declared.entry.Spot.{Spot}
 use Rattle.fdp_base.specs.declared.status.Status.{Status}
 use Rattle.fdp_base.specs.CommandKinds.{is_write, write_of}
-use Rattle.fdp_book.specs.Book.{BookSeen, IsLonger, point_in, state_in}
+use Rattle.fdp_book.specs.Book.{BookSeen, IsLonger, point_in, state_in, first_in}
 use Rattle.fdp_book.specs.declared.extent.Extent.{Extent}
 use Rattle.fdp_book.specs.declared.flight.Flight.{Flight}
 use Rattle.fdp_book.specs.declared.room.Replies.{Replies}
 use Rattle.fdp_book.specs.declared.tables.Tables.{Tables}
 use Rattle.fdp_book.specs.declared.ticket.Done.{Done}
 use Rattle.fdp_book.specs.declared.ticket.Ticket.{Ticket}
-use Rattle.fdp_book.specs.Configured.{no_pages}
 use Rattle.fdp_book.specs.Extent.{extent}
 use Rattle.fdp_book.specs.Forgetting.{EndsIn, Forgets}
 use Rattle.fdp_book.specs.Held.{IsHeld, flight_in, going_of}
@@ -56,7 +55,7 @@ held-completed c found first es t now queue number command reply moment h queue_
 -- ---- the flight of a ticket
 
 -- the queue of a write that is going
-pub flying-queue : (b now : BookSeen) (t : Tables) (queue : ℕ) (ticket : Ticket) → IsHeld b.config b.found no_pages b.entries t → b ≡ now → queue ≡ ticket.queue → IsFlying now ticket → IsQueue b.config queue
+pub flying-queue : (b now : BookSeen) (t : Tables) (queue : ℕ) (ticket : Ticket) → IsHeld b.config b.found (first_in b) b.entries t → b ≡ now → queue ≡ ticket.queue → IsFlying now ticket → IsQueue b.config queue
 flying-queue b now t queue ticket h same queue_is flying =
     let going = subst (λ (y : BookSeen). IsFlying y ticket) (sym same) flying in
     subst (IsQueue b.config) (sym queue_is) (h.orderly.state.writes ticket.queue going.going going.ticket_is.going_is).queue_is
@@ -65,7 +64,7 @@ pub record IsEnding (b : BookSeen) (queue : ℕ) (ticket : Ticket) (f : Flight) 
   pub orderly : IsOrderlyGoing b.config (state_in b) queue (going_of f)
   pub own : IsTicketOf (state_in b) ticket (going_of f)
 
-pub ending : (b now : BookSeen) (t : Tables) (queue : ℕ) (ticket : Ticket) (f : Flight) → IsHeld b.config b.found no_pages b.entries t → b ≡ now → queue ≡ ticket.queue → flight_in t.flights.items queue ≡ Some f → IsFlying now ticket → IsEnding b queue ticket f
+pub ending : (b now : BookSeen) (t : Tables) (queue : ℕ) (ticket : Ticket) (f : Flight) → IsHeld b.config b.found (first_in b) b.entries t → b ≡ now → queue ≡ ticket.queue → flight_in t.flights.items queue ≡ Some f → IsFlying now ticket → IsEnding b queue ticket f
 ending b now t queue ticket f h same queue_is there flying =
     let flies = subst (λ (y : BookSeen). IsFlying y ticket) (sym same) flying in
     let going : (state_in b).going queue ≡ Some (going_of f) = h.flights_are.going queue ∙ ap (option_map going_of) there in
@@ -83,11 +82,11 @@ ended-entry queue number moment f command r reply command_is twice =
 
 -- what the tables stand for after the end of a flight whose change is not made
 pub held-ending : (b now : BookSeen) (t left : Tables) (queue : ℕ) (ticket : Ticket) (f : Flight) (status : Status) (moment : ℕ) (old : Option Flight) →
-    IsHeld b.config b.found no_pages b.entries t → b ≡ now → queue ≡ ticket.queue → flight_in t.flights.items queue ≡ Some f → IsFlying now ticket → Forgets t left queue old →
-    IsHeld b.config b.found no_pages (b.entries ++ host queue f.number f.room.command (bare status false) moment ∷ []) left
+    IsHeld b.config b.found (first_in b) b.entries t → b ≡ now → queue ≡ ticket.queue → flight_in t.flights.items queue ≡ Some f → IsFlying now ticket → Forgets t left queue old →
+    IsHeld b.config b.found (first_in b) (b.entries ++ host queue f.number f.room.command (bare status false) moment ∷ []) left
 held-ending b now t left queue ticket f status moment old h same queue_is there flying forgets =
     let k = ending b now t queue ticket f h same queue_is there flying in
-    held-ended b.config b.found no_pages b.entries t left queue f.number f.room.command (bare status false) moment old h k.orderly.queue_is k.orderly.write refl forgets
+    held-ended b.config b.found (first_in b) b.entries t left queue f.number f.room.command (bare status false) moment old h k.orderly.queue_is k.orderly.write refl forgets
 
 -- ---- a write that succeeds
 
@@ -108,7 +107,7 @@ the-write : (o : Option Write) (x : Extent) → Some x ≡ option_map extent o �
 the-write None x is = absurd cc
 the-write (Some w) x is = let one : extent w ≡ x = cc in (w, refl, one)
 
-pub committing : (b now : BookSeen) (t : Tables) (queue : ℕ) (ticket : Ticket) (f : Flight) → IsHeld b.config b.found no_pages b.entries t → b ≡ now → queue ≡ ticket.queue → flight_in t.flights.items queue ≡ Some f → ((g : Going) → IsTicketOf (state_in now) ticket g → MaySucceed now.config (point_in now) g) → IsReady now ticket → IsCommitting b t queue ticket f
+pub committing : (b now : BookSeen) (t : Tables) (queue : ℕ) (ticket : Ticket) (f : Flight) → IsHeld b.config b.found (first_in b) b.entries t → b ≡ now → queue ≡ ticket.queue → flight_in t.flights.items queue ≡ Some f → ((g : Going) → IsTicketOf (state_in now) ticket g → MaySucceed now.config (point_in now) g) → IsReady now ticket → IsCommitting b t queue ticket f
 committing b now t queue ticket f h same queue_is there may_now ready =
     let may : (g : Going) → IsTicketOf (state_in b) ticket g → MaySucceed b.config (point_in b) g = subst (λ (y : BookSeen). (g : Going) → IsTicketOf (state_in y) ticket g → MaySucceed y.config (point_in y) g) (sym same) may_now in
     let k = ending b now t queue ticket f h same queue_is there (record { going = ready.going; ticket_is = ready.ticket_is }) in

@@ -27,8 +27,9 @@ setting-alike s n x a h = record { enabled = a.enabled ∙ h.enabled; index = a.
 pub spaces-alike : (c : DriveConfig) (s n : PlainState) (x : SpaceTable) → IsAlike s n → AreSpacesOf c s x → AreSpacesOf c n x
 spaces-alike c s n x a h = record { groups = h.groups; namespaces = λ nsid. ap (λ (f : ℕ → Option Namespace). f nsid) a.namespaces ∙ h.namespaces nsid }
 
-pub map-alike : (s n : PlainState) (x : MapTable) → IsAlike s n → n.blocks ≡ s.blocks → IsMapOf s x → IsMapOf n x
-map-alike s n x a blocks h = record {
+pub map-alike : (c : DriveConfig) (s n : PlainState) (x : MapTable) → IsAlike s n → n.blocks ≡ s.blocks → IsMapOf c s x → IsMapOf c n x
+map-alike c s n x a blocks h = record {
+  geometry = h.geometry;
   sizes = λ nsid. ap (λ (f : ℕ → Option Namespace). option_map_or (λ y. y.size) (f nsid) 0) a.namespaces ∙ h.sizes nsid;
   most = h.most;
   groups = λ nsid lba. ap (λ (f : ℕ → ℕ → Option Block). option_map (λ (b : Block). b.rg) (f nsid lba)) blocks ∙ h.groups nsid lba;

@@ -7,6 +7,7 @@ pub mod Held
 pub mod Reading
 pub mod Forgetting
 pub mod Ending
+pub mod Longer
 pub mod Shutting
 pub mod Histories
 pub mod Space

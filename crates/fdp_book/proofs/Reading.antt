@@ -5,8 +5,7 @@ use Rattle.std.proofs.lemmas.Bool.{ltb-true}
 use Rattle.fdp_base.specs.declared.entry.Spot.{Spot}
 use Rattle.fdp_base.specs.Spare.{data_spare}
 use Rattle.fdp_book.specs.declared.tables.Tables.{Tables}
-use Rattle.fdp_book.specs.Book.{BookSeen, point_in, state_in, written_in}
-use Rattle.fdp_book.specs.Configured.{no_pages}
+use Rattle.fdp_book.specs.Book.{BookSeen, point_in, state_in, written_in, first_in}
 use Rattle.fdp_book.specs.Held.{IsHeld}
 use Rattle.fdp_book.specs.Reading.{StandsAt}
 use Rattle.fdp_book.proofs.Leading.{led-page}
@@ -41,7 +40,7 @@ owner-place t spot x e =
 -- ---- the page of a block
 
 -- a block's place has an owner, which is the block
-pub record IsOwnPage (b : BookSeen) (t : Tables) (held : IsHeld b.config b.found no_pages b.entries t) (nsid lba : ℕ) (m : Mapped) : Type 0 where
+pub record IsOwnPage (b : BookSeen) (t : Tables) (held : IsHeld b.config b.found (first_in b) b.entries t) (nsid lba : ℕ) (m : Mapped) : Type 0 where
   pub page : Page
   pub leads : held.pages_are.at (of_block nsid lba) ≡ Some page
   pub spot_is : page.spot ≡ m.spot
@@ -50,14 +49,14 @@ pub record IsOwnPage (b : BookSeen) (t : Tables) (held : IsHeld b.config b.found
   pub spare_is : owner.spare ≡ page.spare
   pub place : IsPlace t.pages.owners m.spot
 
-pub own-page : (b : BookSeen) (t : Tables) (nsid lba : ℕ) (m : Mapped) → (held : IsHeld b.config b.found no_pages b.entries t) → AreJoined t.pages → mapped_at t.map nsid lba ≡ Some m → IsOwnPage b t held nsid lba m
+pub own-page : (b : BookSeen) (t : Tables) (nsid lba : ℕ) (m : Mapped) → (held : IsHeld b.config b.found (first_in b) b.entries t) → AreJoined t.pages → mapped_at t.map nsid lba ≡ Some m → IsOwnPage b t held nsid lba m
 own-page b t nsid lba m held joined is =
     let led = led-page (held.pages_are.at (of_block nsid lba)) m.spot (held.pages_are.leads (of_block nsid lba) ∙ ap (option_map (λ (x : Mapped). x.spot)) is) in
     let own = held.pages_are.led.owned.owned (of_block nsid lba) led.0 led.1 in
     let owned : owner_at t.pages.owners m.spot ≡ Some own.owner = ap (owner_at t.pages.owners) (sym led.2) ∙ own.is_owner in
     record { page = led.0; leads = led.1; spot_is = led.2; owner = own.owner; is_owner = owned; spare_is = own.spare; place = owner-place t.pages.owners m.spot own.owner owned }
 
-pub stands-at : (b : BookSeen) (t : Tables) (nsid lba : ℕ) (m : Mapped) (spare : List ℕ) → (held : IsHeld b.config b.found no_pages b.entries t) → (own : IsOwnPage b t held nsid lba m) → data_spare own.owner.spare ≡ spare → StandsAt b ((state_in b).blocks nsid lba) (Some (record { spot = m.spot; spare = spare }))
+pub stands-at : (b : BookSeen) (t : Tables) (nsid lba : ℕ) (m : Mapped) (spare : List ℕ) → (held : IsHeld b.config b.found (first_in b) b.entries t) → (own : IsOwnPage b t held nsid lba m) → data_spare own.owner.spare ≡ spare → StandsAt b ((state_in b).blocks nsid lba) (Some (record { spot = m.spot; spare = spare }))
 stands-at b t nsid lba m spare held own is =
     let at = held.pages_are.at in
     let content = site-at b.config (point_in b) (next_in t.pages.units) at held.pages_are.led.table (of_block nsid lba) own.page own.leads in

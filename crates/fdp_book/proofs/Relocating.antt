@@ -3,3 +3,4 @@ pub mod Cells
 pub mod Placing
 pub mod Leads
 pub mod Moves
+pub mod Staying

@@ -19,14 +19,7 @@ use Rattle.fdp_rules.specs.History.{Found, point_of}
 use Rattle.fdp_rules.specs.Next.{next}
 use Rattle.fdp_rules.specs.PlainState.{Going}
 use Rattle.fdp_rules.specs.Point.{Point}
-
--- what stands after an entry more
-pub point-longer : (b new : BookSeen) (e : Entry) → IsLonger b new (e ∷ []) → point_in new ≡ next b.config (point_in b) e
-point-longer b new e longer =
-    ap (λ (c : DriveConfig). point_of c new.found new.entries) longer.config_is
-    ∙ ap (λ (x : Found). point_of b.config x new.entries) longer.found_is
-    ∙ ap (point_of b.config b.found) longer.entries_are
-    ∙ point_of-push b.config b.found b.entries e
+use Rattle.fdp_book.proofs.Longer.{point-one}
 
 shut-going : (c : DriveConfig) (p : Point) (rg ruh : ℕ) → (next c p (shut_entry rg ruh)).state.going ≡ p.state.going
 unfolding next after changed_by
@@ -35,7 +28,7 @@ shut-going c p rg ruh = refl
 -- the write is going still
 pub still-going : (b new : BookSeen) (ticket : Ticket) (g : Going) (rg ruh : ℕ) → IsLonger b new (shut_entry rg ruh ∷ []) → IsTicketOf (state_in b) ticket g → IsTicketOf (state_in new) ticket g
 still-going b new ticket g rg ruh longer is = record {
-  going_is = ap (λ (p : Point). p.state.going ticket.queue) (point-longer b new (shut_entry rg ruh) longer) ∙ ap (λ (f : ℕ → Option Going). f ticket.queue) (shut-going b.config (point_in b) rg ruh) ∙ is.going_is;
+  going_is = ap (λ (p : Point). p.state.going ticket.queue) (point-one b new (shut_entry rg ruh) longer) ∙ ap (λ (f : ℕ → Option Going). f ticket.queue) (shut-going b.config (point_in b) rg ruh) ∙ is.going_is;
   number_is = is.number_is;
   position_is = is.position_is;
 }
@@ -55,6 +48,7 @@ pub longer-twice : (a b d : BookSeen) (x y : Entry) → IsLonger a b (x ∷ []) 
 longer-twice a b d x y f g = record {
   config_is = g.config_is ∙ f.config_is;
   found_is = g.found_is ∙ f.found_is;
+  opened_is = g.opened_is ∙ f.opened_is;
   entries_are = g.entries_are ∙ ap (λ (es : List Entry). es ++ y ∷ []) f.entries_are ∙ append_assoc a.entries (x ∷ []) (y ∷ []);
   spare_is = g.spare_is ∙ f.spare_is;
   spent_is = g.spent_is ∙ f.spent_is;

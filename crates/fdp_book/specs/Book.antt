@@ -3,8 +3,10 @@ use Rattle.std.specs.Prelude.{◌≡◌, ℕ, ◌+◌, ◌*◌, ◌<◌, Bool, f
 use Rattle.fdp_base.specs.declared.config.DriveConfig.{DriveConfig}
 use Rattle.fdp_base.specs.declared.entry.Entry.{Entry}
 use Rattle.fdp_base.specs.declared.entry.Spot.{Spot}
-use Rattle.fdp_book.specs.Configured.{no_pages}
+use Rattle.fdp_flash.specs.declared.cell.Cell.{Cell}
+use Rattle.fdp_book.specs.Configured.{fresh_opening}
 use Rattle.fdp_handles.specs.HandleTable.{reference_at}
+use Rattle.fdp_locations.specs.Held.{pages_held}
 use Rattle.fdp_locations.specs.Located.{AreLed}
 use Rattle.fdp_locations.specs.Written.{Written, written_by}
 use Rattle.fdp_owners.specs.OwnerTable.{owner_at}
@@ -12,7 +14,7 @@ use Rattle.fdp_pages.specs.PageTables.{PageTables, no_targets}
 use Rattle.fdp_pointers.specs.Facts.{Page}
 use Rattle.fdp_pointers.specs.Pointers.{Behind}
 use Rattle.fdp_rules.specs.Effect.{no_reference}
-use Rattle.fdp_rules.specs.History.{Found, fresh, point_of}
+use Rattle.fdp_rules.specs.History.{Found, point_of}
 use Rattle.fdp_rules.specs.PlainState.{PlainState}
 use Rattle.fdp_rules.specs.Point.{Point}
 use Rattle.fdp_units.specs.DataUnits.{free_unit}
@@ -20,8 +22,9 @@ use Rattle.fdp_units.specs.UnitTable.{is_worn_at, unit_at}
 
 pub record BookSeen : Type 0 where
   pub config : DriveConfig
-  -- what the history began with
+  -- what the history began with, and the cells of the flash then
   pub found : Found
+  pub opened : List Cell
   -- the history
   pub entries : List Entry
   -- the steps for which there is room, and the steps that were made
@@ -45,7 +48,8 @@ pub record AreUnused (c : DriveConfig) (t : PageTables) : Type 0 where
 -- the book of a drive before its first command
 pub record IsFirst (c : DriveConfig) (b : BookSeen) : Type 0 where
   pub config_is : b.config ≡ c
-  pub found_is : b.found ≡ fresh c
+  pub found_is : b.found ≡ (fresh_opening c).found
+  pub opened_is : b.opened ≡ (fresh_opening c).cells
   pub entries_are : b.entries ≡ []
   pub spare_is : b.spare ≡ 0
   pub spent_is : b.spent ≡ 0
@@ -64,9 +68,13 @@ state_in b = (point_in b).state
 abbrev pub position_in : BookSeen → ℕ
 position_in b = b.found.totals.position + length b.entries
 
+-- what pages held when the history began
+abbrev pub first_in : BookSeen → Spot → Option Written
+first_in b = pages_held b.config b.opened
+
 -- what pages hold by the history
 abbrev pub written_in : BookSeen → Spot → Option Written
-written_in b = written_by b.config b.found no_pages b.entries
+written_in b = written_by b.config b.found (first_in b) b.entries
 
 -- The pages that blocks and going writes point to: where they lie by the history, each has its owner and holds its content
 pub record IsLed (b : BookSeen) : Type 0 where
@@ -77,6 +85,7 @@ pub record IsLed (b : BookSeen) : Type 0 where
 pub record IsLonger (old new : BookSeen) (es : List Entry) : Type 0 where
   pub config_is : new.config ≡ old.config
   pub found_is : new.found ≡ old.found
+  pub opened_is : new.opened ≡ old.opened
   pub entries_are : new.entries ≡ old.entries ++ es
   pub spare_is : new.spare ≡ old.spare
   pub spent_is : new.spent ≡ old.spent

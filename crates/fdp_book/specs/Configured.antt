@@ -1,12 +1,14 @@
 -- The namespaces that a drive is made with.
-use Rattle.std.specs.Prelude.{◌≡◌, ◌<◌, ◌≤◌, ℕ, All, List, None, Option, length, map}
+use Rattle.std.specs.Prelude.{◌≡◌, ◌<◌, ◌≤◌, ℕ, All, List, None, Option, length, map, replicate}
 use Rattle.std.specs.List.{enumerate_from}
 use Rattle.std.specs.Option.{ForSome, option_map_or}
 use Rattle.fdp_base.specs.declared.config.DriveConfig.{DriveConfig}
 use Rattle.fdp_base.specs.declared.config.NamespaceConfig.{NamespaceConfig}
-use Rattle.fdp_base.specs.declared.entry.Spot.{Spot}
-use Rattle.fdp_locations.specs.Written.{Written}
-use Rattle.fdp_rules.specs.History.{made_namespace, namespace_in}
+use Rattle.fdp_rules.specs.History.{fresh, made_namespace, namespace_in}
+use Rattle.fdp_origin.specs.Opening.{Opening}
+use Rattle.fdp_base.specs.Geometry.{all_pages}
+use Rattle.fdp_base.specs.Placement.{geometry_of}
+use Rattle.fdp_flash.specs.declared.cell.Cell.TheVariants.{Blank}
 use Rattle.fdp_rules.specs.PlainState.{Namespace}
 use Rattle.fdp_map.specs.MapTable.{MapTable, mapped_at, size_in}
 use Rattle.fdp_spaces.specs.SpaceTable.{SpaceTable, namespace_at}
@@ -35,10 +37,11 @@ pub record AreConfiguredSpaces (c : DriveConfig) (x : SpaceTable) : Type 0 where
 
 -- the table has a place for each of their blocks, and no block
 pub record IsConfiguredMap (c : DriveConfig) (x : MapTable) : Type 0 where
+  pub geometry : x.geometry ≡ geometry_of c
   pub sizes : (nsid : ℕ) → size_in x nsid ≡ size_of_some (namespaces_from 1 c.namespaces nsid)
   pub most : (nsid : ℕ) → size_in x nsid ≤ 262144
   pub absent : (nsid lba : ℕ) → mapped_at x nsid lba ≡ None
 
--- pages hold nothing
-abbrev pub no_pages : Spot → Option Written
-no_pages spot = None
+-- what the run of a drive begins with as the configuration makes it: nothing was found, in a blank flash
+abbrev pub fresh_opening : DriveConfig → Opening
+fresh_opening c = record { found = fresh c; cells = replicate (all_pages (geometry_of c)) Blank }

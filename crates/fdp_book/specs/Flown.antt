@@ -2,6 +2,7 @@
 use Rattle.std.specs.Prelude.{◌≡◌, ℕ, ◌+◌, ◌-◌, ◌<◌, ◌≤◌, ◌&&◌, ◌==◌, IsTrue, List, [], ◌∷◌, ◌++◌, Option, Some, IfSome, IsSome, length, slice_get, option_map, if◌then◌else◌}
 use Rattle.fdp_base.specs.declared.command.Command.{Command}
 use Rattle.fdp_base.specs.declared.command.Write.{Write}
+use Rattle.fdp_base.specs.declared.config.Geometry.{Geometry}
 use Rattle.fdp_base.specs.declared.entry.Spot.{Spot}
 use Rattle.fdp_base.specs.CommandKinds.{blocks_written, is_write, write_of}
 use Rattle.fdp_base.specs.Config.{IsValidConfig}
@@ -14,6 +15,7 @@ use Rattle.fdp_book.specs.Tickets.{IsTicketOf}
 use Rattle.fdp_commands.specs.declared.admission.Admission.{Admission}
 use Rattle.fdp_history.specs.OrderlyState.{IsOrderlyGoing}
 use Rattle.fdp_map.specs.declared.mapped.Mapped.{Mapped}
+use Rattle.fdp_map.specs.MapTable.{mapped_on}
 use Rattle.fdp_rules.specs.Change.{one_more_placed}
 use Rattle.fdp_rules.specs.PlainState.{Going, PageName.written}
 use Rattle.fdp_rules.specs.Sites.{is_there}
@@ -60,11 +62,11 @@ pub record IsPageMore (old : Flight) (spot : Spot) (new : Flight) : Type 0 where
 abbrev pub HasPageMore : Flight → Spot → Option Flight → Type 0
 HasPageMore old spot new = (f : Flight) × (new ≡ Some f) × IsPageMore old spot f
 
--- the place of a block of a write to a group, by its number in the write
-abbrev pub place_in : ℕ → List Spot → ℕ → Option Mapped
-place_in rg pages index = option_map (λ (spot : Spot). record { spot = spot; rg = rg }) (slice_get pages index)
+-- the place of a block of a write, by its number in the write
+abbrev pub place_in : Geometry → List Spot → ℕ → Option Mapped
+place_in g pages index = option_map (mapped_on g) (slice_get pages index)
 
--- the places of blocks with those of a write to a group, of so many blocks from an address on
-abbrev pub with_pages : (ℕ → ℕ → Option Mapped) → ℕ → ℕ → ℕ → List Spot → ℕ → ℕ → ℕ → Option Mapped
-with_pages table nsid slba rg pages count n lba =
-    if n == nsid && is_among slba count lba then place_in rg pages (lba - slba) else table n lba
+-- the places of blocks with those of a write, of so many blocks from an address on
+abbrev pub with_pages : (ℕ → ℕ → Option Mapped) → ℕ → ℕ → Geometry → List Spot → ℕ → ℕ → ℕ → Option Mapped
+with_pages table nsid slba g pages count n lba =
+    if n == nsid && is_among slba count lba then place_in g pages (lba - slba) else table n lba

@@ -5,18 +5,21 @@ use Rattle.fdp_base.specs.declared.config.DriveConfig.{DriveConfig}
 use Rattle.fdp_base.specs.declared.entry.Entry.{Entry}
 use Rattle.fdp_base.specs.declared.entry.Spot.{Spot}
 use Rattle.fdp_base.specs.Config.{IsValidConfig}
+use Rattle.fdp_base.specs.Placement.{geometry_of}
 use Rattle.fdp_book.specs.declared.flight.Flight.{Flight}
 use Rattle.fdp_book.specs.declared.tables.Setting.{Setting}
 use Rattle.fdp_book.specs.declared.tables.Sums.{Sums}
 use Rattle.fdp_book.specs.declared.tables.Tables.{Tables}
 use Rattle.fdp_book.specs.Book.{BookSeen}
-use Rattle.fdp_book.specs.Configured.{no_pages}
 use Rattle.fdp_book.specs.Logged.{Logged}
+use Rattle.fdp_history.specs.Listed.{IsListed}
 use Rattle.fdp_history.specs.Orderly.{IsOrderly}
 use Rattle.fdp_history.specs.Standing.{IsStanding}
+use Rattle.fdp_locations.specs.Held.{pages_held}
 use Rattle.fdp_locations.specs.Located.{AreLed, AreUnitsOf, LeadsTo}
 use Rattle.fdp_locations.specs.Written.{Written, written_by}
 use Rattle.fdp_map.specs.declared.mapped.Mapped.{Mapped}
+use Rattle.fdp_origin.specs.Opening.{Opening}
 use Rattle.fdp_map.specs.MapTable.{MapTable, mapped_at, size_in}
 use Rattle.fdp_pages.specs.PageTables.{PageTables}
 use Rattle.fdp_pointers.specs.Facts.{Page}
@@ -50,8 +53,10 @@ pub record AreSpacesOf (c : DriveConfig) (s : PlainState) (x : SpaceTable) : Typ
   pub groups : c.groups ≡ x.groups
   pub namespaces : (nsid : ℕ) → s.namespaces nsid ≡ namespace_at x nsid
 
--- the map has a place for each block of each namespace, and tells the group of each block; namespaces have at most 262,144 blocks
-pub record IsMapOf (s : PlainState) (x : MapTable) : Type 0 where
+-- the map is of the flash of the configuration, has a place for each block of each namespace, and tells the group of each block; namespaces
+-- have at most 262,144 blocks
+pub record IsMapOf (c : DriveConfig) (s : PlainState) (x : MapTable) : Type 0 where
+  pub geometry : x.geometry ≡ geometry_of c
   pub sizes : (nsid : ℕ) → size_of s nsid ≡ size_in x nsid
   pub most : (nsid : ℕ) → size_in x nsid ≤ 262144
   pub groups : (nsid lba : ℕ) → option_map (λ (b : Block). b.rg) (s.blocks nsid lba) ≡ option_map (λ (m : Mapped). m.rg) (mapped_at x nsid lba)
@@ -100,10 +105,11 @@ pub record IsHeldAt (c : DriveConfig) (found : Found) (es : List Entry) (p : Poi
   pub config : IsValidConfig c
   pub orderly : IsOrderly c p
   pub standing : IsStanding c p
+  pub listed : IsListed c p.state
   pub setting_is : IsSettingOf p.state t.setting
   pub sums_are : AreSumsOf found es t.sums
   pub spaces_are : AreSpacesOf c p.state t.spaces
-  pub map_is : IsMapOf p.state t.map
+  pub map_is : IsMapOf c p.state t.map
   pub flights_are : AreFlightsOf c p.state t.flights.items
   pub units_are : AreUnitsOf c p.state t.pages
   pub pages_are : ArePagesOf c p written t.map t.flights.items t.pages
@@ -113,10 +119,11 @@ abbrev pub IsHeld : DriveConfig → Found → (Spot → Option Written) → List
 IsHeld c found first es t = IsHeldAt c found es (point_of c found es) (written_by c found first es) t
 
 -- what is seen of a book, by its parts
-abbrev pub book_of : DriveConfig → Found → Logged → Tables → BookSeen
-book_of c found log t = record {
+abbrev pub book_of : DriveConfig → Opening → Logged → Tables → BookSeen
+book_of c opening log t = record {
   config = c;
-  found = found;
+  found = opening.found;
+  opened = opening.cells;
   entries = log.entries;
   spare = log.spare;
   spent = log.spent;
@@ -126,7 +133,7 @@ book_of c found log t = record {
 }
 
 -- the parts of a book stand for its history: its tables do, and its log goes on from the position that was found
-pub record IsBook (c : DriveConfig) (found : Found) (log : Logged) (t : Tables) : Type 0 where
-  pub held : IsHeld c found no_pages log.entries t
-  pub before_is : log.before ≡ found.totals.position
+pub record IsBook (c : DriveConfig) (opening : Opening) (log : Logged) (t : Tables) : Type 0 where
+  pub held : IsHeld c opening.found (pages_held c opening.cells) log.entries t
+  pub before_is : log.before ≡ opening.found.totals.position
   pub names_are : log.names ≡ c.unit_pages

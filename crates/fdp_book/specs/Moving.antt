@@ -8,6 +8,7 @@ use Rattle.fdp_base.specs.declared.spare.DataSpare.{DataSpare}
 use Rattle.fdp_book.specs.declared.flight.Flight.{Flight}
 use Rattle.fdp_book.specs.declared.tables.Tables.{Tables}
 use Rattle.fdp_book.specs.Held.{flight_in, going_of, lead_in}
+use Rattle.fdp_book.specs.Taking.{IsPageIn}
 use Rattle.fdp_locations.specs.Located.{LeadsTo}
 use Rattle.fdp_map.specs.declared.mapped.Mapped.{Mapped}
 use Rattle.fdp_map.specs.MapTable.{MapTable, mapped_at, size_in, with_mapped}
@@ -21,6 +22,7 @@ use Rattle.fdp_pages.specs.Steps.{ChangesOwners, moved}
 use Rattle.fdp_pointers.specs.Facts.{Page}
 use Rattle.fdp_pointers.specs.Pointers.{Behind}
 use Rattle.fdp_rules.specs.PlainState.{PlainState}
+use Rattle.fdp_units.specs.UnitTable.{UnitTable, cut_of}
 use Rattle.fdp_trails.specs.Moves.{name_at, owners_moved}
 
 -- a block is at this page
@@ -50,10 +52,16 @@ HasPageIn map flights (holders.Flight queue) spare = HasPageAt (flight_in flight
 abbrev pub HasPage : MapTable → List (Option Flight) → Owner → Type 0
 HasPage map flights x = HasPageIn map flights x.holder x.spare
 
+-- a block goes to a page of its group
+abbrev pub StaysIn : MapTable → Holder → DataSpare → Spot → Type 0
+StaysIn map holders.Block spare to = IfSome (mapped_at map spare.nsid spare.lba) (λ (m : Mapped). IsPageIn map.geometry m.rg to)
+StaysIn map (holders.Flight queue) spare to = Unit {0}
+
 -- a block has another page in the map
 pub record PutsBlock (old new : MapTable) (nsid lba : ℕ) (to : Spot) : Type 0 where
   pub blocks : mapped_at new ≡ with_mapped (mapped_at old) nsid lba (option_map (moved_to to) (mapped_at old nsid lba))
   pub sizes : size_in new ≡ size_in old
+  pub geometry : new.geometry ≡ old.geometry
 
 -- a block of the write in a queue has another page in its flight
 pub record PutsFlight (old new : List (Option Flight)) (queue index : ℕ) (to : Spot) : Type 0 where
@@ -75,12 +83,17 @@ pub record LeadAsOwned (s : PlainState) (t : Tables) : Type 0 where
   pub owned : AreOwners (owner_at t.pages.owners) at
   pub leads : LeadsTo (lead_in s t.map t.flights.items) at
 
+-- the map is of the flash of the pages
+abbrev pub SharesCut : MapTable → UnitTable → Type 0
+SharesCut map units = cut_of units ≡ record { unit_pages = map.geometry.unit_pages; group_units = map.geometry.units; groups = map.geometry.groups }
+
 -- in some state
 abbrev pub CanMove : Tables → Type 0
 CanMove t = (s : PlainState) × LeadAsOwned s t
 
 -- each block of the map has the group that it had
 pub record KeepsGroups (old new : MapTable) : Type 0 where
+  pub geometry : new.geometry ≡ old.geometry
   pub sizes : size_in new ≡ size_in old
   pub groups : (nsid lba : ℕ) → option_map (λ (m : Mapped). m.rg) (mapped_at new nsid lba) ≡ option_map (λ (m : Mapped). m.rg) (mapped_at old nsid lba)
 

@@ -1,8 +1,9 @@
 -- Blocks that take over the pages of a write.
-use Rattle.std.specs.Prelude.{◌≡◌, ℕ, ◌+◌, List, Option, Some, None, option_map, slice_get}
+use Rattle.std.specs.Prelude.{◌≡◌, ℕ, ◌+◌, ◌/◌, List, Option, Some, None, option_map, slice_get}
+use Rattle.fdp_base.specs.declared.config.Geometry.{Geometry}
 use Rattle.fdp_base.specs.declared.entry.Spot.{Spot}
 use Rattle.fdp_map.specs.declared.mapped.Mapped.{Mapped}
-use Rattle.fdp_map.specs.MapTable.{MapTable, mapped_at}
+use Rattle.fdp_map.specs.MapTable.{IsPageOf, MapTable, mapped_at}
 use Rattle.fdp_owners.specs.Owned.{AreOwners}
 use Rattle.fdp_owners.specs.declared.owner.Holder.TheVariants.{Block}
 use Rattle.fdp_owners.specs.declared.owner.Owner.{Owner}
@@ -24,6 +25,15 @@ pub record MayTake (at : Behind Page) (map : MapTable) (t : PageTables) (queue n
   pub owned : AreOwners (owner_at t.owners) at
   pub mapped : (lba : ℕ) → option_map (λ (y : Page). y.spot) (at (of_block nsid lba)) ≡ option_map (λ (m : Mapped). m.spot) (mapped_at map nsid lba)
   pub pages : (index : ℕ) (spot : Spot) → slice_get spots index ≡ Some spot → IsPageTo at queue nsid slba index spot
+
+-- a page of a data unit of a group
+pub record IsPageIn (g : Geometry) (rg : ℕ) (spot : Spot) : Type 0 where
+  pub page : IsPageOf g spot
+  pub group : spot.unit / g.units ≡ rg
+
+-- these are pages of data units
+abbrev pub ArePages : Geometry → List Spot → Type 0
+ArePages g spots = (index : ℕ) (spot : Spot) → slice_get spots index ≡ Some spot → IsPageOf g spot
 
 -- in some queue
 pub record CanTake (map : MapTable) (t : PageTables) (nsid slba : ℕ) (spots : List Spot) : Type 0 where

@@ -5,6 +5,7 @@ ghost use Rattle.fdp_rules.specs.History.{totals_of};
 use crate::log::{Log, MOST_STEP_ENTRIES};
 use crate::tables::Tables;
 use fdp_base::{DriveConfig, Entry, Totals};
+use fdp_origin::Origin;
 use fdp_pages::Pages;
 use std::alloc::AllocError;
 use std::marker::Model;
@@ -30,6 +31,8 @@ pub use reading::Page;
 #[derive(Drop)]
 pub struct Book {
     config: DriveConfig,
+    /// What the history began with.
+    origin: Origin,
     log: Log,
     tables: Tables,
 }
@@ -39,12 +42,11 @@ impl Model for Book {
 
     ghost Value = { BookSeen };
 
-    ghost use Rattle.fdp_rules.specs.History.{fresh};
     ghost use Rattle.fdp_book.specs.Held.{IsBook, book_of};
 
-    ghost view = { λ b. book_of b.config (fresh b.config) b.log b.tables };
+    ghost view = { λ b. book_of b.config b.origin b.log b.tables };
 
-    ghost invariant = { λ b. IsBook b.config (fresh b.config) b.log b.tables };
+    ghost invariant = { λ b. IsBook b.config b.origin b.log b.tables };
 }
 
 impl Book {
@@ -146,6 +148,7 @@ impl Book {
     {
         let Book {
             config: _,
+            origin: _,
             log,
             tables: _,
         } = self;

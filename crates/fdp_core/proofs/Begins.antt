@@ -221,7 +221,7 @@ same-by f n reads = record { geometry = reads.kept.geometry; told = reads.kept.t
 -- a media error of a read has its fault
 read-fault : (handed : Counts) (f n : FlashState) (b : BookSeen) (x : Read) (failed : Bool) → failed ≡ true → IsLedger handed b f → IsFlashFormed n → MakesFetches f n b x failed → MayTell handed b n n.moment
 read-fault handed f n b x failed e ledger formed m =
-    may-tell handed b b f n [] n.moment (record { config_is = refl; found_is = refl; entries_are = sym (append-nil b.entries); spare_is = refl; spent_is = refl; room_is = omega arith }) refl
+    may-tell handed b b f n [] n.moment (record { config_is = refl; found_is = refl; opened_is = refl; entries_are = sym (append-nil b.entries); spare_is = refl; spent_is = refl; room_is = omega arith }) refl
     m.made.run.faults (m.made.fault (failed-told f n b x failed m ∙ e)).rose (fetch-failed f n b x failed e formed m) ledger
 
 pub sound-read : (handed : Counts) (f n : FlashState) (b d : BookSeen) (block : List ℕ) (queue number : ℕ) (command : Command) (x : Read) (replies : Replies) (moment : ℕ) (done : Done) →

@@ -54,6 +54,7 @@ grown-cancelled b d es longer full spare =
     record {
       config_is = longer.config_is;
       found_is = longer.found_is;
+      opened_is = longer.opened_is;
       entries_are = longer.entries_are;
       spent_is = omega (arith, none, longer.spent_is);
       spare_is = omega (arith, none, longer.spare_is, spare);
@@ -65,6 +66,7 @@ grown-kept b d es longer less spare =
     record {
       config_is = longer.config_is;
       found_is = longer.found_is;
+      opened_is = longer.opened_is;
       entries_are = longer.entries_are;
       spent_is = omega (arith, some, longer.spent_is);
       spare_is = omega (arith, some, longer.spare_is, spare);

@@ -5,10 +5,11 @@ use Rattle.std.proofs.lemmas.Nat.{mul-le}
 use Rattle.fdp_base.specs.declared.config.DriveConfig.{DriveConfig}
 use Rattle.fdp_base.specs.declared.config.Geometry.{Geometry}
 use Rattle.fdp_base.specs.declared.entry.Spot.{Spot}
-use Rattle.fdp_base.specs.Geometry.{all_units, data_units}
+use Rattle.fdp_base.specs.Geometry.{all_pages, all_units, data_units}
 use Rattle.fdp_base.specs.Placement.{geometry_of}
-use Rattle.fdp_book.specs.Book.{BookSeen, IsFirst, state_in, written_in}
-use Rattle.fdp_book.specs.Configured.{no_pages}
+use Rattle.fdp_book.specs.Book.{BookSeen, IsFirst, first_in, state_in, written_in}
+use Rattle.fdp_locations.specs.Held.{no_pages, pages_held}
+use Rattle.fdp_locations.proofs.Held.{held-blank}
 use Rattle.fdp_core.specs.Seen.{HoldsHistory, IsLegalOver}
 use Rattle.fdp_core.specs.Sound.{IsSound}
 use Rattle.fdp_flash.specs.declared.cell.Cell.{Cell}
@@ -31,9 +32,12 @@ unfolding IsLegalAfter
 legal-first f b none moments = subst (IsLegal f.told b.config b.found) (sym none) tt
 
 -- no entry wrote a page
-written-first : (b : BookSeen) → b.entries ≡ [] → written_in b ≡ no_pages
+written-first : (c : DriveConfig) (b : BookSeen) → IsFirst c b → written_in b ≡ no_pages
 unfolding written_from
-written-first b none = ap (written_by b.config b.found no_pages) none
+written-first c b first =
+    ap (written_by b.config b.found (first_in b)) first.entries_are
+    ∙ ap (λ (cells : List Cell). pages_held b.config cells) first.opened_is
+    ∙ held-blank b.config (all_pages (geometry_of c))
 
 -- each unit of data is blank
 blank-unit : (g : Geometry) (cells : List Cell) (unit page : ℕ) → unit < data_units g → IsBlankFlash g cells → IsBlankFrom g cells (record { unit = unit; page = page })
@@ -46,7 +50,7 @@ blank-unit g cells unit page low all = record { blank = λ p from below. all.bla
 
 held-first : (f : FlashState) (c : DriveConfig) (b : BookSeen) → IsFirst c b → AreUnitsOf b.config (state_in b) b.pages → f.geometry ≡ geometry_of c → (IsTrue f.told → IsBlankFlash (geometry_of c) f.cells) → HoldsHistory f b
 held-first f c b first units geometry blank tells =
-    subst (λ (w : Spot → Option Written). HoldsWritten f.geometry f.cells w b.pages.units) (sym (written-first b first.entries_are)) (record {
+    subst (λ (w : Spot → Option Written). HoldsWritten f.geometry f.cells w b.pages.units) (sym (written-first c b first)) (record {
       lie = λ spot x e. absurd (none spot x e);
       whole = λ spot x e. absurd (none spot x e);
       blank = λ unit there kept. subst (λ (g : Geometry). IsBlankFrom g f.cells (record { unit = unit; page = (unit_at b.pages.units unit).next })) (sym geometry)

@@ -26,6 +26,7 @@ pub grown : (b d : BookSeen) (es : List Entry) → steps_of es ≡ 1 → 0 < b.s
 grown b d es one spare longer = record {
   config_is = longer.config_is;
   found_is = longer.found_is;
+  opened_is = longer.opened_is;
   entries_are = longer.entries_are;
   spent_is = omega (arith, longer.spent_is, one);
   spare_is = omega (arith, longer.spare_is, one, spare);

@@ -235,6 +235,7 @@ pub longer-joined : (a b c : BookSeen) (es fs : List Entry) → IsLonger a b es 
 longer-joined a b c es fs p q = record {
   config_is = q.config_is ∙ p.config_is;
   found_is = q.found_is ∙ p.found_is;
+  opened_is = q.opened_is ∙ p.opened_is;
   entries_are = q.entries_are ∙ ap (λ (xs : List Entry). xs ++ fs) p.entries_are ∙ append_assoc a.entries es fs;
   spare_is = q.spare_is ∙ p.spare_is;
   spent_is = q.spent_is ∙ p.spent_is;
@@ -255,7 +256,7 @@ relocates-joined state a b c rg es fs xs ys none p q = record {
 pub relocates-none : {F : Type 0} (state : F → FlashState) (s : Seen F) (rg : ℕ) → Relocates state s s rg [] []
 relocates-none state s rg = record {
   extends = record {
-    book = record { config_is = refl; found_is = refl; entries_are = sym (append-nil s.book.entries); spare_is = refl; spent_is = refl; room_is = omega arith };
+    book = record { config_is = refl; found_is = refl; opened_is = refl; entries_are = sym (append-nil s.book.entries); spare_is = refl; spent_is = refl; room_is = omega arith };
     handed_is = refl;
     matches = record {
       made = calls-none (state s.flash);

@@ -85,7 +85,7 @@ shuts-keep c p rg ruh = record { going = refl; there = λ g. refl; media = refl 
 -- a moment at which a call of this step failed is none of an earlier media error
 pub moment-new : (handed : Counts) (b : BookSeen) (f n : FlashState) (moment : ℕ) → IsLedger handed b f → f.moment ≤ n.moment → FailedAt f n moment → HasMoments n → IsNewMoment (state_in b) moment
 moment-new handed b f n moment was later failed moments =
-    new-moment handed b b f n [] moment (record { config_is = refl; found_is = refl; entries_are = sym (append-nil b.entries); spare_is = refl; spent_is = refl; room_is = omega arith }) refl failed (omega (arith, later, moments)) was
+    new-moment handed b b f n [] moment (record { config_is = refl; found_is = refl; opened_is = refl; entries_are = sym (append-nil b.entries); spare_is = refl; spent_is = refl; room_is = omega arith }) refl failed (omega (arith, later, moments)) was
 
 -- a write may end with Write Fault behind the shut of its handle
 pub shut-follows : (handed : Counts) (f n : FlashState) (b : BookSeen) (ticket : Ticket) (g : Going) (spot : Spot) (moment : ℕ) → IsKnown b → IsLedger handed b f → f.moment ≤ n.moment → IsTicketOf (state_in b) ticket g → IsNextSpot b ticket g spot → g.placed < blocks_written g.command → FailedAt f n moment →

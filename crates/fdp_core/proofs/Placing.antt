@@ -32,7 +32,7 @@ use Rattle.fdp_collector.specs.Copying.{IsDataPage}
 use Rattle.fdp_collector.specs.Ready.{IsBlankBehind}
 use Rattle.fdp_core.specs.Seen.{HasMoments, HoldsHistory}
 use Rattle.fdp_core.specs.Sound.{IsSound}
-use Rattle.fdp_core.proofs.Pushed.{legal-one, legal-two, written-one, written-two}
+use Rattle.fdp_core.proofs.Pushed.{legal-one, legal-two}
 use Rattle.fdp_core.proofs.Apart.{apart-placed, apart-shut, known-begun}
 use Rattle.fdp_core.proofs.Sound.{apart-begun, begun}
 use Rattle.fdp_core.proofs.Storing.{blank-used, free-page, holds-put, holds-unput}
@@ -56,6 +56,7 @@ use Rattle.fdp_rules.specs.Change.{is_media_error}
 use Rattle.fdp_rules.specs.Next.{next}
 use Rattle.fdp_rules.specs.PlainState.{Going, PlainState}
 use Rattle.fdp_rules.specs.Step.{Follows, IsPlaced}
+use Rattle.fdp_book.proofs.Longer.{written-one, written-two}
 
 -- ---- the place
 

@@ -6,8 +6,7 @@ use Rattle.std.proofs.lemmas.List.Folds.{list_any-append}
 use Rattle.fdp_base.specs.declared.config.DriveConfig.{DriveConfig}
 use Rattle.fdp_base.specs.declared.entry.Entry.{Entry}
 use Rattle.fdp_base.specs.declared.entry.Spot.{Spot}
-use Rattle.fdp_book.specs.Book.{BookSeen, IsLonger, point_in, state_in, written_in}
-use Rattle.fdp_book.specs.Configured.{no_pages}
+use Rattle.fdp_book.specs.Book.{BookSeen, IsLonger, point_in, state_in, written_in, first_in}
 use Rattle.fdp_core.specs.Seen.{HasMoments, IsLegalOver}
 use Rattle.fdp_flash.specs.FlashState.{FlashState}
 use Rattle.fdp_ledger.specs.Told.{is_media_reply}
@@ -20,52 +19,9 @@ use Rattle.fdp_rules.specs.Point.{Point}
 use Rattle.fdp_rules.specs.Step.{Follows}
 use Rattle.fdp_rules.proofs.Pushes.{legal-push, point_of-push}
 
--- ---- what stands after an entry more
-
-point-as : (b d : BookSeen) (es : List Entry) → IsLonger b d es → point_in d ≡ point_of b.config b.found (b.entries ++ es)
-point-as b d es longer =
-    ap (λ (c : DriveConfig). point_of c d.found d.entries) longer.config_is
-    ∙ ap (λ (f : Found). point_of b.config f d.entries) longer.found_is
-    ∙ ap (point_of b.config b.found) longer.entries_are
-
-pub point-one : (b d : BookSeen) (e : Entry) → IsLonger b d (e ∷ []) → point_in d ≡ next b.config (point_in b) e
-point-one b d e longer = point-as b d (e ∷ []) longer ∙ point_of-push b.config b.found b.entries e
-
 split : (es : List Entry) (x y : Entry) → es ++ x ∷ y ∷ [] ≡ (es ++ x ∷ []) ++ y ∷ []
 split [] x y = refl
 split (e ∷ es) x y = ap (λ (xs : List Entry). e ∷ xs) (split es x y)
-
-pub point-two : (b d : BookSeen) (x y : Entry) → IsLonger b d (x ∷ y ∷ []) → point_in d ≡ next b.config (next b.config (point_in b) x) y
-point-two b d x y longer =
-    point-as b d (x ∷ y ∷ []) longer ∙ ap (point_of b.config b.found) (split b.entries x y)
-    ∙ point_of-push b.config b.found (b.entries ++ x ∷ []) y
-    ∙ ap (λ (p : Point). next b.config p y) (point_of-push b.config b.found b.entries x)
-
--- the state after them
-pub state-as : (b d : BookSeen) (es : List Entry) → IsLonger b d es → state_in d ≡ state_of b.config b.found (b.entries ++ es)
-unfolding point_of
-state-as b d es longer = ap (λ (p : Point). p.state) (point-as b d es longer)
-
-pub state-self : (b : BookSeen) → state_in b ≡ state_of b.config b.found b.entries
-unfolding point_of
-state-self b = refl
-
--- ---- what is written
-
-written-as : (b d : BookSeen) (es : List Entry) → IsLonger b d es → written_in d ≡ written_by b.config b.found no_pages (b.entries ++ es)
-written-as b d es longer =
-    ap (λ (c : DriveConfig). written_by c d.found no_pages d.entries) longer.config_is
-    ∙ ap (λ (f : Found). written_by b.config f no_pages d.entries) longer.found_is
-    ∙ ap (written_by b.config b.found no_pages) longer.entries_are
-
-pub written-one : (b d : BookSeen) (e : Entry) → IsLonger b d (e ∷ []) → written_in d ≡ written_after b.config (state_in b) (written_in b) e
-written-one b d e longer = written-as b d (e ∷ []) longer ∙ written_by-push b.config b.found no_pages b.entries e
-
-pub written-two : (b d : BookSeen) (x y : Entry) → IsLonger b d (x ∷ y ∷ []) → written_in d ≡ written_after b.config (point_of b.config b.found (b.entries ++ x ∷ [])).state (written_after b.config (state_in b) (written_in b) x) y
-written-two b d x y longer =
-    written-as b d (x ∷ y ∷ []) longer ∙ ap (written_by b.config b.found no_pages) (split b.entries x y)
-    ∙ written_by-push b.config b.found no_pages (b.entries ++ x ∷ []) y
-    ∙ ap (λ (w : Spot → Option Written). written_after b.config (point_of b.config b.found (b.entries ++ x ∷ [])).state w y) (written_by-push b.config b.found no_pages b.entries x)
 
 -- ---- what is legal
 

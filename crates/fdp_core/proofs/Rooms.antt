@@ -34,7 +34,6 @@ use Rattle.fdp_core.specs.Steps.{Completes, Matches}
 use Rattle.fdp_core.proofs.Grown.{adds, completes, host, steps-behind}
 use Rattle.fdp_core.proofs.Passing.{longer-joined, worn-told}
 use Rattle.fdp_core.proofs.Placing.{as-write}
-use Rattle.fdp_core.proofs.Pushed.{state-as, state-self}
 use Rattle.fdp_core.proofs.Sound.{begun}
 use Rattle.fdp_flash.specs.FlashState.{Call, FlashState, IsWellFormed as IsFlashFormed}
 use Rattle.fdp_history.specs.Orderly.{IsOrderly}
@@ -57,6 +56,7 @@ use Rattle.fdp_rules.specs.Totals.{media_blocks, media_blocks_of}
 use Rattle.fdp_rules.proofs.Pushes.{state_of-push}
 use Rattle.fdp_trails.specs.Crowded.{IsCrowded}
 use Rattle.fdp_trails.proofs.Crowding.{crowded-exceeds}
+use Rattle.fdp_book.proofs.Longer.{state-as, state-self}
 
 -- ---- a worn group has no budget
 

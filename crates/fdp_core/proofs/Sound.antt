@@ -9,7 +9,7 @@ use Rattle.fdp_base.specs.Placement.{geometry_of}
 use Rattle.fdp_book.specs.Book.{BookSeen, IsLonger, point_in, state_in, written_in}
 use Rattle.fdp_core.specs.Seen.{HasMoments, HoldsHistory, KeepsApart}
 use Rattle.fdp_core.specs.Sound.{IsSound}
-use Rattle.fdp_core.proofs.Pushed.{legal-one, written-one}
+use Rattle.fdp_core.proofs.Pushed.{legal-one}
 use Rattle.fdp_flash.specs.declared.cell.Cell.{Cell}
 use Rattle.fdp_flash.specs.FlashState.{FlashState}
 use Rattle.fdp_isolation.proofs.Alike.{laned-alike}
@@ -22,6 +22,7 @@ use Rattle.fdp_locations.specs.Written.{Written, written_after}
 use Rattle.fdp_pages.specs.Steps.{ChangesOwners}
 use Rattle.fdp_relocation.proofs.Moving.{blank-recounted}
 use Rattle.fdp_rules.specs.Step.{Follows}
+use Rattle.fdp_book.proofs.Longer.{written-one}
 
 -- a step that has begun: it may add 300 entries, one of them that of a move
 abbrev pub begun : BookSeen → BookSeen

@@ -46,6 +46,7 @@ steps_of (e ∷ es) = 1
 pub record IsGrown (old new : BookSeen) (es : List Entry) : Type 0 where
   pub config_is : new.config ≡ old.config
   pub found_is : new.found ≡ old.found
+  pub opened_is : new.opened ≡ old.opened
   pub entries_are : new.entries ≡ old.entries ++ es
   pub spent_is : new.spent ≡ old.spent + steps_of es
   pub spare_is : new.spare + steps_of es ≡ old.spare

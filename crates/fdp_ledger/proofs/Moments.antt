@@ -25,6 +25,7 @@ use Rattle.fdp_ledger.specs.Ledger.{IsLedger}
 use Rattle.fdp_ledger.specs.Told.{is_media_reply}
 use Rattle.fdp_ledger.proofs.Counting.{one-more_bound}
 use Rattle.fdp_ledger.proofs.Entries.{count-push}
+use Rattle.fdp_book.proofs.Longer.{point-as}
 
 -- ---- what an entry adds to them
 
@@ -62,20 +63,14 @@ quiet-point c f es (x ∷ xs) quiet =
     ∙ ap (λ (p : Point). p.state.media) (point_of-push c f es x)
     ∙ media-kept c (point_of c f es) x (none-here (is_media_reply x) (count_by is_media_reply xs) parts)
 
-longer-point : (b new : BookSeen) (es : List Entry) → IsLonger b new es → point_in new ≡ point_of b.config b.found (b.entries ++ es)
-longer-point b new es longer =
-    ap (λ (c : DriveConfig). point_of c new.found new.entries) longer.config_is
-    ∙ ap (λ (f : Found). point_of b.config f new.entries) longer.found_is
-    ∙ ap (point_of b.config b.found) longer.entries_are
-
 pub quiet-media : (b new : BookSeen) (es : List Entry) → IsLonger b new es → count_by is_media_reply es ≡ 0 → (state_in new).media ≡ (state_in b).media
-quiet-media b new es longer quiet = ap (λ (p : Point). p.state.media) (longer-point b new es longer) ∙ quiet-point b.config b.found b.entries es quiet
+quiet-media b new es longer quiet = ap (λ (p : Point). p.state.media) (point-as b new es longer) ∙ quiet-point b.config b.found b.entries es quiet
 
 -- behind entries that tell of none, a completed command
 pub host-media : (b new : BookSeen) (es : List Entry) (queue number : ℕ) (command : Command) (reply : Reply) (moment : ℕ) → IsLonger b new (es ++ entries.Host (record { queue = queue; number = number; command = command; reply = reply; moment = moment }) ∷ []) → count_by is_media_reply es ≡ 0 → (state_in new).media ≡ (if is_media_error reply.status then moment ∷ (state_in b).media else (state_in b).media)
 host-media b new es queue number command reply moment longer quiet =
     let host : Entry = entries.Host (record { queue = queue; number = number; command = command; reply = reply; moment = moment }) in
-    ap (λ (p : Point). p.state.media) (longer-point b new (es ++ host ∷ []) longer)
+    ap (λ (p : Point). p.state.media) (point-as b new (es ++ host ∷ []) longer)
     ∙ ap (λ (ys : List Entry). (point_of b.config b.found ys).state.media) (sym (append_assoc b.entries es (host ∷ [])))
     ∙ ap (λ (p : Point). p.state.media) (point_of-push b.config b.found (b.entries ++ es) host)
     ∙ media-host b.config (point_of b.config b.found (b.entries ++ es)) queue number command reply moment

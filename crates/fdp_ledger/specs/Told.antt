@@ -2,8 +2,8 @@
 use Rattle.std.specs.Prelude.{ℕ, Bool, true, false, ◌||◌, ◌==◌, Option, Some, None}
 use Rattle.std.specs.Option.{option_map_or}
 use Rattle.fdp_base.specs.declared.entry.Entry.{Entry}
-use Rattle.fdp_base.specs.declared.entry.Entry.TheVariants as entries
-use Rattle.fdp_base.specs.EntryKinds.{empties, is_shut, is_unit, loses_unit, unit_retired}
+use Rattle.fdp_base.specs.declared.entry.Host.{Host}
+use Rattle.fdp_base.specs.EntryKinds.{empties, host_of, is_shut, is_unit, loses_unit, unit_retired}
 use Rattle.fdp_rules.specs.Change.{is_media_error}
 
 -- whether an entry tells of a media error

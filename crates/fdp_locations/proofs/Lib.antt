@@ -1,3 +1,5 @@
+pub mod Handled
+pub mod Held
 pub mod Histories
 pub mod Kept
 pub mod Taken

@@ -16,8 +16,9 @@ use Rattle.fdp_base.specs.Pattern.{payload_block}
 use Rattle.fdp_history.proofs.Placing.{going_with-is}
 use Rattle.fdp_history.specs.OrderlyState.{IsOrderlyState}
 use Rattle.fdp_history.specs.Standing.{IsStanding}
-use Rattle.fdp_locations.specs.Located.{AreAlike, AreLed, AreNamed, next_in}
+use Rattle.fdp_locations.specs.Located.{AreAlike, AreLed, AreNamed, handle_at, next_in}
 use Rattle.fdp_locations.specs.Written.{IsWritten, Written, next_page, next_spare, page_of_ticket, with_written, written_after}
+use Rattle.fdp_locations.proofs.Handled.{handled-pointed, handled-renamed}
 use Rattle.fdp_owners.specs.declared.owner.Owner.{Owner}
 use Rattle.fdp_owners.specs.Owned.{AreOwners, page_of, with_pointer}
 use Rattle.fdp_owners.specs.OwnerTable.{owner_at, pointer_of, with_owner}
@@ -199,6 +200,11 @@ led-placed c p ticket index spot written at t now w x orderly standing placed ne
           (subst (λ (a : Behind Page). AreOwners (with_owner (owner_at t.owners) spot (Some x)) a) (λ d r. pointed-is at queue g.placed y r d)
           (subst (λ (r : Pointer). AreOwners (with_owner (owner_at t.owners) spot (Some x)) (with_pointer at r (Some y))) new.points put));
       named = named-placed c p ticket index spot.unit spot.page at y w orderly placed new.write new.spare h.named;
+      handled =
+          let own : handle_at q.state (of_flight queue g.placed) ≡ Some y.spare.ruh =
+          ap (option_map (λ (k : Going). k.ruh)) (going-placed c p ticket index spot.unit spot.page orderly placed queue ∙ ap (λ (b : Bool). if b then Some (one_more_placed g) else p.state.going queue) (eq-eqb queue queue refl))
+          ∙ ap (λ (s : DataSpare). Some s.ruh) (sym new.spare) in
+          handled-pointed q.state at queue g.placed y own (handled-renamed c p e at h.handled);
       holds =
           let more : content_at c q.state ≡ pointed (content_at c p.state) queue g.placed (page_of_write c g index) = contents-placed c p ticket index spot.unit spot.page orderly placed ∙ ap (λ (n : ℕ). pointed (content_at c p.state) queue n (page_of_write c g index)) placed.next in
           let kept : Carries (IsWritten (with_written written spot content)) (content_at c p.state) at =

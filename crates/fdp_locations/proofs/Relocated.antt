@@ -11,6 +11,7 @@ use Rattle.fdp_base.specs.declared.entry.Spot.{Spot}
 use Rattle.fdp_history.specs.Orderly.{IsOrderly}
 use Rattle.fdp_locations.specs.Located.{AreAlike, AreLed, AreNamed, IsAlike, next_in}
 use Rattle.fdp_locations.specs.Written.{IsWritten, Written, with_written, without_unit, written_after}
+use Rattle.fdp_locations.proofs.Handled.{handled-moved, handled-renamed}
 use Rattle.fdp_locations.proofs.Kept.{holds-same, led-still, named-kept}
 use Rattle.fdp_locations.proofs.Placed.{alike-written, written-below, written-kept, written-same}
 use Rattle.fdp_owners.specs.declared.owner.Owner.{Owner}
@@ -78,6 +79,7 @@ led-copied told c p copy written at t now page orderly follows new holds passes 
       table = table-raised c q (with_next pages copy.to) (next_in now.units) at (λ unit. omega (arith, new.next unit)) (table-copied told c p copy.from copy.to pages at orderly.state follows new.fresh h.table);
       owned = subst (λ (o : Spot → Option Owner). AreOwners o at) (sym new.owners) h.owned;
       named = named-same p.state q.state at (copied-going c p copy) h.named;
+      handled = handled-renamed c p (entries.Copied copy) at h.handled;
       holds = subst (λ (k : Behind PageContent). Carries (IsWritten (with_written written copy.to x)) k at) (sym (contents-renamed told c p (entries.Copied copy) orderly.state follows refl))
           (carries-kept (IsWritten written) (IsWritten (with_written written copy.to x)) (content_at c p.state) at
           (λ r z k there is says. written-kept pages written copy.to z.spot x new.fresh (h.table.below r z there) ∙ says) h.holds);
@@ -116,6 +118,7 @@ led-moved told c p rg blocks written at t now orderly follows owned next_is hold
           let was = moved-from f (at (of_flight queue index)) y there in
           let names = h.named queue index g w was.0 (sym (ap (λ (k : ℕ → Option Going). k queue) (moved-going c p rg blocks)) ∙ going) write was.1 in
           (ap (λ (z : Page). z.spare.nsid) was.2 ∙ names.0, ap (λ (z : Page). z.spare.lba) was.2 ∙ names.1);
+      handled = handled-moved q.state f at (handled-renamed c p e at h.handled);
       holds = subst (λ (k : Behind PageContent). Carries (IsWritten written) k (moved (put_at f) at)) (sym (contents-renamed told c p e orderly.state follows refl))
           (carries-moved (IsWritten written) f (content_at c p.state) at (λ r y x there content says. holds r y there ∙ says) h.holds);
       below = λ z k is. let low : z.page < next_in t.units z.unit = h.below z k is in omega (arith, low, next_is z.unit);
@@ -160,6 +163,7 @@ led-erased told c p unit written at t now orderly follows free owners next_is pa
       table = table-raised c q (with_erased pages unit) (next_in now.units) at (λ k. omega (arith, next_is k)) (table-erased told c p unit pages at orderly follows free h.table);
       owned = subst (λ (o : Spot → Option Owner). AreOwners o at) (sym owners) h.owned;
       named = named-same p.state q.state at (erased-going c p unit) h.named;
+      handled = handled-renamed c p e at h.handled;
       holds = subst (λ (k : Behind PageContent). Carries (IsWritten (without_unit written unit)) k at) (sym (contents-renamed told c p e orderly.state follows refl))
           (carries-kept (IsWritten written) (IsWritten (without_unit written unit)) (content_at c p.state) at
           (λ r z k there is says. without-other written unit z.spot (free r z there) ∙ says) h.holds);
@@ -237,6 +241,7 @@ led-skipped c p written at t now left passes h = record {
   table = table-raised c p (next_in t.units) (next_in now.units) at left.next h.table;
   owned = subst (λ (o : Spot → Option Owner). AreOwners o at) (sym left.owners) h.owned;
   named = h.named;
+  handled = h.handled;
   holds = h.holds;
   below = λ z k is. let low : z.page < next_in t.units z.unit = h.below z k is in omega (arith, low, left.next z.unit);
   passes = passes;

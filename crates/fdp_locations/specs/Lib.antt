@@ -1,4 +1,5 @@
 pub mod Written
+pub mod Held
 pub mod Located
 pub mod Stored
 pub mod Taken

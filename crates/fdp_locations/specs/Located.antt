@@ -13,8 +13,8 @@ use Rattle.fdp_owners.specs.OwnerTable.{owner_at}
 use Rattle.fdp_pages.specs.PageTables.{PageTables, copies_at, passes_at}
 use Rattle.fdp_pointers.specs.Contents.{content_at}
 use Rattle.fdp_pointers.specs.Facts.{Carries, IsTableOf, Page}
-use Rattle.fdp_pointers.specs.Pointers.{Behind, Pointer, Pointer.of_flight}
-use Rattle.fdp_rules.specs.PlainState.{Going, PlainState}
+use Rattle.fdp_pointers.specs.Pointers.{Behind, Pointer, Pointer.of_block, Pointer.of_flight}
+use Rattle.fdp_rules.specs.PlainState.{Block, Going, PlainState}
 use Rattle.fdp_rules.specs.Point.{Point}
 use Rattle.fdp_trails.specs.Followed.{IsPassOf}
 use Rattle.fdp_units.specs.UnitTable.{Agrees, UnitTable, cut_of, unit_at}
@@ -26,6 +26,15 @@ next_in t unit = (unit_at t unit).next
 -- the spare of a page of a going write names the block of the write that it holds
 abbrev pub AreNamed : PlainState → Behind Page → Type 0
 AreNamed s at = (queue index : ℕ) (g : Going) (w : Write) (y : Page) → s.going queue ≡ Some g → write_of g.command ≡ Some w → at (of_flight queue index) ≡ Some y → (y.spare.nsid ≡ w.nsid) × (y.spare.lba ≡ w.slba + index)
+
+-- the handle by which a page was placed: that of its block, or of its write
+abbrev pub handle_at : PlainState → Behind ℕ
+handle_at s (of_block nsid lba) = option_map (λ (b : Block). b.ruh) (s.blocks nsid lba)
+handle_at s (of_flight queue index) = option_map (λ (g : Going). g.ruh) (s.going queue)
+
+-- the spare of each page that a pointer leads to names the handle by which the page was placed
+abbrev pub AreHandled : PlainState → Behind Page → Type 0
+AreHandled s at = (p : Pointer) (y : Page) (ruh : ℕ) → at p ≡ Some y → handle_at s p ≡ Some ruh → y.spare.ruh ≡ ruh
 
 -- the handles and the units are those of a state
 pub record AreUnitsOf (c : DriveConfig) (s : PlainState) (t : PageTables) : Type 0 where
@@ -45,12 +54,13 @@ pub record IsAlike (written : Spot → Option Written) (copy : Copied) : Type 0 
 abbrev pub AreAlike : (Spot → Option Written) → List Copied → Type 0
 AreAlike written copies = (copy : Copied) → Contains copies copy → IsAlike written copy
 
--- Where the pointers lead: to the sites of their pages, each to a page that it owns and that holds its content; a pass has copied
--- what the history tells.
+-- Where the pointers lead: to the sites of their pages, each to a page that it owns, that holds its content and that names its handle; a
+-- pass has copied what the history tells.
 pub record AreLed (c : DriveConfig) (p : Point) (written : Spot → Option Written) (at : Behind Page) (t : PageTables) : Type 0 where
   pub table : IsTableOf c p (next_in t.units) at
   pub owned : AreOwners (owner_at t.owners) at
   pub named : AreNamed p.state at
+  pub handled : AreHandled p.state at
   pub holds : Carries (IsWritten written) (content_at c p.state) at
   pub below : (spot : Spot) (x : Written) → written spot ≡ Some x → spot.page < next_in t.units spot.unit
   pub passes : (rg : ℕ) → rg < c.groups → IsPassOf at p.trail rg (passes_at t rg)

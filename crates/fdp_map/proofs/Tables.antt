@@ -6,7 +6,7 @@ use Rattle.std.proofs.Math.ListN.{length-set}
 use Rattle.std.proofs.lemmas.Bool.{cases_eq, cases_lt}
 use Rattle.std.proofs.lemmas.Bool.Decides.{nat_tests}
 use Rattle.std.proofs.lemmas.Grind.{common_steps}
-use Rattle.std.proofs.lemmas.List.{get_or_default, get_or_past}
+use Rattle.std.proofs.lemmas.List.{get_or_past}
 use Rattle.std.proofs.lemmas.Option.{gets, slice_get_past}
 use Rattle.fdp_base.specs.Numbers.{with_at}
 use Rattle.fdp_map.specs.declared.mapped.Mapped.{Mapped}
@@ -14,11 +14,11 @@ use Rattle.fdp_map.specs.MapTable.{MapTable, block_in, mapped_at, row, size_in, 
 
 -- a block, or none, at a place of a row
 abbrev pub put_in : MapTable → ℕ → ℕ → Option Mapped → MapTable
-put_in m nsid lba x = record { rows = set m.rows nsid (set (row m nsid) lba x) }
+put_in m nsid lba x = record m { rows = set m.rows nsid (set (row m nsid) lba x) }
 
 -- another row
 abbrev pub with_row : MapTable → ℕ → List (Option Mapped) → MapTable
-with_row m nsid r = record { rows = set m.rows nsid r }
+with_row m nsid r = record m { rows = set m.rows nsid r }
 
 -- a word of what a table has at a place
 with_at_read : {X Y : Type 0} (f : X → Y) (table : ℕ → X) (place : ℕ) (value : X) (i : ℕ) → f (with_at table place value i) ≡ with_at (λ k. f (table k)) place (f value) i
@@ -90,11 +90,3 @@ pub vacant_blocks : (size lba : ℕ) → block_in (replicate size None) lba ≡ 
 vacant_blocks zero lba = refl
 vacant_blocks (suc size) zero = refl
 vacant_blocks (suc size) (suc lba) = vacant_blocks size lba
-
--- the row that was opened to put a block
-pub opened : (m k : MapTable) (nsid lba : ℕ) (places : List (Option Mapped)) → m ≡ k → lba < size_in k nsid → places ≡ get_or m.rows nsid places → (lba < size_in m nsid) × (nsid < length m.rows) × (places ≡ row m nsid)
-opened m k nsid lba places same within is =
-    let size : size_in m nsid ≡ size_in k nsid = ap (λ (x : MapTable). size_in x nsid) same in
-    let inside : lba < size_in m nsid = omega (arith, within, size) in
-    let there : nsid < length m.rows = row_there m nsid lba inside in
-    (inside, there, is ∙ get_or_default m.rows nsid places [] there)

@@ -1,12 +1,12 @@
 -- Places without blocks, made or taken away: no group stores more or less.
 use Rattle.std.proofs.Common.{◌≡◌, ◌≢◌, ℕ, zero, suc, ◌<◌, ◌≤◌, Bool, List, [], length, replicate, get_or, Option, None, refl, ap, sym, ◌∙◌, subst, arith, cond, eq-eqb, ne_eqb, ⊎_elim}
-use Rattle.std.specs.Prelude.{if◌then◌else◌, slice_index}
+use Rattle.std.specs.Prelude.{IfSome, if◌then◌else◌, slice_index}
 use Rattle.std.proofs.Math.ListN.{length-set}
 use Rattle.std.proofs.lemmas.Bool.{cases_eq}
+use Rattle.fdp_base.specs.declared.config.Geometry.{Geometry}
 use Rattle.fdp_base.specs.Numbers.{with_at}
 use Rattle.fdp_map.specs.declared.mapped.Mapped.{Mapped}
-use Rattle.fdp_map.specs.MapTable.{IsCounted, MapTable, block_in, is_mapped_in, mapped_at, row, size_in, stored_in}
-use Rattle.fdp_map.proofs.Counted.{IsKnown}
+use Rattle.fdp_map.specs.MapTable.{IsCounted, IsCut, IsPlaced, MapTable, block_in, is_mapped_in, mapped_at, row, size_in, stored_in}
 use Rattle.fdp_map.proofs.Stored.{holds, of_one, stored_is}
 use Rattle.fdp_base.proofs.Sums.{counting, sum_from, sum_from-same, sum_from-zero}
 use Rattle.fdp_map.proofs.Tables.{block_past, blocks_with, sizes_with, with_row}
@@ -50,6 +50,7 @@ counted_vacant m counts nsid r low there fits before now h =
     let sizes : (n : ℕ) → size_in (with_row m nsid r) n ≡ with_at (size_in m) nsid (length r) n = sizes_with m nsid r there in
     let other : (n : ℕ) → n ≢ nsid → size_in (with_row m nsid r) n ≡ size_in m n = λ n ne. sizes n ∙ ap (λ (t : Bool). if t then length r else size_in m n) (ne_eqb n nsid ne) in
     record {
+      cut = h.cut;
       rows = length-set m.rows nsid r ∙ h.rows;
       first = other 0 (λ e. omega (arith, e, low)) ∙ h.first;
       sizes = λ n.
@@ -59,7 +60,7 @@ counted_vacant m counts nsid r low there fits before now h =
           omega (arith, size, fits))
           (λ (ne : n ≢ nsid). omega (arith, other n ne, h.sizes n))
           (cases_eq n nsid);
-      groups = λ n lba. subst IsKnown (sym (blocks_vacant m nsid r there before now n lba)) (h.groups n lba);
+      places = λ n lba. subst (λ o. IfSome o (IsPlaced m.geometry)) (sym (blocks_vacant m nsid r there before now n lba)) (h.places n lba);
       length = h.length;
       stored = λ rg below. h.stored rg below ∙ sym (stored_vacant m nsid r rg there before now);
     }
@@ -73,23 +74,24 @@ empty_row zero i = refl
 empty_row (suc n) zero = refl
 empty_row (suc n) (suc i) = empty_row n i
 
-zeros : (n i : ℕ) → slice_index (replicate n 0) i ≡ 0
+pub zeros : (n i : ℕ) → slice_index (replicate n 0) i ≡ 0
 zeros zero i = refl
 zeros (suc n) zero = refl
 zeros (suc n) (suc i) = zeros n i
 
 -- nothing is stored where no namespace has a place
-pub counted_first : IsCounted (record { rows = replicate 17 [] }) (replicate 16 0)
-counted_first =
-    let m : MapTable = record { rows = replicate 17 [] } in
+pub counted_first : (g : Geometry) → IsCut g → IsCounted (record { geometry = g; rows = replicate 17 [] }) (replicate 16 0)
+counted_first g cut =
+    let m : MapTable = record { geometry = g; rows = replicate 17 [] } in
     let sizes : (n : ℕ) → size_in m n ≡ 0 = λ n. ap length (empty_row 17 n) in
     let none : (n lba : ℕ) → mapped_at m n lba ≡ None = λ n lba. ap (λ (r : List (Option Mapped)). block_in r lba) (empty_row 17 n) in
     let one : (rg n : ℕ) → of_one m (holds m rg) n ≡ 0 = λ rg n. of_one-vacant m rg n (none n) in
     record {
+      cut = cut;
       rows = refl;
       first = refl;
       sizes = λ n. omega (arith, sizes n);
-      groups = λ n lba. subst IsKnown (sym (none n lba)) tt;
+      places = λ n lba. subst (λ o. IfSome o (IsPlaced g)) (sym (none n lba)) tt;
       length = refl;
       stored = λ rg below. zeros 16 rg ∙ sym (stored_is m rg ∙ sum_from-zero (of_one m (holds m rg)) 1 16 (λ n _ _. one rg n));
     }

@@ -2,11 +2,12 @@
 #![tactic(auto)]
 
 mod counts;
+mod lists;
 mod map;
 mod mapped;
-mod places;
 #[cfg(test)]
 mod tests;
 
+pub use lists::PageList;
 pub use map::Map;
 pub use mapped::Mapped;

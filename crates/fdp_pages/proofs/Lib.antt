@@ -19,3 +19,4 @@ pub mod Advanced
 pub mod Fresh
 pub mod Held
 pub mod Lives
+pub mod Found

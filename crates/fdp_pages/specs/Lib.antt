@@ -2,3 +2,4 @@ pub mod PageTables
 pub mod Joined
 pub mod Steps
 pub mod Filling
+pub mod Finding

@@ -17,6 +17,7 @@ use fdp_units::Units;
 use std::alloc::{AllocError, Global};
 use std::marker::Model;
 
+mod finding;
 mod owning;
 mod placing;
 mod relocating;

@@ -139,3 +139,26 @@ fn handles_fill_units(rt: HostRuntime) -> Result<(), Fail> {
     assert!(rt; put(&mut pages, 1, 1, 7) == Some(Spot { unit: 4, page: 0 }));
     Ok(())
 }
+
+/// An opening finds a unit used: whether the data of a handle goes with its live pages.
+fn find(pages: &mut Pages, spot: Spot, ruh: u8) -> Option<bool> {
+    if spot.unit >= pages.units().count() || pages.handles().classes().len() <= usize::from(ruh) {
+        return None;
+    }
+    if pages.units().get(spot.unit).state.is_free() {
+        pages.find_used(spot.unit);
+    }
+    Some(pages.goes_with(spot.unit, ruh))
+}
+
+#[test]
+fn a_unit_is_found_used(rt: HostRuntime) -> Result<(), Fail> {
+    let mut pages = Pages::new(rt.alloc(), &[Class::Initial, Class::Persistent], SMALL)?;
+    let spot = Spot { unit: 0, page: 1 };
+    assert!(rt; find(&mut pages, spot, 1) == Some(true));
+    assert!(rt; unit(&pages, 0) == Some((UnitState::Closed, 2, 0)));
+    assert!(rt; put(&mut pages, 0, 0, 3) == Some(Spot { unit: 1, page: 0 }));
+    assert!(rt; find(&mut pages, Spot { unit: 1, page: 0 }, 0) == Some(true));
+    assert!(rt; find(&mut pages, Spot { unit: 1, page: 0 }, 1) == Some(false));
+    Ok(())
+}

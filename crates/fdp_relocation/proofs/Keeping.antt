@@ -18,6 +18,7 @@ use Rattle.fdp_rules.specs.Next.{next}
 use Rattle.fdp_rules.specs.PlainState.{Going, PlainState}
 use Rattle.fdp_rules.specs.Point.{Point}
 use Rattle.fdp_rules.specs.Sites.{is_there}
+use Rattle.fdp_book.proofs.Longer.{point-as}
 
 pub keeps-self : (s : PlainState) → KeepsState s s
 keeps-self s = record { enabled = refl; index = refl; generation = refl; reports = refl; namespaces = refl; blocks = refl; references = refl; going = refl; media = refl }
@@ -64,8 +65,7 @@ keeps-entries c found rg before (e ∷ es) inside =
 -- a book with these entries more
 pub keeps-longer : (old new : BookSeen) (rg : ℕ) (es : List Entry) → IsLonger old new es → AreRelocationIn old.config rg es → KeepsState (state_in old) (state_in new)
 keeps-longer old new rg es longer inside =
-    let is : point_of new.config new.found new.entries ≡ point_of old.config old.found (old.entries ++ es) =
-    ap (λ (c : DriveConfig). point_of c new.found new.entries) longer.config_is ∙ ap (λ (f : Found). point_of old.config f new.entries) longer.found_is ∙ ap (point_of old.config old.found) longer.entries_are in
+    let is : point_of new.config new.found new.entries ≡ point_of old.config old.found (old.entries ++ es) = point-as old new es longer in
     subst (λ (p : Point). KeepsState (state_in old) p.state) (sym is) (keeps-entries old.config old.found rg old.entries es inside)
 
 -- ---- writes that are going

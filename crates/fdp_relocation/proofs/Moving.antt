@@ -11,8 +11,7 @@ use Rattle.fdp_flash.specs.Cells.{IsBlankFrom}
 use Rattle.fdp_locations.specs.Stored.{HoldsWritten}
 use Rattle.fdp_locations.specs.Written.{Written, written_by}
 use Rattle.fdp_locations.proofs.Histories.{written_by-push}
-use Rattle.fdp_book.specs.Book.{BookSeen, point_in, written_in}
-use Rattle.fdp_book.specs.Configured.{no_pages}
+use Rattle.fdp_book.specs.Book.{BookSeen, point_in, written_in, first_in}
 use Rattle.fdp_book.specs.Relocating.{MovesPass}
 use Rattle.fdp_owners.specs.OwnerTable.{OwnerTable}
 use Rattle.fdp_pages.specs.Steps.{Recounts}
@@ -21,6 +20,7 @@ use Rattle.fdp_rules.specs.Sites.{moved_blocks}
 use Rattle.fdp_units.specs.declared.data_unit.DataUnit.{DataUnit}
 use Rattle.fdp_units.specs.DataUnits.{is_lost}
 use Rattle.fdp_units.specs.UnitTable.{Cut, IsUnit, UnitTable}
+use Rattle.fdp_book.proofs.Longer.{written-one}
 
 -- ---- what is held after a move
 
@@ -34,10 +34,6 @@ blank-recounted g cells t now o same blank unit there kept =
 pub held-moved : (g : Geometry) (cells : List Cell) (old new : BookSeen) (rg : ℕ) → MovesPass old new rg → HoldsWritten g cells (written_in old) old.pages.units → HoldsWritten g cells (written_in new) new.pages.units
 held-moved g cells old new rg moved holds =
     let e : Entry = entries.Moved (record { rg = rg; blocks = moved_blocks (point_in old) rg }) in
-    let written : written_in new ≡ written_in old =
-    ap (λ (c : DriveConfig). written_by c new.found no_pages new.entries) moved.longer.config_is
-    ∙ ap (λ (f : Found). written_by old.config f no_pages new.entries) moved.longer.found_is
-    ∙ ap (written_by old.config old.found no_pages) moved.longer.entries_are
-    ∙ written_by-push old.config old.found no_pages old.entries e in
+    let written : written_in new ≡ written_in old = written-one old new e moved.longer in
     subst (λ (w : Spot → Option Written). HoldsWritten g cells w new.pages.units) (sym written)
     (record { lie = holds.lie; whole = holds.whole; blank = blank-recounted g cells old.pages.units new.pages.units new.pages.owners moved.units holds.blank })

@@ -4,10 +4,11 @@ use Rattle.std.specs.Prelude.{◌==◌, ◌&&◌, IfSome, IsSome, is_some, optio
 use Rattle.std.proofs.lemmas.Bool.{and_right, cases_eq}
 use Rattle.std.proofs.lemmas.Bool.Decides.{nat_tests}
 use Rattle.std.proofs.lemmas.Grind.{common_steps}
+use Rattle.fdp_base.specs.declared.config.Geometry.{Geometry}
 use Rattle.fdp_base.specs.declared.entry.Spot.{Spot}
 use Rattle.fdp_base.specs.Numbers.{is_among, with_at}
 use Rattle.fdp_map.specs.declared.mapped.Mapped.{Mapped}
-use Rattle.fdp_map.specs.MapTable.{MapTable, mapped_at, size_in, with_mapped}
+use Rattle.fdp_map.specs.MapTable.{IsPageOf, MapTable, mapped_at, mapped_on, size_in, with_mapped}
 use Rattle.fdp_book.specs.Flown.{place_in, with_pages}
 use Rattle.fdp_book.specs.Taking.{CanTake, MayTake, cleared_of, with_taken}
 use Rattle.fdp_locations.specs.Taken.{taken_first}
@@ -40,38 +41,46 @@ and-false true = refl
 and-false false = refl
 
 -- at first none
-none-put : (table : ℕ → ℕ → Option Mapped) (nsid slba rg : ℕ) (pages : List Spot) (n lba : ℕ) → table n lba ≡ with_pages table nsid slba rg pages 0 n lba
-none-put table nsid slba rg pages n lba = sym (ap (λ (b : Bool). cond (n == nsid && b) (place_in rg pages (lba - slba)) (table n lba)) (among-none slba lba) ∙ ap (λ (b : Bool). cond b (place_in rg pages (lba - slba)) (table n lba)) (and-false (n == nsid)))
+none-put : (table : ℕ → ℕ → Option Mapped) (nsid slba : ℕ) (geometry : Geometry) (pages : List Spot) (n lba : ℕ) → table n lba ≡ with_pages table nsid slba geometry pages 0 n lba
+none-put table nsid slba geometry pages n lba = sym (ap (λ (b : Bool). cond (n == nsid && b) (place_in geometry pages (lba - slba)) (table n lba)) (among-none slba lba) ∙ ap (λ (b : Bool). cond b (place_in geometry pages (lba - slba)) (table n lba)) (and-false (n == nsid)))
 
 -- a block more
-put-more : (table : ℕ → ℕ → Option Mapped) (nsid slba : ℕ) (rg : ℕ) (pages : List Spot) (count : ℕ) (mapped : Mapped) → place_in rg pages count ≡ Some mapped → (n lba : ℕ) → with_mapped (with_pages table nsid slba rg pages count) nsid (slba + count) (Some mapped) n lba ≡ with_pages table nsid slba rg pages (count + 1) n lba
-put-more table nsid slba rg pages count mapped is n lba =
+put-more : (table : ℕ → ℕ → Option Mapped) (nsid slba : ℕ) (geometry : Geometry) (pages : List Spot) (count : ℕ) (mapped : Mapped) → place_in geometry pages count ≡ Some mapped → (n lba : ℕ) → with_mapped (with_pages table nsid slba geometry pages count) nsid (slba + count) (Some mapped) n lba ≡ with_pages table nsid slba geometry pages (count + 1) n lba
+put-more table nsid slba geometry pages count mapped is n lba =
     ⊎_elim
     (λ (same : n ≡ nsid). ⊎_elim
     (λ (here : lba ≡ slba + count).
     let index : lba - slba ≡ count = omega (arith, here) in
-    let left : with_mapped (with_pages table nsid slba rg pages count) nsid (slba + count) (Some mapped) n lba ≡ Some mapped = rw (eq-eqb n nsid same, eq-eqb lba (slba + count) here) refl in
+    let left : with_mapped (with_pages table nsid slba geometry pages count) nsid (slba + count) (Some mapped) n lba ≡ Some mapped = rw (eq-eqb n nsid same, eq-eqb lba (slba + count) here) refl in
     let among : is_among slba (count + 1) lba ≡ true = ap (is_among slba (count + 1)) here ∙ among-last slba count in
-    let right : with_pages table nsid slba rg pages (count + 1) n lba ≡ place_in rg pages (lba - slba) = ap (λ (b : Bool). cond (b && is_among slba (count + 1) lba) (place_in rg pages (lba - slba)) (table n lba)) (eq-eqb n nsid same) ∙ ap (λ (b : Bool). cond b (place_in rg pages (lba - slba)) (table n lba)) among in
-    left ∙ sym (right ∙ ap (place_in rg pages) index ∙ is))
+    let right : with_pages table nsid slba geometry pages (count + 1) n lba ≡ place_in geometry pages (lba - slba) = ap (λ (b : Bool). cond (b && is_among slba (count + 1) lba) (place_in geometry pages (lba - slba)) (table n lba)) (eq-eqb n nsid same) ∙ ap (λ (b : Bool). cond b (place_in geometry pages (lba - slba)) (table n lba)) among in
+    left ∙ sym (right ∙ ap (place_in geometry pages) index ∙ is))
     (λ (ne : lba ≢ slba + count).
-    let left : with_mapped (with_pages table nsid slba rg pages count) nsid (slba + count) (Some mapped) n lba ≡ with_pages table nsid slba rg pages count nsid lba = rw (eq-eqb n nsid same, ne_eqb lba (slba + count) ne) refl in
-    left ∙ ap (λ (k : ℕ). with_pages table nsid slba rg pages count k lba) (sym same) ∙ ap (λ (b : Bool). cond (n == nsid && b) (place_in rg pages (lba - slba)) (table n lba)) (sym (among-next slba count lba ne)))
+    let left : with_mapped (with_pages table nsid slba geometry pages count) nsid (slba + count) (Some mapped) n lba ≡ with_pages table nsid slba geometry pages count nsid lba = rw (eq-eqb n nsid same, ne_eqb lba (slba + count) ne) refl in
+    left ∙ ap (λ (k : ℕ). with_pages table nsid slba geometry pages count k lba) (sym same) ∙ ap (λ (b : Bool). cond (n == nsid && b) (place_in geometry pages (lba - slba)) (table n lba)) (sym (among-next slba count lba ne)))
     (cases_eq lba (slba + count)))
     (λ (ne : n ≢ nsid).
-    let left : with_mapped (with_pages table nsid slba rg pages count) nsid (slba + count) (Some mapped) n lba ≡ with_pages table nsid slba rg pages count n lba = ap (λ (b : Bool). cond b (with_at (with_pages table nsid slba rg pages count nsid) (slba + count) (Some mapped)) (with_pages table nsid slba rg pages count n) lba) (ne_eqb n nsid ne) in
-    let either : (k : ℕ) → with_pages table nsid slba rg pages k n lba ≡ table n lba = λ k. ap (λ (b : Bool). cond (b && is_among slba k lba) (place_in rg pages (lba - slba)) (table n lba)) (ne_eqb n nsid ne) in
+    let left : with_mapped (with_pages table nsid slba geometry pages count) nsid (slba + count) (Some mapped) n lba ≡ with_pages table nsid slba geometry pages count n lba = ap (λ (b : Bool). cond b (with_at (with_pages table nsid slba geometry pages count nsid) (slba + count) (Some mapped)) (with_pages table nsid slba geometry pages count n) lba) (ne_eqb n nsid ne) in
+    let either : (k : ℕ) → with_pages table nsid slba geometry pages k n lba ≡ table n lba = λ k. ap (λ (b : Bool). cond (b && is_among slba k lba) (place_in geometry pages (lba - slba)) (table n lba)) (ne_eqb n nsid ne) in
     left ∙ either count ∙ sym (either (count + 1)))
     (cases_eq n nsid)
 
 -- ---- with the owners of the pages
 
 -- the first blocks of a write have their places, and own them
-pub record IsPutTo (old now : MapTable) (t u : PageTables) (nsid slba rg : ℕ) (spots : List Spot) (count : ℕ) : Type 0 where
-  pub blocks : mapped_at now ≡ with_pages (mapped_at old) nsid slba rg spots count
+pub record IsPutTo (old now : MapTable) (t u : PageTables) (nsid slba : ℕ) (geometry : Geometry) (spots : List Spot) (count : ℕ) : Type 0 where
+  pub blocks : mapped_at now ≡ with_pages (mapped_at old) nsid slba geometry spots count
   pub sizes : size_in now ≡ size_in old
+  pub geometry_is : now.geometry ≡ old.geometry
   pub pages : ChangesOwners t u
   pub owners : (at : Behind Page) (queue : ℕ) → MayTake at old t queue nsid slba spots → AreOwners (owner_at u.owners) (renamed (taken_first queue nsid slba count) at)
+
+-- a page of one map is one of another of the same cut
+pub page-kept : (old now : MapTable) (spot : Spot) → now.geometry ≡ old.geometry → IsPageOf old.geometry spot → IsPageOf now.geometry spot
+page-kept old now spot same = subst (λ (g : Geometry). IsPageOf g spot) (sym same)
+
+pub put-cut : (old now : MapTable) (more : ℕ → ℕ → Option Mapped) (nsid lba : ℕ) (spot : Spot) → now.geometry ≡ old.geometry → more ≡ with_mapped (mapped_at now) nsid lba (Some (mapped_on now.geometry spot)) → more ≡ with_mapped (mapped_at now) nsid lba (Some (mapped_on old.geometry spot))
+put-cut old now more nsid lba spot same put = put ∙ ap (λ (g : Geometry). with_mapped (mapped_at now) nsid lba (Some (mapped_on g spot))) same
 
 pub changes-self : (t : PageTables) → AreJoined t → ChangesOwners t t
 changes-self t h = record {
@@ -94,18 +103,19 @@ changes-joined a b d one two = record {
   passes = two.passes ∙ one.passes;
 }
 
-pub put-first : (m : MapTable) (t : PageTables) (nsid slba rg : ℕ) (spots : List Spot) → AreJoined t → IsPutTo m m t t nsid slba rg spots 0
-put-first m t nsid slba rg spots joined = record {
-  blocks = λ d n lba. none-put (mapped_at m) nsid slba rg spots n lba d;
+pub put-first : (m : MapTable) (t : PageTables) (nsid slba : ℕ) (geometry : Geometry) (spots : List Spot) → AreJoined t → IsPutTo m m t t nsid slba geometry spots 0
+put-first m t nsid slba geometry spots joined = record {
+  blocks = λ d n lba. none-put (mapped_at m) nsid slba geometry spots n lba d;
   sizes = refl;
+  geometry_is = refl;
   pages = changes-self t joined;
   owners = λ at queue may. taken-none queue nsid slba (owner_at t.owners) at may.owned;
 }
 
 -- the next block has what it had
-next-unput : (table : ℕ → ℕ → Option Mapped) (nsid slba rg : ℕ) (spots : List Spot) (count : ℕ) → with_pages table nsid slba rg spots count nsid (slba + count) ≡ table nsid (slba + count)
-next-unput table nsid slba rg spots count =
-    ap (λ (b : Bool). cond b (place_in rg spots (slba + count - slba)) (table nsid (slba + count))) (and_right (nsid == nsid) (is_among slba count (slba + count)) (among-not slba count))
+next-unput : (table : ℕ → ℕ → Option Mapped) (nsid slba : ℕ) (geometry : Geometry) (spots : List Spot) (count : ℕ) → with_pages table nsid slba geometry spots count nsid (slba + count) ≡ table nsid (slba + count)
+next-unput table nsid slba geometry spots count =
+    ap (λ (b : Bool). cond b (place_in geometry spots (slba + count - slba)) (table nsid (slba + count))) (and_right (nsid == nsid) (is_among slba count (slba + count)) (among-not slba count))
 
 -- what the next block asks for
 pub record MayPutNext (now : MapTable) (u : PageTables) (nsid lba : ℕ) (spot : Spot) : Type 0 where
@@ -116,8 +126,8 @@ led-from : (a : Option Page) (m : Mapped) → option_map (λ (y : Page). y.spot)
 led-from None m e = absurd cc
 led-from (Some z) m e = (z, refl, cc)
 
-pub put-may : (old now : MapTable) (t u : PageTables) (nsid slba rg : ℕ) (spots : List Spot) (count : ℕ) (spot : Spot) → slice_get spots count ≡ Some spot → CanTake old t nsid slba spots → IsPutTo old now t u nsid slba rg spots count → MayPutNext now u nsid (slba + count) spot
-put-may old now t u nsid slba rg spots count spot page can h =
+pub put-may : (old now : MapTable) (t u : PageTables) (nsid slba : ℕ) (geometry : Geometry) (spots : List Spot) (count : ℕ) (spot : Spot) → slice_get spots count ≡ Some spot → CanTake old t nsid slba spots → IsPutTo old now t u nsid slba geometry spots count → MayPutNext now u nsid (slba + count) spot
+put-may old now t u nsid slba geometry spots count spot page can h =
     let at : Behind Page = can.at in
     let first : Behind Page = renamed (taken_first can.queue nsid slba count) at in
     let owned : AreOwners (owner_at u.owners) first = h.owners at can.queue can.may in
@@ -126,7 +136,7 @@ put-may old now t u nsid slba rg spots count spot page can h =
     let b : Pointer = of_block nsid (slba + count) in
     let there : first f ≡ Some its.page = flight-before can.queue nsid slba count at ∙ its.leads in
     let own = owned.owned f its.page there in
-    let mapped : mapped_at now nsid (slba + count) ≡ mapped_at old nsid (slba + count) = ap (λ (g : ℕ → ℕ → Option Mapped). g nsid (slba + count)) h.blocks ∙ next-unput (mapped_at old) nsid slba rg spots count in
+    let mapped : mapped_at now nsid (slba + count) ≡ mapped_at old nsid (slba + count) = ap (λ (g : ℕ → ℕ → Option Mapped). g nsid (slba + count)) h.blocks ∙ next-unput (mapped_at old) nsid slba geometry spots count in
     record {
       new = subst (λ (z : Spot). IsSome (owner_at u.owners z)) its.spot_is (ap (λ (x : Option Owner). is_some x) own.is_owner);
       old = subst (λ (o : Option Mapped). IfSome o (λ (m : Mapped). IsSome (owner_at u.owners m.spot) × (m.spot ≢ spot))) (sym mapped)
@@ -152,17 +162,18 @@ cleared-as owners (Some z) None e = absurd cc
 cleared-as owners (Some z) (Some m) e = let same : z.spot ≡ m.spot = cc in ap (λ (s : Spot). with_owner owners s None) (sym same)
 
 -- the next block is put at its place
-pub put-next : (old now next : MapTable) (t u v : PageTables) (nsid slba rg : ℕ) (spots : List Spot) (count : ℕ) (spot : Spot) → slice_get spots count ≡ Some spot →
-    mapped_at next ≡ with_mapped (mapped_at now) nsid (slba + count) (Some (record { spot = spot; rg = rg })) → size_in next ≡ size_in now →
+pub put-next : (old now next : MapTable) (t u v : PageTables) (nsid slba : ℕ) (geometry : Geometry) (spots : List Spot) (count : ℕ) (spot : Spot) → slice_get spots count ≡ Some spot →
+    mapped_at next ≡ with_mapped (mapped_at now) nsid (slba + count) (Some (mapped_on geometry spot)) → size_in next ≡ size_in now → next.geometry ≡ now.geometry →
     owner_at v.owners ≡ with_taken (owner_at u.owners) (mapped_at now nsid (slba + count)) spot → ChangesOwners u v →
-    IsPutTo old now t u nsid slba rg spots count → IsPutTo old next t v nsid slba rg spots (count + 1)
-put-next old now next t u v nsid slba rg spots count spot page blocks sizes owners changes h =
-    let mapped : Mapped = record { spot = spot; rg = rg } in
-    let is : place_in rg spots count ≡ Some mapped = ap (λ (o : Option Spot). option_map (λ (s : Spot). record { spot = s; rg = rg }) o) page in
-    let before : mapped_at now nsid (slba + count) ≡ mapped_at old nsid (slba + count) = ap (λ (g : ℕ → ℕ → Option Mapped). g nsid (slba + count)) h.blocks ∙ next-unput (mapped_at old) nsid slba rg spots count in
+    IsPutTo old now t u nsid slba geometry spots count → IsPutTo old next t v nsid slba geometry spots (count + 1)
+put-next old now next t u v nsid slba geometry spots count spot page blocks sizes same_geometry owners changes h =
+    let mapped : Mapped = mapped_on geometry spot in
+    let is : place_in geometry spots count ≡ Some mapped = ap (λ (o : Option Spot). option_map (mapped_on geometry) o) page in
+    let before : mapped_at now nsid (slba + count) ≡ mapped_at old nsid (slba + count) = ap (λ (g : ℕ → ℕ → Option Mapped). g nsid (slba + count)) h.blocks ∙ next-unput (mapped_at old) nsid slba geometry spots count in
     record {
-      blocks = blocks ∙ ap (λ (k : ℕ → ℕ → Option Mapped). with_mapped k nsid (slba + count) (Some mapped)) h.blocks ∙ (λ d n lba. put-more (mapped_at old) nsid slba rg spots count mapped is n lba d);
+      blocks = blocks ∙ ap (λ (k : ℕ → ℕ → Option Mapped). with_mapped k nsid (slba + count) (Some mapped)) h.blocks ∙ (λ d n lba. put-more (mapped_at old) nsid slba geometry spots count mapped is n lba d);
       sizes = sizes ∙ h.sizes;
+      geometry_is = same_geometry ∙ h.geometry_is;
       pages = changes-joined t u v h.pages changes;
       owners = λ at queue may.
           let its = may.pages count spot page in

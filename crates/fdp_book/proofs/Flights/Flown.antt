@@ -4,10 +4,9 @@ use Rattle.std.specs.Prelude.{IfSome, IsSome, IsTrue, if◌then◌else◌, is_so
 use Rattle.fdp_base.specs.CommandKinds.{write_of}
 use Rattle.fdp_rules.specs.PlainState.{Going, PlainState}
 use Rattle.fdp_rules.specs.Room.{size_of}
-use Rattle.fdp_book.specs.Configured.{no_pages}
 use Rattle.fdp_book.specs.declared.flight.Flight.{Flight}
 use Rattle.fdp_book.specs.declared.ticket.Ticket.{Ticket}
-use Rattle.fdp_book.specs.Book.{BookSeen, point_in, state_in}
+use Rattle.fdp_book.specs.Book.{BookSeen, point_in, state_in, first_in}
 use Rattle.fdp_book.specs.Steps.{IsFlying}
 use Rattle.fdp_base.specs.declared.config.DriveConfig.{DriveConfig}
 use Rattle.fdp_base.specs.declared.entry.Spot.{Spot}
@@ -48,7 +47,7 @@ named-site c p index g f x spot same is site =
     ap (λ (o : Option Spot). is_some o) (ap (λ (h : Going). p.trail.site (written h.ticket index)) (sym same) ∙ ap (λ (k : PageContent). p.trail.site k.name) is ∙ site)
 
 -- each page of a flight has a site
-page-sited : (b : BookSeen) (tables : Tables) (queue index : ℕ) (f : Flight) → IsHeld b.config b.found no_pages b.entries tables → flight_in tables.flights.items queue ≡ Some f → IsTrue (is_there (state_in b) (going_of f)) → index < length f.pages.items → IsSome ((point_in b).trail.site (written f.ticket index))
+page-sited : (b : BookSeen) (tables : Tables) (queue index : ℕ) (f : Flight) → IsHeld b.config b.found (first_in b) b.entries tables → flight_in tables.flights.items queue ≡ Some f → IsTrue (is_there (state_in b) (going_of f)) → index < length f.pages.items → IsSome ((point_in b).trail.site (written f.ticket index))
 page-sited b tables queue index f h is there below =
     let s : PlainState = state_in b in
     let found = slice_get_there f.pages.items index below in
@@ -61,7 +60,7 @@ page-sited b tables queue index f h is there below =
     named-site b.config (point_in b) index flight.0 f content.0 page.0.spot same flight.3 content.2
 
 -- the flight of a ticket is what it is said to be
-pub flight_at : (b : BookSeen) (tables : Tables) (ticket : Ticket) (f : Flight) → IsHeld b.config b.found no_pages b.entries tables → IsFlying b ticket → flight_in tables.flights.items ticket.queue ≡ Some f → IsFlightAt b ticket f
+pub flight_at : (b : BookSeen) (tables : Tables) (ticket : Ticket) (f : Flight) → IsHeld b.config b.found (first_in b) b.entries tables → IsFlying b ticket → flight_in tables.flights.items ticket.queue ≡ Some f → IsFlightAt b ticket f
 flight_at b tables ticket f h flying is =
     let s : PlainState = state_in b in
     let same : going_of f ≡ flying.going = flown-going s tables.flights.items ticket.queue f flying.going h.flights_are.going is flying.ticket_is.going_is in
@@ -78,7 +77,7 @@ flight_at b tables ticket f h flying is =
     }
 
 -- a queue with a write that is going has a place in the list
-pub queue-below : (b : BookSeen) (tables : Tables) (ticket : Ticket) → IsHeld b.config b.found no_pages b.entries tables → IsFlying b ticket → ticket.queue < length tables.flights.items
+pub queue-below : (b : BookSeen) (tables : Tables) (ticket : Ticket) → IsHeld b.config b.found (first_in b) b.entries tables → IsFlying b ticket → ticket.queue < length tables.flights.items
 queue-below b tables ticket h flying =
     let orderly = h.orderly.state.writes ticket.queue flying.going flying.ticket_is.going_is in
     omega (arith, h.flights_are.rows, orderly.queue_is.1)

@@ -4,12 +4,11 @@ use Rattle.std.specs.Prelude.{◌↔◌, ◌==◌, not, option_map}
 use Rattle.std.proofs.lemmas.Bool.{false≢true}
 use Rattle.fdp_base.specs.CommandKinds.{is_write}
 use Rattle.fdp_rules.specs.PlainState.{Going}
-use Rattle.fdp_book.specs.Configured.{no_pages}
 use Rattle.fdp_book.specs.declared.flight.Flight.{Flight}
 use Rattle.fdp_book.specs.declared.stage.Stage.{Stage}
 use Rattle.fdp_book.specs.declared.stage.Stage.TheVariants as stages
 use Rattle.fdp_book.specs.declared.ticket.Ticket.{Ticket}
-use Rattle.fdp_book.specs.Book.{BookSeen, state_in}
+use Rattle.fdp_book.specs.Book.{BookSeen, state_in, first_in}
 use Rattle.fdp_book.specs.Held.{IsHeld, flight_in, going_of}
 use Rattle.fdp_book.specs.Stages.{HasTicket, IsFlightStage, IsStage}
 use Rattle.fdp_book.specs.Stages.{IsFree}
@@ -22,7 +21,7 @@ flight_in-none [] queue past = refl
 flight_in-none (x ∷ xs) zero past = absurd (omega (arith, past))
 flight_in-none (x ∷ xs) (suc queue) past = flight_in-none xs queue (omega (arith, past))
 
-module _ (b : BookSeen) (tables : Tables) (held : IsHeld b.config b.found no_pages b.entries tables) where
+module _ (b : BookSeen) (tables : Tables) (held : IsHeld b.config b.found (first_in b) b.entries tables) where
   -- the write that is going where a flight is
   pub going-flown : (queue : ℕ) (f : Flight) → flight_in tables.flights.items queue ≡ Some f → (state_in b).going queue ≡ Some (going_of f)
   going-flown queue f is = held.flights_are.going queue ∙ ap (option_map going_of) is

@@ -31,6 +31,7 @@ use Rattle.fdp_book.specs.Held.{going_of}
 use Rattle.fdp_book.specs.Room.{RoomSeen}
 use Rattle.fdp_book.proofs.Held.Started.{IsLetGo, started-going}
 use Rattle.fdp_book.proofs.Flights.Starting.{IsDestination, position-is, started-follows}
+use Rattle.fdp_book.proofs.Longer.{point-one}
 
 -- where a flight goes
 abbrev destination_of : Flight → Destination
@@ -87,8 +88,7 @@ starts old new queue number command w f ticket h l is m longer ticket_is =
     let e : Entry = entries.Started (record { queue = queue; number = number; command = command; rg = f.rg; ruh = f.ruh; pid_valid = f.pid_valid }) in
     let length_is : length new.entries ≡ length old.entries + 1 = ap length longer.entries_are ∙ length-append old.entries (e ∷ []) in
     let count : position_in new ≡ position_in old + 1 = omega (arith, length_is, ap (λ (x : Found). x.totals.position) longer.found_is) in
-    let now : point_in new ≡ next old.config (point_in old) e =
-    ap (λ (c : DriveConfig). point_of c new.found new.entries) longer.config_is ∙ ap (λ (x : Found). point_of old.config x new.entries) longer.found_is ∙ ap (point_of old.config old.found) longer.entries_are ∙ point_of-push old.config old.found old.entries e in
+    let now : point_in new ≡ next old.config (point_in old) e = point-one old new e longer in
     record {
       target = target_at (destination_of f);
       target_is = ap (λ (k : Command). option_map (goes_to old.config (state_in old) (roomiest old.config (state_in old))) (write_of k)) is ∙ made-target old number w f m;

@@ -7,11 +7,13 @@ use Rattle.fdp_base.specs.declared.command.Command.{Command}
 use Rattle.fdp_base.specs.declared.command.Command.TheVariants as commands
 use Rattle.fdp_base.specs.declared.command.Write.{Write}
 use Rattle.fdp_base.specs.declared.config.DriveConfig.{DriveConfig}
+use Rattle.fdp_base.specs.declared.config.Geometry.{Geometry}
 use Rattle.fdp_base.specs.declared.entry.Entry.{Entry}
 use Rattle.fdp_base.specs.declared.entry.Spot.{Spot}
 use Rattle.fdp_base.specs.declared.status.TheConstants.Status as statuses
 use Rattle.fdp_base.specs.CommandKinds.{write_of}
 use Rattle.fdp_base.specs.Numbers.{is_among, with_at}
+use Rattle.fdp_base.specs.Placement.{geometry_of}
 use Rattle.fdp_base.proofs.Writes.{write-is}
 use Rattle.fdp_book.specs.declared.flight.Flight.{Flight}
 use Rattle.fdp_book.specs.declared.tables.Setting.{Setting}
@@ -19,7 +21,7 @@ use Rattle.fdp_book.specs.declared.tables.Sums.{Sums}
 use Rattle.fdp_book.specs.declared.tables.Tables.{Tables}
 use Rattle.fdp_book.specs.Flown.{place_in, with_pages}
 use Rattle.fdp_book.specs.Held.{AreSpacesOf, IsHeld, IsMapOf, IsSettingOf, flight_in, going_of, lead_in, page_in}
-use Rattle.fdp_book.specs.Taking.{MayTake}
+use Rattle.fdp_book.specs.Taking.{IsPageIn, MayTake}
 use Rattle.fdp_book.proofs.Committing.Points.{IsCommitted, blocks-count, blocks_with, committed}
 use Rattle.fdp_book.proofs.Flights.Rows.{flight_in-set}
 use Rattle.fdp_book.proofs.Held.Ended.{flights-less, passes-same}
@@ -30,25 +32,27 @@ use Rattle.fdp_book.proofs.Histories.Follows.{end-follows, write-succeeds}
 use Rattle.fdp_book.proofs.Kept.{setting-alike, spaces-alike}
 use Rattle.fdp_book.proofs.Leading.{live_of, page-led, pages-same}
 use Rattle.fdp_flash.proofs.Lists.{slice_get_there}
-use Rattle.fdp_locations.specs.Located.{AreLed, LeadsTo}
+use Rattle.fdp_locations.specs.Located.{AreLed, LeadsTo, next_in}
 use Rattle.fdp_locations.specs.Taken.{taken_first}
 use Rattle.fdp_locations.specs.Written.{Written, written_by}
 use Rattle.fdp_locations.proofs.Ended.{host, led-committed}
 use Rattle.fdp_locations.proofs.Taken.{taken-all}
 use Rattle.fdp_locations.proofs.Units.{owners-alike, owners-next, units-same}
 use Rattle.fdp_map.specs.declared.mapped.Mapped.{Mapped}
-use Rattle.fdp_map.specs.MapTable.{MapTable, mapped_at, size_in}
+use Rattle.fdp_map.specs.MapTable.{MapTable, mapped_at, mapped_on, size_in}
 use Rattle.fdp_owners.specs.Owned.{AreOwners}
 use Rattle.fdp_owners.specs.OwnerTable.{owner_at}
 use Rattle.fdp_pages.specs.PageTables.{passes_at}
 use Rattle.fdp_pages.specs.Steps.{ChangesOwners}
+use Rattle.fdp_pointers.specs.Contents.{PageContent}
 use Rattle.fdp_pointers.specs.Facts.{Page}
+use Rattle.fdp_pointers.proofs.Tables.{from-flight, site-at}
 use Rattle.fdp_pointers.specs.Pointers.{Behind, Pointer, Pointer.of_block, Pointer.of_flight, renamed, taken_by}
 use Rattle.fdp_rules.specs.Answer.{bare}
 use Rattle.fdp_rules.specs.Effect.{block_of_write}
 use Rattle.fdp_rules.specs.History.{Found, point_of}
 use Rattle.fdp_rules.specs.Next.{next}
-use Rattle.fdp_rules.specs.PlainState.{Block, Going, Namespace, PlainState}
+use Rattle.fdp_rules.specs.PlainState.{Block, Going, Namespace, PageName.written, PlainState}
 use Rattle.fdp_rules.specs.Point.{Point}
 use Rattle.fdp_rules.specs.Sites.{is_there}
 use Rattle.fdp_rules.specs.Step.{Follows, MaySucceed}
@@ -62,12 +66,19 @@ among-within slba count lba e =
     let parts = and_parts (nat_le slba lba) (nat_lt lba (slba + count)) e in
     omega (arith, leb-true slba lba parts.0, ltb-true lba (slba + count) parts.1)
 
-group-placed : (rg : ℕ) (spots : List Spot) (index : ℕ) → index < length spots → option_map (λ (m : Mapped). m.rg) (place_in rg spots index) ≡ Some rg
-group-placed rg spots index within = let found = slice_get_there spots index within in ap (λ (o : Option Spot). option_map (λ (m : Mapped). m.rg) (option_map (λ (s : Spot). record { spot = s; rg = rg }) o)) found.1
+-- these pages lie in a group
+abbrev pub LieIn : Geometry → ℕ → List Spot → Type 0
+LieIn g rg spots = (index : ℕ) (spot : Spot) → slice_get spots index ≡ Some spot → IsPageIn g rg spot
+
+group-placed : (g : Geometry) (rg : ℕ) (spots : List Spot) (index : ℕ) → index < length spots → LieIn g rg spots → option_map (λ (m : Mapped). m.rg) (place_in g spots index) ≡ Some rg
+group-placed g rg spots index within lie =
+    let found = slice_get_there spots index within in
+    ap (λ (o : Option Spot). option_map (λ (m : Mapped). m.rg) (option_map (mapped_on g) o)) found.1 ∙ ap Some (lie index found.0 found.1).group
 
 map-committed : (c : DriveConfig) (s n : PlainState) (map new : MapTable) (queue : ℕ) (f : Flight) (w : Write) → n.namespaces ≡ s.namespaces → n.blocks ≡ blocks_with c s queue w → s.going queue ≡ Some (going_of f) → length f.pages.items ≡ w.count →
-    mapped_at new ≡ with_pages (mapped_at map) w.nsid w.slba f.rg f.pages.items w.count → size_in new ≡ size_in map → IsMapOf s map → IsMapOf n new
-map-committed c s n map new queue f w same blocks going count put sizes h = record {
+    mapped_at new ≡ with_pages (mapped_at map) w.nsid w.slba map.geometry f.pages.items w.count → size_in new ≡ size_in map → new.geometry ≡ map.geometry → LieIn (geometry_of c) f.rg f.pages.items → IsMapOf c s map → IsMapOf c n new
+map-committed c s n map new queue f w same blocks going count put sizes cut lie h = record {
+  geometry = cut ∙ h.geometry;
   sizes = λ nsid. ap (λ (g : ℕ → Option Namespace). option_map_or (λ x. x.size) (g nsid) 0) same ∙ h.sizes nsid ∙ sym (ap (λ (g : ℕ → ℕ). g nsid) sizes);
   most = λ nsid. let size : size_in new nsid ≡ size_in map nsid = ap (λ (g : ℕ → ℕ). g nsid) sizes in omega (arith, size, h.most nsid);
   groups = λ nsid lba.
@@ -76,18 +87,18 @@ map-committed c s n map new queue f w same blocks going count put sizes h = reco
       ∙ sym (ap (λ (g : ℕ → ℕ → Option Mapped). option_map (λ (m : Mapped). m.rg) (g nsid lba)) put);
 }
   where
-    chosen : (nsid lba : ℕ) (b : Bool) → (nsid == w.nsid && is_among w.slba w.count lba) ≡ b → option_map (λ (x : Block). x.rg) (cond b (option_map (block_of_write c w.slba w.payload lba) (s.going queue)) (s.blocks nsid lba)) ≡ option_map (λ (m : Mapped). m.rg) (cond b (place_in f.rg f.pages.items (lba - w.slba)) (mapped_at map nsid lba))
+    chosen : (nsid lba : ℕ) (b : Bool) → (nsid == w.nsid && is_among w.slba w.count lba) ≡ b → option_map (λ (x : Block). x.rg) (cond b (option_map (block_of_write c w.slba w.payload lba) (s.going queue)) (s.blocks nsid lba)) ≡ option_map (λ (m : Mapped). m.rg) (cond b (place_in map.geometry f.pages.items (lba - w.slba)) (mapped_at map nsid lba))
     chosen nsid lba true among =
         let within = among-within w.slba w.count lba (and_parts (nsid == w.nsid) (is_among w.slba w.count lba) among).1 in
-        ap (λ (o : Option Going). option_map (λ (x : Block). x.rg) (option_map (block_of_write c w.slba w.payload lba) o)) going ∙ sym (group-placed f.rg f.pages.items (lba - w.slba) (omega (arith, within, count)))
+        ap (λ (o : Option Going). option_map (λ (x : Block). x.rg) (option_map (block_of_write c w.slba w.payload lba) o)) going ∙ sym (group-placed map.geometry f.rg f.pages.items (lba - w.slba) (omega (arith, within, count)) (subst (λ (g : Geometry). LieIn g f.rg f.pages.items) (sym h.geometry) lie))
     chosen nsid lba false among = h.groups nsid lba
 
 -- ---- where the pointers lead
 
-spot-placed : (rg : ℕ) (spots : List Spot) (index : ℕ) → option_map (λ (m : Mapped). m.spot) (place_in rg spots index) ≡ slice_get spots index
-spot-placed rg spots index = each (slice_get spots index)
+spot-placed : (g : Geometry) (spots : List Spot) (index : ℕ) → option_map (λ (m : Mapped). m.spot) (place_in g spots index) ≡ slice_get spots index
+spot-placed g spots index = each (slice_get spots index)
   where
-    each : (o : Option Spot) → option_map (λ (m : Mapped). m.spot) (option_map (λ (s : Spot). record { spot = s; rg = rg }) o) ≡ o
+    each : (o : Option Spot) → option_map (λ (m : Mapped). m.spot) (option_map (mapped_on g) o) ≡ o
     each None = refl
     each (Some s) = refl
 
@@ -96,12 +107,12 @@ flight-page s map flights queue index f at is there h =
     h (of_flight queue index) ∙ ap (option_and_then (page_in s index)) is ∙ ap (λ (b : Bool). if b then slice_get f.pages.items index else None) there
 
 leads-committed : (s n : PlainState) (map new : MapTable) (flights left : List (Option Flight)) (queue : ℕ) (f : Flight) (w : Write) (at : Behind Page) → n.namespaces ≡ s.namespaces → queue < length flights → flight_in flights queue ≡ Some f → IsTrue (is_there s (going_of f)) → left ≡ slice_set flights queue None →
-    mapped_at new ≡ with_pages (mapped_at map) w.nsid w.slba f.rg f.pages.items w.count → LeadsTo (lead_in s map flights) at → LeadsTo (lead_in n new left) (renamed (taken_by queue w.nsid w.slba w.count) at)
+    mapped_at new ≡ with_pages (mapped_at map) w.nsid w.slba map.geometry f.pages.items w.count → LeadsTo (lead_in s map flights) at → LeadsTo (lead_in n new left) (renamed (taken_by queue w.nsid w.slba w.count) at)
 leads-committed s n map new flights left queue f w at same row is there left_is put h (of_block nsid lba) =
     chosen (nsid == w.nsid && is_among w.slba w.count lba) ∙ sym (ap (λ (g : ℕ → ℕ → Option Mapped). option_map (λ (m : Mapped). m.spot) (g nsid lba)) put)
   where
-    chosen : (b : Bool) → option_map (λ (y : Page). y.spot) (option_and_then at (if b then Some (of_flight queue (lba - w.slba)) else Some (of_block nsid lba))) ≡ option_map (λ (m : Mapped). m.spot) (cond b (place_in f.rg f.pages.items (lba - w.slba)) (mapped_at map nsid lba))
-    chosen true = flight-page s map flights queue (lba - w.slba) f at is there h ∙ sym (spot-placed f.rg f.pages.items (lba - w.slba))
+    chosen : (b : Bool) → option_map (λ (y : Page). y.spot) (option_and_then at (if b then Some (of_flight queue (lba - w.slba)) else Some (of_block nsid lba))) ≡ option_map (λ (m : Mapped). m.spot) (cond b (place_in map.geometry f.pages.items (lba - w.slba)) (mapped_at map nsid lba))
+    chosen true = flight-page s map flights queue (lba - w.slba) f at is there h ∙ sym (spot-placed map.geometry f.pages.items (lba - w.slba))
     chosen false = h (of_block nsid lba)
 leads-committed s n map new flights left queue f w at same row is there left_is put h (of_flight q i) =
     let stands : flight_in left q ≡ with_at (flight_in flights) queue None q = ap (λ (fs : List (Option Flight)). flight_in fs q) left_is ∙ flight_in-set flights queue None row q in
@@ -141,13 +152,29 @@ no-page : (o : Option Page) → option_map (λ (y : Page). y.spot) o ≡ None �
 no-page None e = refl
 no-page (Some y) e = absurd cc
 
+-- ---- they lie in the group of the write
+
+pub flight-lies : (c : DriveConfig) (found : Found) (first : Spot → Option Written) (es : List Entry) (t : Tables) (queue : ℕ) (f : Flight) → IsHeld c found first es t → flight_in t.flights.items queue ≡ Some f → IsTrue (is_there (point_of c found es).state (going_of f)) → LieIn (geometry_of c) f.rg f.pages.items
+flight-lies c found first es t queue f h is there index spot e =
+    let p : Point = point_of c found es in
+    let page = page-led p.state t.map t.flights.items h.pages_are.at queue index spot h.pages_are.leads (ap (λ (xs : List Spot). slice_get xs index) (live-there p.state (flight_in t.flights.items queue) f is there) ∙ e) in
+    let content = site-at c p (next_in t.pages.units) h.pages_are.at h.pages_are.led.table (of_flight queue index) page.0 page.1 in
+    let going : p.state.going queue ≡ Some (going_of f) = h.flights_are.going queue ∙ ap (option_map going_of) is in
+    let write = from-flight c p.state index (p.state.going queue) content.0 content.1 in
+    let both : Some write.0 ≡ Some (going_of f) = sym write.1 ∙ going in
+    let same : write.0 ≡ going_of f = cc in
+    let site : p.trail.site (written f.ticket index) ≡ Some spot = ap (λ (g : Going). p.trail.site (written g.ticket index)) (sym same) ∙ ap (λ (x : PageContent). p.trail.site x.name) write.3 ∙ content.2 ∙ ap Some page.2 in
+    let lies = (h.orderly.sites f.ticket index spot site).page in
+    record { page = record { unit = lies.0; page = lies.1 }; group = h.standing.writes queue index (going_of f) spot going site }
+
 -- ---- the tables
 
 -- the tables after the blocks of a flight took its pages
 pub record TakesPages (t now : Tables) (queue : ℕ) (f : Flight) (w : Write) : Type 0 where
   pub sums : now.sums ≡ record t.sums { host_blocks = t.sums.host_blocks + w.count }
-  pub put : mapped_at now.map ≡ with_pages (mapped_at t.map) w.nsid w.slba f.rg f.pages.items w.count
+  pub put : mapped_at now.map ≡ with_pages (mapped_at t.map) w.nsid w.slba t.map.geometry f.pages.items w.count
   pub sizes : size_in now.map ≡ size_in t.map
+  pub geometry : now.map.geometry ≡ t.map.geometry
   pub flights_are : now.flights.items ≡ slice_set t.flights.items queue None
   pub owners : (at : Behind Page) (k : ℕ) → MayTake at t.map t.pages k w.nsid w.slba f.pages.items → AreOwners (owner_at now.pages.owners) (renamed (taken_first k w.nsid w.slba w.count) at)
   pub pages : ChangesOwners t.pages now.pages
@@ -186,7 +213,7 @@ held-committed c found first es t now queue moment f w h is may write takes =
     (record {
       setting_is = subst (λ (x : Setting). IsSettingOf q.state x) (sym takes.setting) (setting-alike p.state q.state t.setting done.alike h.setting_is);
       spaces_are = subst (λ (x : SpaceTable). AreSpacesOf c q.state x) (sym takes.spaces) (spaces-alike c p.state q.state t.spaces done.alike h.spaces_are);
-      map_is = map-committed c p.state q.state t.map now.map queue f w done.alike.namespaces done.blocks going count takes.put takes.sizes h.map_is;
+      map_is = map-committed c p.state q.state t.map now.map queue f w done.alike.namespaces done.blocks going count takes.put takes.sizes takes.geometry (flight-lies c found first es t queue f h is may.there) h.map_is;
       flights_are = flights-less c p.state q.state t.flights.items now.flights.items queue there done.alike done.going takes.flights_are h.flights_are;
       units_are = units-same c p.state q.state t.pages now.pages done.units (owners-alike t.pages now.pages takes.pages) takes.pages.handles h.units_are;
     })

@@ -16,6 +16,8 @@ use Rattle.fdp_book.specs.Forgetting.{Forgets}
 use Rattle.fdp_book.specs.Held.{AreFlightsOf, AreSpacesOf, AreSumsOf, IsHeld, IsMapOf, IsSettingOf, flight_in, going_of, lead_in}
 use Rattle.fdp_book.proofs.Flights.Rows.{flown-set, going-set}
 use Rattle.fdp_book.proofs.Held.Next.{held-after}
+use Rattle.fdp_history.specs.Listed.{IsListed}
+use Rattle.fdp_history.proofs.Listing.{unmade-listed}
 use Rattle.fdp_book.proofs.Held.Started.{copies-same}
 use Rattle.fdp_book.proofs.Held.Sums.{are_sums-push}
 use Rattle.fdp_book.proofs.Held.Unmade.{led-unmade, named-ended, named-same}
@@ -106,6 +108,11 @@ flights-less c s n flights new queue there a going is h =
 pub passes-same : (t now : PageTables) → now.passes ≡ t.passes → (rg : ℕ) → (passes_at now rg).pass ≡ (passes_at t rg).pass
 passes-same t now same rg = ap (λ (ps : List GroupPasses). (passes_at (record t { passes = ps }) rg).pass) same
 
+-- the end of a command whose change is not made keeps the lists
+listed-ended : (c : DriveConfig) (p : Point) (queue number : ℕ) (command : Command) (reply : Reply) (moment : ℕ) → IsListed c p.state → IsFalse reply.applied → IsListed c (next c p (host queue number command reply moment)).state
+unfolding next
+listed-ended c p queue number command reply moment h unmade = unmade-listed c p.state (host queue number command reply moment) unmade h
+
 -- the end of a write: none is going in its queue any more
 pub held-ended : (c : DriveConfig) (found : Found) (first : Spot → Option Written) (es : List Entry) (t now : Tables) (queue number : ℕ) (command : Command) (reply : Reply) (moment : ℕ) (old : Option Flight) →
     IsHeld c found first es t → IsQueue c queue → IsTrue (is_write command) → IsFalse reply.applied → Forgets t now queue old →
@@ -122,11 +129,11 @@ held-ended c found first es t now queue number command reply moment old h queue_
     let owners : owner_at now.pages.owners ≡ without (owner_at t.pages.owners) (live_of p.state (flight_in t.flights.items queue)) =
     forgets.owners ∙ ap (without (owner_at t.pages.owners)) (live-known p.state t.spaces (flight_in t.flights.items queue) h.spaces_are.namespaces) in
     let is : ended_by p.state queue reply.applied command ≡ r = ends-as p.state queue reply.applied command unmade ∙ ap (λ (b : Bool). if b then r else Some) write in
-    held-after c found first es e t now h (orderly-ended c p queue number command reply moment h.orderly unmade) (standing-ended c p queue number command reply moment h.orderly h.standing unmade)
+    held-after c found first es e t now h (orderly-ended c p queue number command reply moment h.orderly unmade) (standing-ended c p queue number command reply moment h.orderly h.standing unmade) (listed-ended c p queue number command reply moment h.listed unmade)
     (record {
       setting_is = subst (λ (x : Tables). IsSettingOf q.state x.setting) (sym forgets.rest) (setting-alike p.state q.state t.setting kept.alike h.setting_is);
       spaces_are = subst (λ (x : Tables). AreSpacesOf c q.state x.spaces) (sym forgets.rest) (spaces-alike c p.state q.state t.spaces kept.alike h.spaces_are);
-      map_is = subst (λ (x : Tables). IsMapOf q.state x.map) (sym forgets.rest) (map-alike p.state q.state t.map kept.alike kept.blocks h.map_is);
+      map_is = subst (λ (x : Tables). IsMapOf c q.state x.map) (sym forgets.rest) (map-alike c p.state q.state t.map kept.alike kept.blocks h.map_is);
       flights_are = flights-less c p.state q.state t.flights.items now.flights.items queue there kept.alike going forgets.flights_are h.flights_are;
       units_are = units-same c p.state q.state t.pages now.pages kept.units (owners-alike t.pages now.pages forgets.pages) forgets.pages.handles h.units_are;
     })
@@ -157,11 +164,11 @@ held-answered c found first es t queue number command reply moment h other unmad
     let pages = h.pages_are in
     let going : q.state.going ≡ p.state.going = ended-going c p queue number command reply moment unmade ∙ ap (λ (b : Bool). if b then with_at p.state.going queue None else p.state.going) other in
     let is : ended_by p.state queue reply.applied command ≡ Some = ends-as p.state queue reply.applied command unmade ∙ ap (λ (b : Bool). if b then only (is_of_another queue) else Some) other in
-    held-after c found first es e t t h (orderly-ended c p queue number command reply moment h.orderly unmade) (standing-ended c p queue number command reply moment h.orderly h.standing unmade)
+    held-after c found first es e t t h (orderly-ended c p queue number command reply moment h.orderly unmade) (standing-ended c p queue number command reply moment h.orderly h.standing unmade) (listed-ended c p queue number command reply moment h.listed unmade)
     (record {
       setting_is = setting-alike p.state q.state t.setting kept.alike h.setting_is;
       spaces_are = spaces-alike c p.state q.state t.spaces kept.alike h.spaces_are;
-      map_is = map-alike p.state q.state t.map kept.alike kept.blocks h.map_is;
+      map_is = map-alike c p.state q.state t.map kept.alike kept.blocks h.map_is;
       flights_are = flights-alike c p.state q.state t.flights.items kept.alike going h.flights_are;
       units_are = units-same c p.state q.state t.pages t.pages kept.units (alike-self t.pages.units) refl h.units_are;
     })

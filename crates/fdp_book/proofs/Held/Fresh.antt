@@ -13,9 +13,15 @@ use Rattle.fdp_book.specs.declared.tables.Setting.{Setting}
 use Rattle.fdp_book.specs.declared.tables.Sums.{Sums}
 use Rattle.fdp_book.specs.declared.tables.Tables.{Tables}
 use Rattle.fdp_book.specs.Book.{AreUnused}
-use Rattle.fdp_book.specs.Configured.{AreConfiguredSpaces, IsConfiguredMap, no_pages}
+use Rattle.fdp_book.specs.Configured.{AreConfiguredSpaces, IsConfiguredMap, fresh_opening}
+use Rattle.fdp_base.specs.Geometry.{all_pages}
+use Rattle.fdp_base.specs.Placement.{geometry_of}
+use Rattle.fdp_locations.specs.Held.{no_pages, pages_held}
+use Rattle.fdp_locations.specs.Written.{Written}
+use Rattle.fdp_locations.proofs.Held.{held-blank}
 use Rattle.fdp_book.specs.Held.{AreFlightsOf, ArePagesOf, AreSumsOf, IsHeld, IsMapOf, flight_in, going_of, lead_in, page_in}
 use Rattle.fdp_history.proofs.Fresh.{orderly-fresh, standing-fresh}
+use Rattle.fdp_history.proofs.Listing.{listed-fresh}
 use Rattle.fdp_locations.specs.Located.{AreUnitsOf}
 use Rattle.fdp_locations.specs.Written.{written_by, written_from}
 use Rattle.fdp_map.specs.declared.mapped.Mapped.{Mapped}
@@ -73,9 +79,10 @@ module _ (c : DriveConfig) (valid : IsValidConfig c) where
     target = λ queue f e. absurd (none-some f (sym (none_in (c.queues + 1) queue) ∙ e));
   }
 
-  map-fresh : (x : MapTable) → IsConfiguredMap c x → IsMapOf (point_of c (fresh c) []).state x
+  map-fresh : (x : MapTable) → IsConfiguredMap c x → IsMapOf c (point_of c (fresh c) []).state x
   unfolding point_of state_of first_state fresh
   map-fresh x h = record {
+    geometry = h.geometry;
     sizes = λ nsid. sym (h.sizes nsid);
     most = h.most;
     groups = λ nsid lba. sym (ap (option_map (λ (m : Mapped). m.rg)) (h.absent nsid lba));
@@ -104,6 +111,7 @@ module _ (c : DriveConfig) (valid : IsValidConfig c) where
       table = table-fresh c (λ unit. (unit_at t.units unit).next);
       owned = subst (λ (o : Spot → Option Owner). AreOwners o (λ q. None)) (λ d spot. sym (h.unused.owners spot) d) owners-none;
       named = λ queue index g w y going write e. absurd cc;
+      handled = λ q y ruh e k. absurd cc;
       holds = λ q y x e k. absurd cc;
       below = λ spot x e. absurd cc;
       passes = λ rg low. pass-ended (λ q. None) (point_of c (fresh c) []).trail rg (passes_at t rg) (ap (λ (o : Option Pass). option_map_or (λ (pass : Pass). pass.copies) o []) (none-under_way rg));
@@ -123,12 +131,13 @@ module _ (c : DriveConfig) (valid : IsValidConfig c) where
   pub held-fresh : (tables : Tables) →
       tables.setting ≡ record { enabled = c.enabled; index = c.index; generation = 0 } → tables.sums ≡ record { host_blocks = 0; media_blocks = 0; erases = 0 } →
       AreConfiguredSpaces c tables.spaces → AreFreshPages c tables.pages → IsConfiguredMap c tables.map → tables.flights.items ≡ replicate (c.queues + 1) None →
-      IsHeld c (fresh c) no_pages [] tables
+      IsHeld c (fresh c) (pages_held c (fresh_opening c).cells) [] tables
   unfolding point_of state_of first_state fresh
-  held-fresh tables setting sums s pages m f = record {
+  held-fresh tables setting sums s pages m f = subst (λ (first : Spot → Option Written). IsHeld c (fresh c) first [] tables) (sym (held-blank c (all_pages (geometry_of c)))) (record {
     config = valid;
     orderly = orderly-fresh c valid;
     standing = standing-fresh c;
+    listed = listed-fresh c valid;
     setting_is = record { enabled = sym (ap (λ (x : Setting). x.enabled) setting); index = sym (ap (λ (x : Setting). x.index) setting); generation = sym (ap (λ (x : Setting). x.generation) setting) };
     sums_are = subst (λ (x : Sums). AreSumsOf (fresh c) [] x) (sym sums) (record { host_blocks_are = refl; media_blocks_are = refl; erases_are = refl; few_host_blocks = omega arith; few_media_blocks = omega arith; few_erases = omega arith });
     spaces_are = record { groups = sym s.groups; namespaces = λ nsid. sym (s.namespaces nsid) };
@@ -136,4 +145,4 @@ module _ (c : DriveConfig) (valid : IsValidConfig c) where
     flights_are = subst (λ (xs : List (Option Flight)). AreFlightsOf c (point_of c (fresh c) []).state xs) (sym f) flights-fresh;
     units_are = units-fresh tables.pages pages;
     pages_are = subst (λ (xs : List (Option Flight)). ArePagesOf c (point_of c (fresh c) []) (written_by c (fresh c) no_pages []) tables.map xs tables.pages) (sym f) (pages-fresh tables.map tables.pages m pages);
-  }
+  })

@@ -77,8 +77,9 @@ each P xs x all has = subst P has.2 (all has.0 x has.1)
 
 -- ---- the tables that follow a state
 
-map-moved : (s : PlainState) (map new : MapTable) → KeepsGroups map new → IsMapOf s map → IsMapOf s new
-map-moved s map new keeps h = record {
+map-moved : (c : DriveConfig) (s : PlainState) (map new : MapTable) → KeepsGroups map new → IsMapOf c s map → IsMapOf c s new
+map-moved c s map new keeps h = record {
+  geometry = keeps.geometry ∙ h.geometry;
   sizes = λ nsid. h.sizes nsid ∙ sym (ap (λ (f : ℕ → ℕ). f nsid) keeps.sizes);
   most = λ nsid. let size : size_in new nsid ≡ size_in map nsid = ap (λ (f : ℕ → ℕ). f nsid) keeps.sizes in omega (arith, size, h.most nsid);
   groups = λ nsid lba. h.groups nsid lba ∙ sym (keeps.groups nsid lba);
@@ -220,7 +221,7 @@ module _ (c : DriveConfig) (found : Found) (first : Spot → Option Written) (es
         (record {
           setting_is = setting-alike p.state q.state t.setting quiet.alike h.setting_is;
           spaces_are = spaces-alike c p.state q.state t.spaces quiet.alike h.spaces_are;
-          map_is = map-alike p.state q.state mid.map quiet.alike quiet.blocks (map-moved p.state t.map mid.map moves.kept.map h.map_is);
+          map_is = map-alike c p.state q.state mid.map quiet.alike quiet.blocks (map-moved c p.state t.map mid.map moves.kept.map h.map_is);
           flights_are = flights-alike c p.state q.state mid.flights.items quiet.alike quiet.going (flights-moved c p.state t.flights.items mid.flights.items moves.kept.flights h.flights_are);
           units_are = units-same c p.state q.state t.pages ended (moved-units c p rg (moved_blocks p rg)) (owners-alike t.pages mid.pages moves.kept.pages) moves.kept.pages.handles h.units_are;
         })

@@ -5,7 +5,9 @@ use Rattle.fdp_base.specs.declared.entry.Entry.{Entry}
 use Rattle.fdp_base.specs.declared.entry.Spot.{Spot}
 use Rattle.fdp_book.specs.declared.tables.Tables.{Tables}
 use Rattle.fdp_book.specs.Held.{AreFlightsOf, ArePagesOf, AreSpacesOf, AreSumsOf, IsHeld, IsHeldAt, IsMapOf, IsSettingOf}
+use Rattle.fdp_history.specs.Listed.{IsListed}
 use Rattle.fdp_history.specs.Orderly.{IsOrderly}
+use Rattle.fdp_history.proofs.Listing.{listed-next}
 use Rattle.fdp_history.specs.Standing.{IsStanding}
 use Rattle.fdp_history.proofs.Points.{orderly-next}
 use Rattle.fdp_history.proofs.Standing.{standing-next}
@@ -23,7 +25,7 @@ use Rattle.fdp_rules.specs.Step.{Follows}
 pub record AreTablesOf (c : DriveConfig) (s : PlainState) (t : Tables) : Type 0 where
   pub setting_is : IsSettingOf s t.setting
   pub spaces_are : AreSpacesOf c s t.spaces
-  pub map_is : IsMapOf s t.map
+  pub map_is : IsMapOf c s t.map
   pub flights_are : AreFlightsOf c s t.flights.items
   pub units_are : AreUnitsOf c s t.pages
 
@@ -34,17 +36,18 @@ held-at c found first es p written t point_is written_is h =
     (subst (λ (x : Spot → Option Written). IsHeldAt c found es p x t) written_is h)
 
 -- an entry more, behind which all is orderly
-pub held-after : (c : DriveConfig) (found : Found) (first : Spot → Option Written) (es : List Entry) (e : Entry) (t now : Tables) → IsHeld c found first es t → IsOrderly c (next c (point_of c found es) e) → IsStanding c (next c (point_of c found es) e) →
+pub held-after : (c : DriveConfig) (found : Found) (first : Spot → Option Written) (es : List Entry) (e : Entry) (t now : Tables) → IsHeld c found first es t → IsOrderly c (next c (point_of c found es) e) → IsStanding c (next c (point_of c found es) e) → IsListed c (next c (point_of c found es) e).state →
     AreTablesOf c (next c (point_of c found es) e).state now → AreSumsOf found (es ++ e ∷ []) now.sums →
     ArePagesOf c (next c (point_of c found es) e) (written_after c (point_of c found es).state (written_by c found first es) e) now.map now.flights.items now.pages →
     IsHeld c found first (es ++ e ∷ []) now
-held-after c found first es e t now h orderly standing tables sums pages =
+held-after c found first es e t now h orderly standing listed tables sums pages =
     let p : Point = point_of c found es in
     held-at c found first (es ++ e ∷ []) (next c p e) (written_after c p.state (written_by c found first es) e) now (sym (point_of-push c found es e)) (sym (written_by-push c found first es e))
     (record {
       config = h.config;
       orderly = orderly;
       standing = standing;
+      listed = listed;
       setting_is = tables.setting_is;
       sums_are = sums;
       spaces_are = tables.spaces_are;
@@ -59,6 +62,7 @@ pub held-next : (told : Bool) (c : DriveConfig) (found : Found) (first : Spot �
     AreTablesOf c (next c (point_of c found es) e).state now → AreSumsOf found (es ++ e ∷ []) now.sums →
     ArePagesOf c (next c (point_of c found es) e) (written_after c (point_of c found es).state (written_by c found first es) e) now.map now.flights.items now.pages →
     IsHeld c found first (es ++ e ∷ []) now
+unfolding next
 held-next told c found first es e t now h follows tables sums pages =
     let p : Point = point_of c found es in
-    held-after c found first es e t now h (orderly-next told c p e h.config h.orderly follows) (standing-next told c p e h.orderly h.standing follows) tables sums pages
+    held-after c found first es e t now h (orderly-next told c p e h.config h.orderly follows) (standing-next told c p e h.orderly h.standing follows) (listed-next told c p e h.orderly.state h.listed follows) tables sums pages

@@ -224,7 +224,7 @@ held-placed c found first es t now queue f more spot w x h joined is follows m =
     (record {
       setting_is = subst (λ (z : Setting). IsSettingOf q.state z) (sym m.setting) (setting-alike p.state q.state t.setting a h.setting_is);
       spaces_are = subst (λ (z : SpaceTable). AreSpacesOf c q.state z) (sym m.spaces) (spaces-alike c p.state q.state t.spaces a h.spaces_are);
-      map_is = subst (λ (z : MapTable). IsMapOf q.state z) (sym m.map) (map-alike p.state q.state t.map a (placed-blocks c p f.ticket index spot) h.map_is);
+      map_is = subst (λ (z : MapTable). IsMapOf c q.state z) (sym m.map) (map-alike c p.state q.state t.map a (placed-blocks c p f.ticket index spot) h.map_is);
       flights_are = flights-more c p index t.flights.items now.flights.items queue f more spot h.orderly.state placed queue_is going_is there is m.flights_are m.flight h.flights_are;
       units_are = units-referring c p.state q.state t.pages now.pages f.rg f.ruh (one_less c spot.unit (p.state.references f.rg f.ruh)) a.enabled a.index references.is_lost references.is_worn references.references refer m.puts.handles.rest
           (puts-alike t.pages now.pages f.rg f.ruh spot x m.fresh.kept m.puts) h.units_are;

@@ -89,7 +89,7 @@ held-shut c found first es t now rg ruh spot h group handle fresh shuts rest =
     (record {
       setting_is = setting-alike p.state q.state t.setting is.alike h.setting_is;
       spaces_are = spaces-alike c p.state q.state t.spaces is.alike h.spaces_are;
-      map_is = map-alike p.state q.state t.map is.alike is.blocks h.map_is;
+      map_is = map-alike c p.state q.state t.map is.alike is.blocks h.map_is;
       flights_are = flights-alike c p.state q.state t.flights.items is.alike is.going h.flights_are;
       units_are = units-referring c p.state q.state t.pages now.pages rg ruh (no_reference c) is.alike.enabled is.alike.index is.is_lost is.is_worn is.references (shuts.handles.references c h.units_are.unit_pages) shuts.handles.rest
           (shuts-alike t.pages now.pages rg ruh spot fresh.kept shuts) h.units_are;

@@ -118,7 +118,7 @@ held-started c found first es t mid now queue number command f h l starts =
     (record {
       setting_is = subst (λ (x : Setting). IsSettingOf q.state x) (sym starts.setting) (setting-alike p.state q.state t.setting a h.setting_is);
       spaces_are = subst (λ (x : SpaceTable). AreSpacesOf c q.state x) (sym starts.spaces) (spaces-alike c p.state q.state t.spaces a h.spaces_are);
-      map_is = subst (λ (x : MapTable). IsMapOf q.state x) (sym starts.map) (map-alike p.state q.state t.map a (started-blocks c p queue number command f) h.map_is);
+      map_is = subst (λ (x : MapTable). IsMapOf c q.state x) (sym starts.map) (map-alike c p.state q.state t.map a (started-blocks c p queue number command f) h.map_is);
       flights_are = flights-started c p t.flights.items now.flights.items queue number command f there l starts.flights_are h.flights_are;
       units_are = units-same c p.state q.state t.pages now.pages (started-units c p queue number command f) (owners-alike t.pages now.pages changes) changes.handles h.units_are;
     })

@@ -9,8 +9,9 @@ use Rattle.fdp_base.specs.declared.entry.Reply.{Reply}
 use Rattle.fdp_base.specs.declared.entry.Spot.{Spot}
 use Rattle.fdp_base.specs.Numbers.{with_at}
 use Rattle.fdp_history.specs.OrderlyState.{IsOrderlyState}
-use Rattle.fdp_locations.specs.Located.{AreLed, AreNamed, next_in}
+use Rattle.fdp_locations.specs.Located.{AreHandled, AreLed, AreNamed, next_in}
 use Rattle.fdp_locations.specs.Written.{IsWritten, Written}
+use Rattle.fdp_locations.proofs.Handled.{handled-renamed}
 use Rattle.fdp_locations.proofs.Ended.{host}
 use Rattle.fdp_owners.specs.Owned.{AreOwners}
 use Rattle.fdp_owners.specs.OwnerTable.{owner_at}
@@ -87,6 +88,7 @@ led-unmade c p queue number command reply moment written r at t now orderly unma
           (subst (λ (k : Pointer → Option Pointer). IsTableOf c q (next_in t.units) (renamed k at)) is (table-unmade c p queue number command reply moment (next_in t.units) at orderly unmade h.table));
       owned = owned;
       named = named;
+      handled = subst (λ (k : Pointer → Option Pointer). AreHandled q.state (renamed k at)) is (handled-renamed c p (host queue number command reply moment) at h.handled);
       holds = subst (λ (k : Behind PageContent). Carries (IsWritten written) k (renamed r at)) (ap (λ (k : Pointer → Option Pointer). renamed k (content_at c p.state)) (sym is) ∙ sym (contents-unmade c p queue number command reply moment orderly unmade))
           (carries-renamed (IsWritten written) r (content_at c p.state) at h.holds);
       below = λ spot x e. let low : spot.page < next_in t.units spot.unit = h.below spot x e in omega (arith, low, up spot.unit);

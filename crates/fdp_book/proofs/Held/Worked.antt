@@ -86,7 +86,7 @@ module _ (c : DriveConfig) (found : Found) (first : Spot → Option Written) (es
       (record {
         setting_is = setting-alike p.state q.state t.setting quiet.alike h.setting_is;
         spaces_are = spaces-alike c p.state q.state t.spaces quiet.alike h.spaces_are;
-        map_is = map-alike p.state q.state t.map quiet.alike quiet.blocks h.map_is;
+        map_is = map-alike c p.state q.state t.map quiet.alike quiet.blocks h.map_is;
         flights_are = flights-alike c p.state q.state t.flights.items quiet.alike quiet.going h.flights_are;
         units_are = units;
       })
@@ -102,6 +102,7 @@ module _ (c : DriveConfig) (found : Found) (first : Spot → Option Written) (es
         config = h.config;
         orderly = h.orderly;
         standing = h.standing;
+        listed = h.listed;
         setting_is = h.setting_is;
         sums_are = h.sums_are;
         spaces_are = h.spaces_are;

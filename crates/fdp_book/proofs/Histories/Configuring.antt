@@ -5,6 +5,7 @@ use Rattle.std.proofs.lemmas.Bool.Decides.{nat_tests}
 use Rattle.fdp_base.specs.declared.config.DriveConfig.{DriveConfig}
 use Rattle.fdp_base.specs.declared.config.NamespaceConfig.{NamespaceConfig}
 use Rattle.fdp_base.specs.Config.{IsValidConfig, IsValidNamespace}
+use Rattle.fdp_base.specs.declared.config.Geometry.{Geometry}
 use Rattle.fdp_base.specs.Geometry.{all_units}
 use Rattle.fdp_rules.specs.History.{FoundNamespace, first_state, fresh, made_namespace}
 use Rattle.fdp_base.specs.Numbers.{with_at}
@@ -60,7 +61,8 @@ listing-next made groups i old new n d below is same put h = record {
 }
 
 -- the first namespaces have places, and no block is there
-pub record IsRoomy (made : List NamespaceConfig) (i : ℕ) (x : MapTable) : Type 0 where
+pub record IsRoomy (g : Geometry) (made : List NamespaceConfig) (i : ℕ) (x : MapTable) : Type 0 where
+  pub geometry : x.geometry ≡ g
   pub sizes : (nsid : ℕ) → size_in x nsid ≡ size_of_some (namespaces_from 1 (take i made) nsid)
   pub most : (nsid : ℕ) → size_in x nsid ≤ 262144
   pub absent : (nsid lba : ℕ) → mapped_at x nsid lba ≡ None
@@ -73,8 +75,9 @@ size_of-either : (b : Bool) (x : Namespace) (o : Option Namespace) → size_of_s
 size_of-either true x o = refl
 size_of-either false x o = refl
 
-pub roomy-next : (made : List NamespaceConfig) (i : ℕ) (old new : MapTable) (size : ℕ) (d : NamespaceConfig) → i < length made → size ≡ (get_or made i d).blocks → size ≤ 262144 → size_in new ≡ with_at (size_in old) (i + 1) size → mapped_at new ≡ mapped_at old → IsRoomy made i old → IsRoomy made (i + 1) new
-roomy-next made i old new size d below is few put same h = record {
+pub roomy-next : (g : Geometry) (made : List NamespaceConfig) (i : ℕ) (old new : MapTable) (size : ℕ) (d : NamespaceConfig) → i < length made → size ≡ (get_or made i d).blocks → size ≤ 262144 → size_in new ≡ with_at (size_in old) (i + 1) size → mapped_at new ≡ mapped_at old → new.geometry ≡ old.geometry → IsRoomy g made i old → IsRoomy g made (i + 1) new
+roomy-next g made i old new size d below is few put same cut h = record {
+  geometry = cut ∙ h.geometry;
   sizes = λ nsid.
       ap (λ (f : ℕ → ℕ). f nsid) put
       ∙ ap (λ (m : ℕ). cond (nsid == i + 1) m (size_in old nsid)) is

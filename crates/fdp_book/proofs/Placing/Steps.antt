@@ -5,12 +5,11 @@ use Rattle.fdp_base.specs.declared.entry.Entry.TheVariants as entries
 use Rattle.fdp_base.specs.declared.entry.Spot.{Spot}
 use Rattle.fdp_rules.specs.Change.{one_more_placed}
 use Rattle.fdp_rules.specs.PlainState.{Going}
-use Rattle.fdp_book.specs.Configured.{no_pages}
 use Rattle.fdp_owners.specs.declared.owner.Owner.{Owner}
 use Rattle.fdp_pages.specs.Steps.{PutsPage}
 use Rattle.fdp_book.specs.declared.flight.Flight.{Flight}
 use Rattle.fdp_book.specs.declared.ticket.Ticket.{Ticket}
-use Rattle.fdp_book.specs.Book.{BookSeen, IsLonger, state_in}
+use Rattle.fdp_book.specs.Book.{BookSeen, IsLonger, state_in, first_in}
 use Rattle.fdp_book.specs.Steps.{IsFlying, IsWaiting, Places}
 use Rattle.fdp_book.specs.Flown.{IsFlightAt, IsPageMore, IsUnfinished}
 use Rattle.fdp_book.specs.Held.{IsHeld, flight_in, going_of}
@@ -27,7 +26,7 @@ flight-there None g e = absurd cc
 flight-there (Some f) g e = (f, refl, (let one : going_of f ≡ g = cc in one))
 
 -- the flight in the queue of a ticket, whose write is going
-pub flying-there : (b : BookSeen) (tables : Tables) (ticket : Ticket) → IsHeld b.config b.found no_pages b.entries tables → IsFlying b ticket → (f : Flight) × (flight_in tables.flights.items ticket.queue ≡ Some f) × IsTicketOf (state_in b) ticket (going_of f)
+pub flying-there : (b : BookSeen) (tables : Tables) (ticket : Ticket) → IsHeld b.config b.found (first_in b) b.entries tables → IsFlying b ticket → (f : Flight) × (flight_in tables.flights.items ticket.queue ≡ Some f) × IsTicketOf (state_in b) ticket (going_of f)
 flying-there b tables ticket h flying =
     let found = flight-there (flight_in tables.flights.items ticket.queue) flying.going (sym flying.ticket_is.going_is ∙ h.flights_are.going ticket.queue) in
     (found.0, found.1, subst (IsTicketOf (state_in b) ticket) (sym found.2) flying.ticket_is)
@@ -41,7 +40,7 @@ pub record IsPlacing (b : BookSeen) (tables : Tables) (ticket : Ticket) (f : Fli
   pub within : ticket.queue < length tables.flights.items
   pub unfinished : IsUnfinished (Some f)
 
-pub placing : (b now : BookSeen) (tables : Tables) (ticket : Ticket) (spot : Spot) (x : Flight) → IsHeld b.config b.found no_pages b.entries tables → b ≡ now → IsWaiting now ticket → ((g : Going) → IsTicketOf (state_in now) ticket g → IsNextSpot now ticket g spot) → IsFlightAt now ticket x → (f : Flight) × IsPlacing b tables ticket f spot × (going_of x ≡ going_of f)
+pub placing : (b now : BookSeen) (tables : Tables) (ticket : Ticket) (spot : Spot) (x : Flight) → IsHeld b.config b.found (first_in b) b.entries tables → b ≡ now → IsWaiting now ticket → ((g : Going) → IsTicketOf (state_in now) ticket g → IsNextSpot now ticket g spot) → IsFlightAt now ticket x → (f : Flight) × IsPlacing b tables ticket f spot × (going_of x ≡ going_of f)
 placing b now tables ticket spot x h same waiting_now next_now at_now =
     let waiting : IsWaiting b ticket = subst (λ (y : BookSeen). IsWaiting y ticket) (sym same) waiting_now in
     let next : (g : Going) → IsTicketOf (state_in b) ticket g → IsNextSpot b ticket g spot = subst (λ (y : BookSeen). (g : Going) → IsTicketOf (state_in y) ticket g → IsNextSpot y ticket g spot) (sym same) next_now in
@@ -69,7 +68,7 @@ pub slot-is : (flights : List (Option Flight)) (queue i : ℕ) (d : Option Fligh
 slot-is flights queue i d f same within there is = is ∙ ap (λ (k : ℕ). slice_index_or flights k d) same ∙ sym (flight_in-index flights queue d within) ∙ there
 
 -- the step that places a page
-pub places-step : (b new : BookSeen) (tables : Tables) (ticket : Ticket) (f more : Flight) (spot : Spot) (g : Going) (last : Bool) → IsHeld new.config new.found no_pages new.entries tables → flight_in tables.flights.items ticket.queue ≡ Some more → IsPageMore f spot more → IsTicketOf (state_in b) ticket (going_of f) → (x : Owner) → PutsPage b.pages new.pages f.rg f.ruh spot x → IsLonger b new (entries.Placed (record { ticket = ticket.position; index = length f.pages.items; unit = spot.unit; page = spot.page }) ∷ []) → last ≡ (length f.pages.items + 1 == blocks_written f.room.command) → IsTicketOf (state_in b) ticket g → Places b new ticket g spot last
+pub places-step : (b new : BookSeen) (tables : Tables) (ticket : Ticket) (f more : Flight) (spot : Spot) (g : Going) (last : Bool) → IsHeld new.config new.found (first_in new) new.entries tables → flight_in tables.flights.items ticket.queue ≡ Some more → IsPageMore f spot more → IsTicketOf (state_in b) ticket (going_of f) → (x : Owner) → PutsPage b.pages new.pages f.rg f.ruh spot x → IsLonger b new (entries.Placed (record { ticket = ticket.position; index = length f.pages.items; unit = spot.unit; page = spot.page }) ∷ []) → last ≡ (length f.pages.items + 1 == blocks_written f.room.command) → IsTicketOf (state_in b) ticket g → Places b new ticket g spot last
 places-step b new tables ticket f more spot g last h there grown ticket_is x puts step last_is its =
     let same : going_of f ≡ g = one-going (state_in b) ticket (going_of f) g ticket_is its in
     let going : (state_in new).going ticket.queue ≡ Some (one_more_placed (going_of f)) = h.flights_are.going ticket.queue ∙ ap (option_map going_of) there ∙ ap (λ (k : Going). Some k) grown.going_is in

@@ -122,7 +122,7 @@ module _ (s : PlainState) (map new : MapTable) (flights now : List (Option Fligh
 
 -- the groups of blocks and the going writes stay
 groups-same : (map new : MapTable) → new ≡ map → KeepsGroups map new
-groups-same map new same = subst (KeepsGroups map) (sym same) (record { sizes = refl; groups = λ nsid lba. refl })
+groups-same map new same = subst (KeepsGroups map) (sym same) (record { geometry = refl; sizes = refl; groups = λ nsid lba. refl })
 
 flights-same : (flights now : List (Option Flight)) → now ≡ flights → KeepsFlights flights now
 flights-same flights now same = subst (KeepsFlights flights) (sym same) (record { rows = refl; going = λ queue. refl })

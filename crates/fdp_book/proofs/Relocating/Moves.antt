@@ -22,15 +22,23 @@ use Rattle.fdp_pages.specs.Steps.{moved}
 use Rattle.fdp_passes.specs.GroupPasses.{GroupPasses, Pass}
 use Rattle.fdp_trails.specs.Moves.{AreMovable, name_at, name_of, names_of, owners_moved, with_moved}
 use Rattle.fdp_trails.proofs.Moving.{owners-kept}
-use Rattle.fdp_units.specs.UnitTable.{IsGroup}
+use Rattle.fdp_units.specs.UnitTable.{IsGroup, IsUnit, group_in}
 
 -- ---- a copy of the pass under way
+
+-- both pages of a copy lie in the group, its new one is one of a unit
+pub record LiesInGroup (t : PageTables) (rg : ℕ) (copy : Copied) : Type 0 where
+  pub unit : IsUnit t.units copy.to.unit
+  pub page : copy.to.page < t.units.unit_pages
+  pub from : group_in t.units copy.from.unit ≡ rg
+  pub to : group_in t.units copy.to.unit ≡ rg
 
 -- where its old page is live its new one has no owner
 pub record IsCopyAt (t : PageTables) (rg index : ℕ) : Type 0 where
   pub copy : Copied
   pub copy_is : slice_get (copies_at t rg) index ≡ Some copy
   pub free : (x : Owner) → owner_at t.owners copy.from ≡ Some x → owner_at t.owners copy.to ≡ None
+  pub lies : LiesInGroup t rg copy
 
 contained : (xs : List Copied) (index : ℕ) (x : Copied) → slice_get xs index ≡ Some x → Contains xs x
 contained xs index x e = (index, slice_get_within xs index x e, get_or_from_slice_get xs index x x e)
@@ -42,11 +50,24 @@ copy-at t rg index joined there low =
       copy = found.0;
       copy_is = found.1;
       free = λ x owned. cases (passes_at t rg).pass refl (contained (copies_at t rg) index found.0 found.1) x owned;
+      lies = within (passes_at t rg).pass refl (contained (copies_at t rg) index found.0 found.1);
     }
   where
     cases : (o : Option Pass) → (passes_at t rg).pass ≡ o → {copy : Copied} → Contains (option_map_or (λ (pass : Pass). pass.copies) o []) copy → (x : Owner) → owner_at t.owners copy.from ≡ Some x → owner_at t.owners copy.to ≡ None
     cases None e has x owned = absurd (omega (arith, has.1))
     cases (Some pass) e {copy} has x owned = (((joined.groups rg there).copied pass e).await copy x has owned).unowned
+
+    within : (o : Option Pass) → (passes_at t rg).pass ≡ o → {copy : Copied} → Contains (option_map_or (λ (pass : Pass). pass.copies) o []) copy → LiesInGroup t rg copy
+    within None e has = absurd (omega (arith, has.1))
+    within (Some pass) e {copy} has =
+        let groups = joined.groups rg there in
+        let lie = (groups.copied pass e).lie copy has in
+        record {
+          unit = lie.is_unit;
+          page = omega (arith, lie.used, lie.within);
+          from = ap (group_in t.units) lie.victim ∙ (groups.ready.victim pass e).group;
+          to = lie.group;
+        }
 
 -- what holds of the copy holds of it
 pub of-copy : (t : PageTables) (rg index : ℕ) (k : IsCopyAt t rg index) (P : Copied → Type 0) → IfSome (slice_get (copies_at t rg) index) P → P k.copy
@@ -56,7 +77,7 @@ of-copy t rg index k P h = subst (λ (o : Option Copied). IfSome o P) k.copy_is 
 
 pub keeps-self : (t : Tables) → AreJoined t.pages → KeepsLead t t
 keeps-self t joined = record {
-  map = record { sizes = refl; groups = λ nsid lba. refl };
+  map = record { geometry = refl; sizes = refl; groups = λ nsid lba. refl };
   flights = record { rows = refl; going = λ queue. refl };
   pages = changes-self t.pages joined;
   leads = λ s h. h;
@@ -65,7 +86,7 @@ keeps-self t joined = record {
 
 pub keeps-joined : (a b d : Tables) → KeepsLead a b → KeepsLead b d → KeepsLead a d
 keeps-joined a b d h k = record {
-  map = record { sizes = k.map.sizes ∙ h.map.sizes; groups = λ nsid lba. k.map.groups nsid lba ∙ h.map.groups nsid lba };
+  map = record { geometry = k.map.geometry ∙ h.map.geometry; sizes = k.map.sizes ∙ h.map.sizes; groups = λ nsid lba. k.map.groups nsid lba ∙ h.map.groups nsid lba };
   flights = record { rows = k.flights.rows ∙ h.flights.rows; going = λ queue. k.flights.going queue ∙ h.flights.going queue };
   pages = changes-joined a.pages b.pages d.pages h.pages k.pages;
   leads = λ s lead. k.leads s (h.leads s lead);

@@ -57,6 +57,7 @@ group-kept to (Some m) = refl
 
 pub block-groups : (old new : MapTable) (nsid lba : ℕ) (to : Spot) → PutsBlock old new nsid lba to → KeepsGroups old new
 block-groups old new nsid lba to h = record {
+  geometry = h.geometry;
   sizes = h.sizes;
   groups = λ n l. ap (λ (f : ℕ → ℕ → Option Mapped). option_map (λ (m : Mapped). m.rg) (f n l)) h.blocks ∙ ap (option_map (λ (m : Mapped). m.rg)) (mapped-with (mapped_at old) nsid lba (option_map (moved_to to) (mapped_at old nsid lba)) n l) ∙ chosen n l (n == nsid) (l == lba) refl refl;
 }

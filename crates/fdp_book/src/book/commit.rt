@@ -6,7 +6,7 @@ ghost use Rattle.fdp_rules.specs.Step.{MaySucceed};
 ghost use Rattle.fdp_book.specs.Book.{point_in, state_in};
 ghost use Rattle.fdp_book.specs.Steps.{Completes, IsReady, IsVerdict};
 ghost use Rattle.fdp_book.specs.Flown.{with_pages};
-ghost use Rattle.fdp_book.specs.Taking.{CanTake, MayTake, cleared_of, with_taken};
+ghost use Rattle.fdp_book.specs.Taking.{ArePages, CanTake, MayTake, cleared_of, with_taken};
 ghost use Rattle.fdp_locations.specs.Taken.{taken_first};
 ghost use Rattle.fdp_owners.specs.Owned.{AreOwners};
 ghost use Rattle.fdp_owners.specs.OwnerTable.{owner_at};
@@ -14,7 +14,7 @@ ghost use Rattle.fdp_pages.specs.Steps.{ChangesOwners};
 ghost use Rattle.fdp_pointers.specs.Facts.{Page};
 ghost use Rattle.fdp_pointers.specs.Pointers.{Behind, renamed};
 ghost use Rattle.fdp_book.specs.Tickets.{IsTicketOf};
-ghost use Rattle.fdp_map.specs.MapTable.{mapped_at, size_in, with_mapped};
+ghost use Rattle.fdp_map.specs.MapTable.{IsPageOf, mapped_at, mapped_on, size_in, with_mapped};
 
 use super::Book;
 use super::end::{push_host, take_flight};
@@ -22,7 +22,7 @@ use crate::flight::Flight;
 use crate::ticket::{Done, Ticket};
 use fdp_base::{Spot, Status};
 use fdp_commands::is_over_budget;
-use fdp_map::{Map, Mapped};
+use fdp_map::Map;
 use fdp_owners::Holder;
 use fdp_pages::Pages;
 
@@ -57,7 +57,7 @@ impl Book {
             number,
             ticket: _,
             birth: _,
-            rg,
+            rg: _,
             ruh: _,
             pid_valid: _,
             roomiest: _,
@@ -71,7 +71,6 @@ impl Book {
             &mut self.tables.pages,
             extent.nsid,
             extent.slba,
-            rg,
             pages.as_slice(),
         );
         let done = push_host(&mut self.log, queue, number, command, replies, moment);
@@ -80,38 +79,40 @@ impl Book {
     }
 }
 
-/// Blocks take over these pages of a write to a group, from an address on. The pages that they had have no owner any more.
-fn put_pages(map: &mut Map, pages: &mut Pages, nsid: u32, slba: u64, rg: u16, spots: &[Spot])
+/// Blocks take over these pages of a write, from an address on. The pages that they had have no owner any more.
+fn put_pages(map: &mut Map, pages: &mut Pages, nsid: u32, slba: u64, spots: &[Spot])
     requires range { slba + length spots.now ≤ size_in map.old nsid }
     requires size { size_in map.old nsid ≤ 262144 }
-    requires group { rg < 16 }
+    requires places { ArePages map.old.geometry spots.now }
     requires pages { CanTake map.old pages.old nsid slba spots.now }
-    ensures blocks { mapped_at map.new ≡ with_pages (mapped_at map.old) nsid slba rg spots.now (length spots.now) }
+    ensures blocks { mapped_at map.new ≡ with_pages (mapped_at map.old) nsid slba map.old.geometry spots.now (length spots.now) }
     ensures sizes { size_in map.new ≡ size_in map.old }
+    ensures geometry { map.new.geometry ≡ map.old.geometry }
     ensures owners { (at : Behind Page) (queue : ℕ) → MayTake at map.old pages.old queue nsid slba spots.now → AreOwners (owner_at pages.new.owners) (renamed (taken_first queue nsid slba (length spots.now)) at) }
     ensures pages { ChangesOwners pages.old pages.new }
 {
     pages.joined();
     for index in 0..spots.len() {
         let lba = slba + index as u64;
-        put_page(map, pages, nsid, lba, rg, spots[index]);
+        put_page(map, pages, nsid, lba, spots[index]);
     }
 }
 
-/// A block takes over a page of a write to a group. The page that it had has no owner any more.
-fn put_page(map: &mut Map, pages: &mut Pages, nsid: u32, lba: u64, rg: u16, spot: Spot)
+/// A block takes over a page of a write. The page that it had has no owner any more.
+fn put_page(map: &mut Map, pages: &mut Pages, nsid: u32, lba: u64, spot: Spot)
     requires lba { lba < size_in map.old nsid }
-    requires group { rg < 16 }
+    requires place { IsPageOf map.old.geometry spot }
     requires old { IfSome (mapped_at map.old nsid lba) (λ m. IsSome (owner_at pages.old.owners m.spot) × (m.spot ≢ spot)) }
     requires new { IsSome (owner_at pages.old.owners spot) }
-    ensures blocks { mapped_at map.new ≡ with_mapped (mapped_at map.old) nsid lba (Some (record { spot = spot; rg = rg })) }
+    ensures blocks { mapped_at map.new ≡ with_mapped (mapped_at map.old) nsid lba (Some (mapped_on map.old.geometry spot)) }
     ensures sizes { size_in map.new ≡ size_in map.old }
+    ensures geometry { map.new.geometry ≡ map.old.geometry }
     ensures owners { owner_at pages.new.owners ≡ with_taken (owner_at pages.old.owners) (mapped_at map.old nsid lba) spot }
     ensures pages { ChangesOwners pages.old pages.new }
 {
     clear_old(map, pages, nsid, lba);
     pages.hand_over(spot, Holder::Block);
-    map.put(nsid, lba, Mapped { spot, rg });
+    map.put(nsid, lba, spot);
 }
 
 /// The page that a block has has no owner any more, if it has one.

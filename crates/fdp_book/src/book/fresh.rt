@@ -4,7 +4,8 @@ ghost use Rattle.fdp_base.specs.Config.{IsValidConfig};
 ghost use Rattle.fdp_rules.specs.Effect.{chosen_handles};
 ghost use Rattle.fdp_rules.specs.History.{fresh};
 ghost use Rattle.fdp_book.specs.Book.{AreUnused, IsFirst};
-ghost use Rattle.fdp_book.specs.Configured.{AreConfiguredSpaces, HasFewHandles, IsConfiguredMap, made_as, no_pages};
+ghost use Rattle.fdp_book.specs.Configured.{AreConfiguredSpaces, HasFewHandles, IsConfiguredMap, fresh_opening, made_as};
+ghost use Rattle.fdp_locations.specs.Held.{pages_held};
 ghost use Rattle.fdp_book.specs.Held.{IsHeld};
 ghost use Rattle.fdp_spaces.specs.SpaceTable.{namespace_of};
 
@@ -15,9 +16,11 @@ use crate::tables::{Setting, Sums, Tables};
 use arrayvec::ArrayVec;
 use fdp_base::{DriveConfig, HandleList, NamespaceConfig};
 use fdp_map::Map;
+use fdp_origin::{Began, Origin};
 use fdp_pages::Pages;
 use fdp_spaces::{Space, SpaceHandles, Spaces};
 use std::alloc::{AllocError, Global};
+use std::marker::Brand;
 
 impl Book {
     /// The book of a drive as its configuration makes it: its namespaces have the identifiers from 1 on. It takes a place for
@@ -28,16 +31,26 @@ impl Book {
     {
         Ok(Book {
             config: config.copied()?,
+            origin: fresh_origin::<Brand>(alloc, config)?,
             log: Log::new(alloc, 0, config.unit_pages),
             tables: configured_tables(alloc, config)?,
         })
     }
 }
 
+/// What the run of a drive begins with as its configuration makes it.
+fn fresh_origin<J: Began>(alloc: Global, config: &DriveConfig) -> Result<Origin, AllocError>
+    requires { J.opening ≡ fresh_opening config.now }
+    ensures { IfOk result (λ origin. origin ≡ fresh_opening config.now) }
+{
+    let _ = config;
+    Origin::keep::<J>(alloc)
+}
+
 /// The tables of a drive as its configuration makes it.
 fn configured_tables(alloc: Global, config: &DriveConfig) -> Result<Tables, AllocError>
     requires { IsValidConfig config.now }
-    ensures held { IfOk result (λ tables. IsHeld config.now (fresh config.now) no_pages [] tables) }
+    ensures held { IfOk result (λ tables. IsHeld config.now (fresh config.now) (pages_held config.now (fresh_opening config.now).cells) [] tables) }
     ensures unused { IfOk result (λ tables. AreUnused config.now tables.pages) }
 {
     let classes = config.classes(config.enabled, config.index);
@@ -140,7 +153,7 @@ fn configured_map(alloc: Global, config: &DriveConfig) -> Result<Map, AllocError
     requires { IsValidConfig config.now }
     ensures { IfOk result (λ map. IsConfiguredMap config.now map) }
 {
-    let mut map = Map::new(alloc)?;
+    let mut map = Map::new(alloc, config.geometry())?;
     let namespaces = config.namespaces.as_slice();
     for place in 0..namespaces.len() {
         map.add(alloc, place as u32 + 1, namespaces[place].blocks)?;

@@ -1,6 +1,7 @@
 ghost use Rattle.fdp_base.specs.Config.{IsValidConfig};
 ghost use Rattle.std.specs.Prelude.{◌<◌, ◌≤◌, ◌^◌};
 ghost use Rattle.fdp_book.specs.Book.{IsLed, point_in, state_in};
+ghost use Rattle.fdp_history.specs.Listed.{IsListed};
 ghost use Rattle.fdp_history.specs.Orderly.{IsOrderly};
 ghost use Rattle.fdp_history.specs.Standing.{IsStanding};
 ghost use Rattle.fdp_locations.specs.Located.{AreUnitsOf};
@@ -21,6 +22,7 @@ impl Book {
         ensures joined { AreJoined self.now.pages }
         ensures orderly { IsOrderly self.now.config (point_in self.now) }
         ensures standing { IsStanding self.now.config (point_in self.now) }
+        ensures listed { IsListed self.now.config (state_in self.now) }
         ensures led { IsLed self.now }
         ensures generation { (state_in self.now).generation < 2 ^ 32 }
     {

@@ -1,6 +1,7 @@
-ghost use Rattle.std.specs.Prelude.{◌≡◌, ◌<◌, ◌≤◌, [], IsSome, IsTrue, length, option_map, vec_capacity, vec_len};
-ghost use Rattle.fdp_book.specs.Moving.{CanMove, HasPage, HasPageAt, IsMoved, MovesCopies, MovesCopy, NamesCopy, PutsPageAt, moved_to};
+ghost use Rattle.std.specs.Prelude.{◌≡◌, ◌<◌, ◌≤◌, [], IfSome, IsSome, IsTrue, length, option_map, vec_capacity, vec_len};
+ghost use Rattle.fdp_book.specs.Moving.{CanMove, HasPage, HasPageAt, IsMoved, MovesCopies, MovesCopy, NamesCopy, PutsPageAt, SharesCut, StaysIn, moved_to};
 ghost use Rattle.fdp_book.specs.Relocating.{MovesPass};
+ghost use Rattle.fdp_book.specs.Taking.{IsPageIn};
 ghost use Rattle.fdp_map.specs.MapTable.{mapped_at, size_in, with_mapped};
 ghost use Rattle.fdp_owners.specs.OwnerTable.{owner_at};
 ghost use Rattle.fdp_pages.specs.PageTables.{copies_at, is_under_way, passes_at};
@@ -13,7 +14,7 @@ use super::Book;
 use crate::flight::Flight;
 use crate::tables::Tables;
 use fdp_base::{BlockName, BlockNames, DataSpare, Entry, Moved, Spot};
-use fdp_map::{Map, Mapped};
+use fdp_map::Map;
 use fdp_owners::{Holder, Owner};
 
 impl Book {
@@ -40,6 +41,7 @@ impl Book {
 fn move_copies(tables: &mut Tables, rg: u16, names: &mut Vec<BlockName>)
     requires group { IsGroup tables.old.pages.units rg }
     requires pass { IsTrue (is_under_way tables.old.pages rg) }
+    requires cut { SharesCut tables.old.map tables.old.pages.units }
     requires few { tables.old.pages.units.unit_pages ≤ 256 }
     requires movable { AreMovable (owner_at tables.old.pages.owners) (copies_at tables.old.pages rg) }
     requires lead { CanMove tables.old }
@@ -60,6 +62,7 @@ fn move_copy(tables: &mut Tables, rg: u16, index: u32, names: &mut Vec<BlockName
     requires group { IsGroup tables.old.pages.units rg }
     requires pass { IsTrue (is_under_way tables.old.pages rg) }
     requires copy { index < length (copies_at tables.old.pages rg) }
+    requires cut { SharesCut tables.old.map tables.old.pages.units }
     requires lead { CanMove tables.old }
     requires room { vec_len names.old < vec_capacity names.old }
     ensures tables { MovesCopy tables.old tables.new rg index }
@@ -67,6 +70,7 @@ fn move_copy(tables: &mut Tables, rg: u16, index: u32, names: &mut Vec<BlockName
     ensures room { vec_capacity names.new ≡ vec_capacity names.old }
 {
     tables.pages.joined();
+    tables.map.placed();
     let to = tables.pages.copies(rg)[index as usize].to;
     if let Some(owner) = tables.pages.move_copy(rg, index) {
         put_owned(&mut tables.map, &mut tables.flights, owner, to);
@@ -89,7 +93,8 @@ fn name_of(owner: Owner) -> Option<BlockName>
 
 /// What a page is kept for has another page.
 fn put_owned(map: &mut Map, flights: &mut Vec<Option<Flight>>, owner: Owner, to: Spot)
-    requires { HasPage map.old flights.old.items owner }
+    requires page { HasPage map.old flights.old.items owner }
+    requires group { StaysIn map.old owner.holder owner.spare to }
     ensures { IsMoved map.old map.new flights.old.items flights.new.items owner to }
 {
     let spare = owner.spare;
@@ -104,19 +109,14 @@ fn put_owned(map: &mut Map, flights: &mut Vec<Option<Flight>>, owner: Owner, to:
 
 /// A block stands at another page of its group.
 fn put_block(map: &mut Map, nsid: u32, lba: u64, to: Spot)
-    requires { IsSome (mapped_at map.old nsid lba) }
+    requires block { IsSome (mapped_at map.old nsid lba) }
+    requires group { IfSome (mapped_at map.old nsid lba) (λ m. IsPageIn map.old.geometry m.rg to) }
     ensures blocks { mapped_at map.new ≡ with_mapped (mapped_at map.old) nsid lba (option_map (moved_to to) (mapped_at map.old nsid lba)) }
     ensures sizes { size_in map.new ≡ size_in map.old }
+    ensures geometry { map.new.geometry ≡ map.old.geometry }
 {
     match map.get(nsid, lba) {
-        Some(mapped) => map.put(
-            nsid,
-            lba,
-            Mapped {
-                spot: to,
-                rg: mapped.rg,
-            },
-        ),
+        Some(_) => map.put(nsid, lba, to),
         None => unreachable!(),
     }
 }

@@ -65,7 +65,7 @@ impl Pages {
     }
 
     /// A page that was used gets an owner.
-    fn fill(&mut self, spot: Spot, owner: Owner)
+    pub(super) fn fill(&mut self, spot: Spot, owner: Owner)
         requires { MayFill self.old spot owner }
         ensures owners { owner_at self.new.owners ≡ with_owner (owner_at self.old.owners) spot (Some owner) }
         ensures rest { ChangesOwners self.old self.new }

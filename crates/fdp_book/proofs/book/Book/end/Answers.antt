@@ -1,9 +1,7 @@
 use Rattle.std.proofs.Common.{◌≡◌, ◌∙◌, ap, false, refl, subst, sym, List, Some, [], ◌∷◌, ◌++◌}
 use Rattle.fdp_base.specs.declared.entry.Entry.{Entry}
 use Rattle.fdp_rules.specs.Answer.{bare}
-use Rattle.fdp_rules.specs.History.{fresh}
 use Rattle.fdp_book.specs.Book.{BookSeen, IsLonger, state_in}
-use Rattle.fdp_book.specs.Configured.{no_pages}
 use Rattle.fdp_book.specs.declared.flight.Flight.{Flight}
 use Rattle.fdp_book.specs.Held.{IsHeld, book_of, flight_in}
 use Rattle.fdp_book.specs.Steps.{Completes}
@@ -12,12 +10,13 @@ use Rattle.fdp_book.proofs.Ending.{completed, completes-by, ended-entry, ending,
 use Rattle.fdp_book.proofs.Forgetting.{may-forget}
 use Rattle.fdp_locations.proofs.Ended.{host}
 use Rattle.fdp_book.proofs.book.Book.end.Goals as goal
+use Rattle.fdp_locations.specs.Held.{pages_held}
 
 pub forget-requires : goal.forget-requires
 forget-requires c =
     let old = c.self.inside in
-    let b : BookSeen = book_of old.config (fresh old.config) old.log old.tables in
-    may-forget old.config (fresh old.config) no_pages old.log.entries old.tables c.give_up-queue.result c.self.invariant.held
+    let b : BookSeen = book_of old.config old.origin old.log old.tables in
+    may-forget old.config old.origin.found (pages_held old.config old.origin.cells) old.log.entries old.tables c.give_up-queue.result c.self.invariant.held
     (flying-queue b c.args.self.now old.tables c.give_up-queue.result c.args.ticket c.self.invariant.held c.self.view_is c.give_up-queue.ensures c.requires.going)
 
 abbrev flight : goal.After-push_host → Flight
@@ -33,9 +32,9 @@ longer c = c.push_host.ensures.log.entries_are
 pub invariant_of-self : goal.invariant_of-self
 invariant_of-self c =
     let old = c.self.inside in
-    let b : BookSeen = book_of old.config (fresh old.config) old.log old.tables in
+    let b : BookSeen = book_of old.config old.origin old.log old.tables in
     record {
-      held = subst (λ (es : List Entry). IsHeld old.config (fresh old.config) no_pages es c.forget.new.tables) (sym (longer c))
+      held = subst (λ (es : List Entry). IsHeld old.config old.origin.found (pages_held old.config old.origin.cells) es c.forget.new.tables) (sym (longer c))
           (held-ending b c.args.self.now old.tables c.forget.new.tables c.give_up-queue.result c.args.ticket (flight c) c.args.status c.args.moment c.forget.result
           c.self.invariant.held c.self.view_is c.give_up-queue.ensures (there c) c.requires.going c.forget.ensures);
       before_is = c.push_host.ensures.log.before_is ∙ c.self.invariant.before_is;
@@ -45,11 +44,11 @@ invariant_of-self c =
 pub returns-clause-step : goal.returns-clause-step
 returns-clause-step c g is =
     let old = c.self.inside in
-    let b : BookSeen = book_of old.config (fresh old.config) old.log old.tables in
-    let new : BookSeen = book_of old.config (fresh old.config) c.push_host.new.log c.forget.new.tables in
+    let b : BookSeen = book_of old.config old.origin old.log old.tables in
+    let new : BookSeen = book_of old.config old.origin c.push_host.new.log c.forget.new.tables in
     let k = ending b c.args.self.now old.tables c.give_up-queue.result c.args.ticket (flight c) c.self.invariant.held c.self.view_is c.give_up-queue.ensures (there c) c.requires.going in
     let step : IsLonger b new (host c.give_up-queue.result (flight c).number c.end-command.result.0 c.end-command.result.1.history c.args.moment ∷ []) =
-    record { config_is = refl; found_is = refl; entries_are = c.push_host.ensures.log.entries_are; spare_is = c.push_host.ensures.log.spare_is; spent_is = c.push_host.ensures.log.spent_is; room_is = c.push_host.ensures.log.room_is } in
+    record { config_is = refl; found_is = refl; opened_is = refl; entries_are = c.push_host.ensures.log.entries_are; spare_is = c.push_host.ensures.log.spare_is; spent_is = c.push_host.ensures.log.spent_is; room_is = c.push_host.ensures.log.room_is } in
     subst (λ (y : BookSeen). Completes y new [] c.args.ticket.queue g.number g.command (bare c.args.status false) c.args.moment c.push_host.result) c.self.view_is
     (completes-by b new [] c.args.ticket (flight c) g (bare c.args.status false) c.args.moment c.push_host.result k.own (subst (λ (y : BookSeen). IsTicketOf (state_in y) c.args.ticket g) (sym c.self.view_is) is)
     (completed b new c.give_up-queue.result (flight c).number c.args.moment c.args.ticket (flight c) c.end-command.result.0 c.end-command.result.1 (bare c.args.status false) c.push_host.result c.push_host.new.log

@@ -2,9 +2,11 @@ use Rattle.std.proofs.Common.{◌≡◌, ◌∙◌, List, [], ap, sym, subst}
 use Rattle.fdp_base.specs.declared.config.DriveConfig.{DriveConfig}
 use Rattle.fdp_base.specs.declared.entry.Entry.{Entry}
 use Rattle.fdp_rules.specs.History.{fresh}
-use Rattle.fdp_book.specs.Configured.{no_pages}
-use Rattle.fdp_book.specs.Held.{IsHeld}
+use Rattle.fdp_book.specs.Configured.{fresh_opening}
+use Rattle.fdp_book.specs.Held.{IsBook, IsHeld}
 use Rattle.fdp_book.specs.Logged.{Logged}
+use Rattle.fdp_locations.specs.Held.{pages_held}
+use Rattle.fdp_origin.specs.Opening.{Opening}
 use Rattle.fdp_book.proofs.book.Book.fresh.Goals as goal
 
 pub invariant_of-result : goal.invariant_of-result
@@ -12,9 +14,11 @@ unfolding fresh
 invariant_of-result c =
     let tables = c.in_ok-configured_tables.field-0 in
     let first : c.new.result.entries ≡ [] = ap (λ (l : Logged). l.entries) c.new.ensures in
-    record {
-      held = subst (λ (d : DriveConfig). IsHeld d (fresh d) no_pages c.new.result.entries tables) (sym c.in_ok-copied.ensures)
-          (subst (λ (es : List Entry). IsHeld c.args.config.now (fresh c.args.config.now) no_pages es tables) (sym first) c.in_ok-configured_tables.ensures.held);
+    let config = c.args.config.now in
+    let book : IsBook config (fresh_opening config) c.new.result tables = record {
+      held = subst (λ (es : List Entry). IsHeld config (fresh config) (pages_held config (fresh_opening config).cells) es tables) (sym first) c.in_ok-configured_tables.ensures.held;
       before_is = ap (λ (l : Logged). l.before) c.new.ensures;
-      names_are = ap (λ (l : Logged). l.names) c.new.ensures ∙ ap (λ (d : DriveConfig). d.unit_pages) (sym c.in_ok-copied.ensures);
-    }
+      names_are = ap (λ (l : Logged). l.names) c.new.ensures;
+    } in
+    subst (λ (o : Opening). IsBook c.in_ok-copied.field-0 o c.new.result tables) (sym c.in_ok-fresh_origin.ensures)
+    (subst (λ (d : DriveConfig). IsBook d (fresh_opening config) c.new.result tables) (sym c.in_ok-copied.ensures) book)

@@ -6,7 +6,6 @@ use Rattle.fdp_base.specs.CommandKinds.{write_of}
 use Rattle.fdp_book.specs.declared.flight.Flight.{Flight}
 use Rattle.fdp_book.specs.declared.tables.Tables.{Tables}
 use Rattle.fdp_book.specs.Book.{BookSeen, point_in, state_in}
-use Rattle.fdp_book.specs.Configured.{no_pages}
 use Rattle.fdp_book.specs.Flown.{IsUnfinished}
 use Rattle.fdp_book.specs.Held.{IsHeld, book_of, flight_in, going_of}
 use Rattle.fdp_book.specs.Steps.{Places}
@@ -19,10 +18,10 @@ use Rattle.fdp_locations.specs.Written.{next_spare}
 use Rattle.fdp_owners.specs.declared.owner.Holder.TheVariants as holders
 use Rattle.fdp_owners.specs.declared.owner.Owner.{Owner}
 use Rattle.fdp_pages.specs.Steps.{MayPut, PutsPage}
-use Rattle.fdp_rules.specs.History.{fresh}
 use Rattle.fdp_rules.specs.PlainState.{Going}
 use Rattle.fdp_rules.specs.Step.{Follows}
 use Rattle.fdp_book.proofs.book.Book.place.Goals as goal
+use Rattle.fdp_locations.specs.Held.{pages_held}
 
 pub next_spare-requires-clause-lba : goal.next_spare-requires-clause-lba
 next_spare-requires-clause-lba c =
@@ -39,7 +38,7 @@ place-requires-clause-page c =
 pub push_page-requires : goal.push_page-requires
 push_page-requires c =
     let old = c.self.inside in
-    let b : BookSeen = book_of old.config (fresh old.config) old.log old.tables in
+    let b : BookSeen = book_of old.config old.origin old.log old.tables in
     let k = placing b c.args.self.now old.tables c.args.ticket.now c.args.spot c.flight-flight.result.now c.self.invariant.held c.self.view_is c.requires.waiting c.requires.next c.flight-flight.ensures in
     let slot = slot-is old.tables.flights.items c.args.ticket.now.queue c.from.result c.index_mut.result.now k.0 c.from.ensures k.1.within k.1.there c.index_mut.ensures.value in
     subst (λ (o : Option Flight). IsUnfinished o) (sym slot) k.1.unfinished
@@ -47,7 +46,7 @@ push_page-requires c =
 pub invariant_of-self : goal.invariant_of-self
 invariant_of-self c =
     let old = c.self.inside in
-    let b : BookSeen = book_of old.config (fresh old.config) old.log old.tables in
+    let b : BookSeen = book_of old.config old.origin old.log old.tables in
     let k = placing b c.args.self.now old.tables c.args.ticket.now c.args.spot c.flight-flight.result.now c.self.invariant.held c.self.view_is c.requires.waiting c.requires.next c.flight-flight.ensures in
     let x : Flight = c.flight-flight.result.now in
     let f : Flight = k.0 in
@@ -68,7 +67,7 @@ invariant_of-self c =
     ∙ ap (λ (n : ℕ). old.log.entries ++ entries.Placed (record { ticket = c.args.ticket.now.position; index = n; unit = spot.unit; page = spot.page }) ∷ []) count
     ∙ ap (λ (t : ℕ). old.log.entries ++ entries.Placed (record { ticket = t; index = length f.pages.items; unit = spot.unit; page = spot.page }) ∷ []) (sym ticket) in
     let now : Tables = record old.tables { sums = record old.tables.sums { media_blocks = old.tables.sums.media_blocks + 1 }; flights = with_item old.tables.flights c.from.result c.push_page.new.flight; pages = c.place.new.self } in
-    let held = held-placed old.config (fresh old.config) no_pages old.log.entries old.tables now c.args.ticket.now.queue f more.0 spot write.0 owner
+    let held = held-placed old.config old.origin.found (pages_held old.config old.origin.cells) old.log.entries old.tables now c.args.ticket.now.queue f more.0 spot write.0 owner
     c.self.invariant.held c.joined.ensures k.1.there
     (subst (λ (t : ℕ). (told : Bool) → Follows told old.config (point_in b) (entries.Placed (record { ticket = t; index = length f.pages.items; unit = spot.unit; page = spot.page }))) (sym ticket) k.1.next.follows)
     (record {
@@ -87,7 +86,7 @@ invariant_of-self c =
       fresh = fresh_page;
     }) in
     record {
-      held = subst (λ (es : List Entry). IsHeld old.config (fresh old.config) no_pages es now) (sym entry) held;
+      held = subst (λ (es : List Entry). IsHeld old.config old.origin.found (pages_held old.config old.origin.cells) es now) (sym entry) held;
       before_is = c.push.ensures.before_is ∙ c.self.invariant.before_is;
       names_are = c.push.ensures.names_are ∙ c.self.invariant.names_are;
     }
@@ -95,9 +94,9 @@ invariant_of-self c =
 pub returns : goal.returns
 returns c g is =
     let old = c.self.inside in
-    let b : BookSeen = book_of old.config (fresh old.config) old.log old.tables in
+    let b : BookSeen = book_of old.config old.origin old.log old.tables in
     let now : Tables = record old.tables { sums = record old.tables.sums { media_blocks = old.tables.sums.media_blocks + 1 }; flights = with_item old.tables.flights c.from.result c.push_page.new.flight; pages = c.place.new.self } in
-    let new : BookSeen = book_of old.config (fresh old.config) c.push.new.self now in
+    let new : BookSeen = book_of old.config old.origin c.push.new.self now in
     let k = placing b c.args.self.now old.tables c.args.ticket.now c.args.spot c.flight-flight.result.now c.self.invariant.held c.self.view_is c.requires.waiting c.requires.next c.flight-flight.ensures in
     let f : Flight = k.0 in
     let spot = c.args.spot in
@@ -111,6 +110,6 @@ returns c g is =
     flight_in-put old.tables.flights.items c.args.ticket.now.queue c.from.result c.push_page.new.flight more.0 c.from.ensures k.1.within more.1 in
     subst (λ (x : BookSeen). Places x new c.args.ticket.now g spot c.push_page.result) c.self.view_is
     (places-step b new now c.args.ticket.now f more.0 spot g c.push_page.result (invariant_of-self c).held there more.2 k.1.ticket_is owner puts
-    (record { config_is = refl; found_is = refl; entries_are = c.push.ensures.entries_are ∙ ap (λ (n : ℕ). old.log.entries ++ entries.Placed (record { ticket = c.args.ticket.now.position; index = n; unit = spot.unit; page = spot.page }) ∷ []) count; spare_is = c.push.ensures.spare_is; spent_is = c.push.ensures.spent_is; room_is = c.push.ensures.room_is })
+    (record { config_is = refl; found_is = refl; opened_is = refl; entries_are = c.push.ensures.entries_are ∙ ap (λ (n : ℕ). old.log.entries ++ entries.Placed (record { ticket = c.args.ticket.now.position; index = n; unit = spot.unit; page = spot.page }) ∷ []) count; spare_is = c.push.ensures.spare_is; spent_is = c.push.ensures.spent_is; room_is = c.push.ensures.room_is })
     (c.push_page.ensures.last f slot)
     (subst (λ (x : BookSeen). IsTicketOf (state_in x) c.args.ticket.now g) (sym c.self.view_is) is))

@@ -15,18 +15,17 @@ use Rattle.fdp_book.specs.Extent.{extent}
 use Rattle.fdp_book.specs.Room.{RoomSeen}
 use Rattle.fdp_book.specs.Steps.{MayStart}
 use Rattle.fdp_book.specs.declared.flight.Flight.{Flight}
-use Rattle.fdp_book.specs.Book.{BookSeen, IsLonger, point_in, position_in, state_in}
+use Rattle.fdp_book.specs.Book.{BookSeen, IsLonger, point_in, position_in, state_in, first_in}
 use Rattle.fdp_book.specs.Held.{IsHeld, book_of}
 use Rattle.fdp_book.proofs.Held.Started.{IsLetGo, held_started}
 use Rattle.fdp_book.proofs.Flights.LetGo.{IsMadeFor, let-go, starts}
 use Rattle.fdp_book.specs.declared.tables.Tables.{Tables}
-use Rattle.fdp_book.specs.Configured.{no_pages}
 use Rattle.fdp_book.specs.Held.{flight_in}
 use Rattle.fdp_book.proofs.Forgetting.{may-forget, set-twice}
 use Rattle.fdp_rules.specs.Step.{IsQueue}
 use Rattle.std.specs.Vec.{with_item}
 use Rattle.fdp_book.proofs.book.Book.start.Goals as goal
-use Rattle.fdp_rules.specs.History.{fresh}
+use Rattle.fdp_locations.specs.Held.{pages_held}
 
 birth-read : (o p : Option Namespace) → o ≡ p → unwrap_or (option_map (λ (x : Namespace). x.birth) p) 0 ≡ option_map_or (λ (x : Namespace). x.birth) o 0
 birth-read None None e = refl
@@ -41,8 +40,8 @@ flight c = c.new_flight-flight.result
 abbrev started-entry : goal.After-push → Entry
 started-entry c = entries.Started (record { queue = c.args.queue; number = c.args.number; command = c.args.command; rg = c.args.admission.target.rg; ruh = c.args.admission.target.ruh; pid_valid = c.args.admission.target.valid })
 
-held : (c : goal.After-push) → IsHeld c.args.self.now.config c.args.self.now.found no_pages c.args.self.now.entries c.self.inside.tables
-held c = subst (λ (b : BookSeen). IsHeld b.config b.found no_pages b.entries c.self.inside.tables) c.self.view_is c.self.invariant.held
+held : (c : goal.After-push) → IsHeld c.args.self.now.config c.args.self.now.found (first_in c.args.self.now) c.args.self.now.entries c.self.inside.tables
+held c = subst (λ (b : BookSeen). IsHeld b.config b.found (first_in b) b.entries c.self.inside.tables) c.self.view_is c.self.invariant.held
 
 abbrev the-write : goal.After-push → Write
 the-write c = c.requires.may.admitted.write
@@ -90,18 +89,18 @@ entry-is c = ap (λ (g : Going). entries.Started (record { queue = c.args.queue;
 pub drop_flight-requires : goal.drop_flight-requires
 drop_flight-requires c =
     let old = c.self.inside in
-    may-forget old.config (fresh old.config) no_pages old.log.entries old.tables c.args.queue c.self.invariant.held (subst (λ (b : BookSeen). IsQueue b.config c.args.queue) (sym c.self.view_is) c.requires.may.queue_is)
+    may-forget old.config old.origin.found (pages_held old.config old.origin.cells) old.log.entries old.tables c.args.queue c.self.invariant.held (subst (λ (b : BookSeen). IsQueue b.config c.args.queue) (sym c.self.view_is) c.requires.may.queue_is)
 
 pub invariant_of-self : goal.invariant_of-self
 invariant_of-self c =
     let old = c.self.inside in
-    let go_old : IsLetGo old.config (point_in (book_of old.config (fresh old.config) old.log old.tables)) c.args.queue c.args.number c.args.command (flight c) =
+    let go_old : IsLetGo old.config (point_in (book_of old.config old.origin old.log old.tables)) c.args.queue c.args.number c.args.command (flight c) =
     subst (λ (b : BookSeen). IsLetGo b.config (point_in b) c.args.queue c.args.number c.args.command (flight c)) (sym c.self.view_is) (go c) in
     let mid : Tables = c.drop_flight.new.tables in
     let now : Tables = record mid { flights = with_item mid.flights c.from.result (Some (flight c)) } in
     let forgets = c.drop_flight.ensures in
     record {
-      held = held_started old.config (fresh old.config) no_pages old.log.entries c.push.new.self.entries old.tables mid now c.args.queue c.args.number c.args.command (flight c)
+      held = held_started old.config old.origin.found (pages_held old.config old.origin.cells) old.log.entries c.push.new.self.entries old.tables mid now c.args.queue c.args.number c.args.command (flight c)
           c.self.invariant.held go_old
           (record {
             old = flight_in old.tables.flights.items c.args.queue;
@@ -123,10 +122,10 @@ returns-clause-step c =
     let old = c.self.inside in
     let mid : Tables = c.drop_flight.new.tables in
     let now : Tables = record mid { flights = with_item mid.flights c.from.result (Some (flight c)) } in
-    let new : BookSeen = book_of old.config (fresh old.config) c.push.new.self now in
+    let new : BookSeen = book_of old.config old.origin c.push.new.self now in
     let longer : IsLonger c.args.self.now new (started-entry c ∷ []) =
     subst (λ (b : BookSeen). IsLonger b new (started-entry c ∷ [])) c.self.view_is
-    (record { config_is = refl; found_is = refl; entries_are = c.push.ensures.entries_are; spare_is = c.push.ensures.spare_is; spent_is = c.push.ensures.spent_is; room_is = c.push.ensures.room_is }) in
+    (record { config_is = refl; found_is = refl; opened_is = refl; entries_are = c.push.ensures.entries_are; spare_is = c.push.ensures.spare_is; spent_is = c.push.ensures.spent_is; room_is = c.push.ensures.room_is }) in
     let ticket_is = ap (λ (g : Going). record { queue = c.args.queue; number = c.args.number; position = g.ticket }) (sym c.new_flight-flight.ensures.going) in
     starts c.args.self.now new c.args.queue c.args.number c.args.command (the-write c) (flight c) (record { queue = c.args.queue; number = c.args.number; position = c.position-position.result + 1 }) (held c).orderly (go c) c.requires.may.admitted.command_is (made c)
     (subst (λ (e : Entry). IsLonger c.args.self.now new (e ∷ [])) (entry-is c) longer) ticket_is

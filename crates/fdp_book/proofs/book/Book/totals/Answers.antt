@@ -1,5 +1,5 @@
 use Rattle.std.proofs.Common.{◌≡◌, ◌+◌, length, ◌∙◌, ap, subst, sym, ℕ}
-use Rattle.fdp_rules.specs.History.{fresh, totals_of}
+use Rattle.fdp_rules.specs.History.{totals_of}
 use Rattle.fdp_rules.specs.Totals.{erases}
 use Rattle.fdp_book.specs.Book.{BookSeen}
 use Rattle.fdp_book.specs.Held.{AreSumsOf}
@@ -9,9 +9,9 @@ pub returns : goal.returns
 unfolding totals_of
 returns c =
     let old = c.self.inside in
-    let sums : AreSumsOf (fresh old.config) old.log.entries old.tables.sums = c.self.invariant.held.sums_are in
-    let erased : old.tables.sums.erases ≡ (fresh old.config).totals.erases + erases old.log.entries = sym sums.erases_are in
-    let position : c.position.result ≡ (fresh old.config).totals.position + length old.log.entries = c.position.ensures.position ∙ ap (λ (n : ℕ). n + length old.log.entries) c.self.invariant.before_is in
-    let all : record { position = c.position.result; host_blocks = old.tables.sums.host_blocks; media_blocks = old.tables.sums.media_blocks; erases = old.tables.sums.erases } ≡ totals_of (fresh old.config) old.log.entries =
+    let sums : AreSumsOf old.origin.found old.log.entries old.tables.sums = c.self.invariant.held.sums_are in
+    let erased : old.tables.sums.erases ≡ old.origin.found.totals.erases + erases old.log.entries = sym sums.erases_are in
+    let position : c.position.result ≡ old.origin.found.totals.position + length old.log.entries = c.position.ensures.position ∙ ap (λ (n : ℕ). n + length old.log.entries) c.self.invariant.before_is in
+    let all : record { position = c.position.result; host_blocks = old.tables.sums.host_blocks; media_blocks = old.tables.sums.media_blocks; erases = old.tables.sums.erases } ≡ totals_of old.origin.found old.log.entries =
     cc (position, sums.host_blocks_are, sums.media_blocks_are, erased) in
     subst (λ (b : BookSeen). record { position = c.position.result; host_blocks = old.tables.sums.host_blocks; media_blocks = old.tables.sums.media_blocks; erases = old.tables.sums.erases } ≡ totals_of b.found b.entries) c.self.view_is all

@@ -1,5 +1,6 @@
 use Rattle.std.proofs.Common.{◌≡◌, ◌∙◌, ◌<◌, ◌≤◌, List, ap, arith, length, refl, subst, sym, vec_len}
 use Rattle.std.specs.Prelude.{IsTrue}
+use Rattle.fdp_base.specs.declared.config.Geometry.{Geometry}
 use Rattle.fdp_book.proofs.Relocating.Moves.{copies-stay, moved-first, moved-next, names-below}
 use Rattle.fdp_pages.specs.PageTables.{copies_at, is_under_way}
 use Rattle.fdp_passes.specs.GroupPasses.{GroupPasses}
@@ -26,6 +27,11 @@ move_copy-requires-clause-copy c =
 
 pub move_copy-requires-clause-lead : goal.move_copy-requires-clause-lead
 move_copy-requires-clause-lead c = (c.requires.lead.0, c.loop-index.invariant.moved.moves.kept.leads c.requires.lead.0 c.requires.lead.1)
+
+pub move_copy-requires-clause-cut : goal.move_copy-requires-clause-cut
+move_copy-requires-clause-cut c =
+    let kept = c.loop-index.invariant.moved.moves.kept in
+    kept.pages.units.cut ∙ c.requires.cut ∙ ap (λ (g : Geometry). record { unit_pages = g.unit_pages; group_units = g.units; groups = g.groups }) (sym kept.map.geometry)
 
 pub loop-index-preserved : goal.loop-index-preserved
 loop-index-preserved c =

@@ -2,22 +2,32 @@ use Rattle.std.proofs.Common.{◌≡◌, ◌∙◌, List, None, Some, ap, refl, 
 use Rattle.std.proofs.lemmas.Option.{get_or_from_slice_get}
 use Rattle.fdp_base.specs.declared.entry.Copied.{Copied}
 use Rattle.fdp_book.specs.declared.tables.Tables.{Tables}
-use Rattle.fdp_book.specs.Moving.{IsMoved}
+use Rattle.fdp_book.specs.Moving.{IsMoved, StaysIn}
 use Rattle.fdp_book.proofs.Relocating.Leads.{copy-moved, copy-passed, page-there}
 use Rattle.fdp_book.proofs.Relocating.Moves.{copy-at, of-copy}
+use Rattle.fdp_book.proofs.Relocating.Staying.{stays-in}
 use Rattle.fdp_owners.specs.declared.owner.Owner.{Owner}
 use Rattle.fdp_owners.specs.Owned.{page_of}
 use Rattle.fdp_owners.specs.OwnerTable.{owner_at}
 use Rattle.fdp_pages.specs.Steps.{moved}
 use Rattle.fdp_book.proofs.book.move_pass.move_copy.Goals as goal
 
-pub put_owned-requires : goal.put_owned-requires
-put_owned-requires c =
+pub put_owned-requires-clause-page : goal.put_owned-requires-clause-page
+put_owned-requires-clause-page c =
     let t : Tables = c.args.tables.now in
     let k = copy-at t.pages c.args.rg c.args.index c.joined.ensures c.requires.group c.requires.copy in
     let x : Owner = c.in-Some.owner in
     let was : owner_at t.pages.owners k.copy.from ≡ Some x = sym (of-copy t.pages c.args.rg c.args.index k (λ (y : Copied). c.move_copy.result ≡ owner_at t.pages.owners y.from) c.move_copy.ensures.owner) ∙ c.in-Some.is in
     page-there c.requires.lead.0 t.map t.flights.items c.requires.lead.1.at x.holder x.spare (page_of k.copy.from x) c.requires.lead.1.leads (c.requires.lead.1.owned.led k.copy.from x was)
+
+pub put_owned-requires-clause-group : goal.put_owned-requires-clause-group
+put_owned-requires-clause-group c =
+    let t : Tables = c.args.tables.now in
+    let k = copy-at t.pages c.args.rg c.args.index c.joined.ensures c.requires.group c.requires.copy in
+    let x : Owner = c.in-Some.owner in
+    let was : owner_at t.pages.owners k.copy.from ≡ Some x = sym (of-copy t.pages c.args.rg c.args.index k (λ (y : Copied). c.move_copy.result ≡ owner_at t.pages.owners y.from) c.move_copy.ensures.owner) ∙ c.in-Some.is in
+    subst (λ (y : Copied). StaysIn t.map x.holder x.spare y.to) (sym (get_or_from_slice_get c.copies.result.now c.args.index k.copy _ (ap (λ (xs : List Copied). slice_get xs c.args.index) c.copies.ensures.copies ∙ k.copy_is)))
+    (stays-in c.requires.lead.0 t.map t.flights.items c.requires.lead.1.at t.pages c.args.rg k.copy x.holder x.spare (page_of k.copy.from x) c.requires.cut k.lies c.placed.ensures.places c.requires.lead.1.leads (c.requires.lead.1.owned.led k.copy.from x was) refl)
 
 pub returns-in-Some-name_of-clause-tables : goal.returns-in-Some-name_of-clause-tables
 returns-in-Some-name_of-clause-tables c =

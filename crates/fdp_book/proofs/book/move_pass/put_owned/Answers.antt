@@ -9,13 +9,13 @@ use Rattle.fdp_book.proofs.book.move_pass.put_owned.Goals as goal
 
 pub put_page-requires : goal.put_page-requires
 put_page-requires c =
-    let has : HasPageAt (flight_in c.args.flights.now.items c.in-Flight.queue) c.args.owner.spare.index = subst (λ (x : Holder). HasPageIn c.args.map.now c.args.flights.now.items x c.args.owner.spare) c.in-Flight.is c.requires in
+    let has : HasPageAt (flight_in c.args.flights.now.items c.in-Flight.queue) c.args.owner.spare.index = subst (λ (x : Holder). HasPageIn c.args.map.now c.args.flights.now.items x c.args.owner.spare) c.in-Flight.is c.requires.page in
     let slot = slot-is c.args.flights.now.items c.in-Flight.queue c.from.result c.index_mut-flight.result.now has.flight c.from.ensures (row-there c.args.flights.now.items c.in-Flight.queue has.flight has.flight_is) has.flight_is c.index_mut-flight.ensures.value in
     record { flight = has.flight; flight_is = slot; within = has.within }
 
 pub returns-in-Flight : goal.returns-in-Flight
 returns-in-Flight c =
-    let has : HasPageAt (flight_in c.args.flights.now.items c.in-Flight.queue) c.args.owner.spare.index = subst (λ (x : Holder). HasPageIn c.args.map.now c.args.flights.now.items x c.args.owner.spare) c.in-Flight.is c.requires in
+    let has : HasPageAt (flight_in c.args.flights.now.items c.in-Flight.queue) c.args.owner.spare.index = subst (λ (x : Holder). HasPageIn c.args.map.now c.args.flights.now.items x c.args.owner.spare) c.in-Flight.is c.requires.page in
     let slot = slot-is c.args.flights.now.items c.in-Flight.queue c.from.result c.index_mut-flight.result.now has.flight c.from.ensures (row-there c.args.flights.now.items c.in-Flight.queue has.flight has.flight_is) has.flight_is c.index_mut-flight.ensures.value in
     subst (λ (x : Holder). IsMovedIn c.args.map.now c.args.map.now c.args.flights.now.items (slice_set c.args.flights.now.items c.from.result c.put_page.new.flight) x c.args.owner.spare c.args.to) (sym c.in-Flight.is) (
       record {
