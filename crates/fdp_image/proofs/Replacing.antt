@@ -29,7 +29,7 @@ use Rattle.fdp_image.proofs.NextRecord.{read_by}
 
 -- ---- pages beside the area
 
-take_same : (n : ℕ) (xs ys : List Cell) → ((k : ℕ) → k < n → slice_get xs k ≡ slice_get ys k) → take n xs ≡ take n ys
+pub take_same : (n : ℕ) (xs ys : List Cell) → ((k : ℕ) → k < n → slice_get xs k ≡ slice_get ys k) → take n xs ≡ take n ys
 take_same zero xs ys h = refl
 take_same (suc n) [] [] h = refl
 take_same (suc n) [] (y ∷ ys) h = let bad = h 0 (omega arith) in absurd cc

@@ -1,0 +1,9 @@
+pub mod Drawing
+pub mod Sizes
+pub mod Leading
+pub mod Keeping
+pub mod Staying
+pub mod Saving
+pub mod Moving
+pub mod Passing
+pub mod Commanding

@@ -1,0 +1,5 @@
+pub mod Changes
+pub mod Drawn
+pub mod Holding
+pub mod Lasting
+pub mod Named
