@@ -11,16 +11,19 @@ use Rattle.fdp_pointers.specs.Facts.{HasOnlyPlaced}
 use Rattle.fdp_rules.specs.History.{Found, point_of}
 
 -- what is kept apart, by the parts of a book
-record IsLanedBy (cells : List Cell) (c : DriveConfig) (found : Found) (es : List Entry) (t : PageTables) : Type 0 where
-  pub laned : IsLaned c (point_of c found es).state.generation (since_setting es) t cells
+pub record IsLanedBy (cells : List Cell) (c : DriveConfig) (found : Found) (es : List Entry) (t : PageTables) : Type 0 where
+  pub laned : IsLaned c (point_of c found es).state.generation es (since_setting es) t cells
   pub placed : HasOnlyPlaced (point_of c found es)
+
+pub laned-by : (b : BookSeen) (cells : List Cell) (c : DriveConfig) (found : Found) (es : List Entry) → b.config ≡ c → b.found ≡ found → b.entries ≡ es → IsLanedBy cells c found es b.pages → AreLaned b cells
+laned-by b cells c found es config is entries h =
+    let now : IsLanedBy cells b.config b.found b.entries b.pages =
+    subst (λ (d : DriveConfig). IsLanedBy cells d b.found b.entries b.pages) (sym config)
+    (subst (λ (f : Found). IsLanedBy cells c f b.entries b.pages) (sym is)
+    (subst (λ (xs : List Entry). IsLanedBy cells c found xs b.pages) (sym entries) h)) in
+    record { laned = now.laned; placed = now.placed }
 
 pub laned-alike : (b d : BookSeen) (cells : List Cell) → d.config ≡ b.config → d.found ≡ b.found → d.entries ≡ b.entries → d.pages ≡ b.pages → AreLaned b cells → AreLaned d cells
 laned-alike b d cells config found entries pages h =
-    let was : IsLanedBy cells b.config b.found b.entries b.pages = record { laned = h.laned; placed = h.placed } in
-    let now : IsLanedBy cells d.config d.found d.entries d.pages =
-    subst (λ (c : DriveConfig). IsLanedBy cells c d.found d.entries d.pages) (sym config)
-    (subst (λ (f : Found). IsLanedBy cells b.config f d.entries d.pages) (sym found)
-    (subst (λ (es : List Entry). IsLanedBy cells b.config b.found es d.pages) (sym entries)
-    (subst (λ (t : PageTables). IsLanedBy cells b.config b.found b.entries t) (sym pages) was))) in
-    record { laned = now.laned; placed = now.placed }
+    laned-by d cells b.config b.found b.entries config found entries
+    (subst (λ (t : PageTables). IsLanedBy cells b.config b.found b.entries t) (sym pages) (record { laned = h.laned; placed = h.placed }))

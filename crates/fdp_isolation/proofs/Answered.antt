@@ -13,8 +13,8 @@ use Rattle.fdp_book.specs.Steps.{Completes, IsServed}
 use Rattle.fdp_flash.specs.declared.cell.Cell.{Cell}
 use Rattle.fdp_isolation.specs.Isolated.{sets_placement}
 use Rattle.fdp_isolation.specs.Laned.{AreLaned, IsKnown}
-use Rattle.fdp_isolation.proofs.Entries.{AreQuiet, generation-next, no, only-placed-host, point-one, written-one}
-use Rattle.fdp_isolation.proofs.Keeping.{laned-still, owners-fill}
+use Rattle.fdp_isolation.proofs.Entries.{AreQuiet, generation-next, no, only-placed-host}
+use Rattle.fdp_isolation.proofs.Keeping.{laned-still, owners-fill, taken-kept}
 use Rattle.fdp_isolation.proofs.Owning.{KeepsOwners, MayEnd, StoodBehind, book-owners, force-kept, host-site, stood-host}
 use Rattle.fdp_owners.specs.OwnerTable.{owner_at}
 use Rattle.fdp_pages.specs.Steps.{ChangesOwners}
@@ -22,6 +22,7 @@ use Rattle.fdp_pointers.specs.Contents.{content_at}
 use Rattle.fdp_pointers.specs.Facts.{HasOnlyPlaced}
 use Rattle.fdp_rules.specs.Next.{next}
 use Rattle.fdp_rules.specs.Point.{Point}
+use Rattle.fdp_book.proofs.Longer.{point-one, written-one}
 
 -- neither a write nor a read puts another configuration in force
 pub served-quiet : (command : Command) (made : Bool) → IsServed command → ((is_setting command && made) || false) ≡ false
@@ -57,6 +58,7 @@ laned-answered old new queue number command reply moment done cells known led co
     let keeps : KeepsOwners (owner_at old.pages.owners) (owner_at new.pages.owners) = book-owners old new known.led led longer.config_is (written-one old new e longer) sites stood in
     laned-still old new (e ∷ []) cells cells (record { longer = longer; quiet = quiet; generation = generation; placed = placed })
     (owners-fill old.pages new.pages changes)
+    (taken-kept old new (e ∷ []) longer (λ spot x owned. let was = keeps spot x owned in (was.0, was.1)) (λ unit. refl))
     (λ unit page spare bytes low is. is)
     (λ unit. refl)
     (force-kept old.config (state_in old).generation (owner_at old.pages.owners) (owner_at new.pages.owners) keeps h.laned.live)

@@ -18,7 +18,7 @@ use Rattle.fdp_isolation.proofs.Filling.{data-unit, target-unit}
 use Rattle.fdp_isolation.proofs.Keeping.{FillsUnit, GoesWay}
 use Rattle.fdp_isolation.proofs.Pages.{blank-none, each-both, each-got, each-none, each-weaker, program-own}
 use Rattle.fdp_isolation.proofs.Promised.{group-below}
-use Rattle.fdp_isolation.proofs.Spares.{Says, spare-says}
+use Rattle.fdp_image.proofs.Spares.{Says, spare-says}
 use Rattle.fdp_locations.specs.Located.{AreUnitsOf}
 use Rattle.fdp_locations.proofs.Others.{ChangesPasses, group-same, passes-other}
 use Rattle.fdp_owners.specs.declared.owner.Owner.{Owner}
@@ -74,7 +74,7 @@ same-targets p now same lane unit e = ap (λ (xs : List (Option ℕ)). slice_ind
 
 -- ---- a page is found for a copy
 
-module _ (c : DriveConfig) (s : PlainState) (es : List Entry) (t : PageTables) (cells : List Cell) (rg : ℕ) (generation : ℕ) (units : AreUnitsOf c s t) (joined : AreJoined t) (blank : IsBlankBehind (geometry_of c) cells t.units) (there : IsGroup t.units rg) (laned : IsLaned c generation es t cells) (from to : Spot) (owner : Owner) (middle : Relocation) (is_due : IsDue (passes_at t rg) t.units t.owners rg (due.Copy from)) (owned : owner_at t.owners from ≡ Some owner) (opened : OpensPage (passes_at t rg) middle.passes t.units middle.units rg from.unit (lane_at t.handles.classes owner) to) where
+module _ (c : DriveConfig) (s : PlainState) (run es : List Entry) (t : PageTables) (cells : List Cell) (rg : ℕ) (generation : ℕ) (units : AreUnitsOf c s t) (joined : AreJoined t) (blank : IsBlankBehind (geometry_of c) cells t.units) (there : IsGroup t.units rg) (laned : IsLaned c generation run es t cells) (from to : Spot) (owner : Owner) (middle : Relocation) (is_due : IsDue (passes_at t rg) t.units t.owners rg (due.Copy from)) (owned : owner_at t.owners from ≡ Some owner) (opened : OpensPage (passes_at t rg) middle.passes t.units middle.units rg from.unit (lane_at t.handles.classes owner) to) where
   abbrev lane : Lane
   lane = lane_at t.handles.classes owner
 
@@ -96,7 +96,7 @@ module _ (c : DriveConfig) (s : PlainState) (es : List Entry) (t : PageTables) (
         is_unit = unit.is_unit;
         group = unit.group;
         stands = inl unit.stands;
-        pages = each-weaker c to.unit cells _ _ (λ x both. (both.0.0, both.1.0, both.1.1)) (each-both c to.unit cells _ _ (laned.units to.unit (data-unit c s t to.unit units unit.is_unit)).pages (laned.targets rg to.unit lane h.target));
+        pages = each-weaker c to.unit cells _ _ (λ x both. (both.0.0, both.1.0, both.1.1)) (each-both c to.unit cells _ _ (laned.units to.unit (data-unit c s t to.unit units unit.is_unit)).group.pages (laned.targets rg to.unit lane h.target));
         targets = λ way other e ne. ap (λ (p : GroupPasses). target_at p way) (sym h.passes) ∙ e;
       }
 

@@ -1,6 +1,5 @@
 -- What further entries leave of the generation in force, and what they tell of units.
-use Rattle.std.proofs.Common.{◌≡◌, ◌⊎◌, ℕ, Bool, true, false, ◌&&◌, ◌||◌, List, [], ◌∷◌, ◌++◌, Option, refl, sym, ◌∙◌, ap, subst, inl, inr, append_assoc}
-use mathlib.Core.List.{append-nil}
+use Rattle.std.proofs.Common.{◌≡◌, ◌⊎◌, ℕ, Bool, true, false, ◌&&◌, ◌||◌, List, [], ◌∷◌, ◌++◌, refl, sym, ◌∙◌, ap, subst, inl, inr}
 use Rattle.std.specs.Prelude.{IsTrue, if◌then◌else◌}
 use Rattle.std.specs.List.{list_any}
 use Rattle.std.proofs.lemmas.List.Folds.{list_any-append}
@@ -11,26 +10,21 @@ use Rattle.fdp_base.specs.declared.entry.Entry.{Entry}
 use Rattle.fdp_base.specs.declared.entry.Entry.TheVariants as entries
 use Rattle.fdp_base.specs.declared.entry.Reply.{Reply}
 use Rattle.fdp_base.specs.CommandKinds.{is_setting, is_write}
-use Rattle.fdp_book.specs.Book.{BookSeen, IsLonger, point_in, state_in, written_in}
-use Rattle.fdp_book.specs.Configured.{no_pages}
-use Rattle.fdp_base.specs.declared.entry.Spot.{Spot}
+use Rattle.fdp_book.specs.Book.{BookSeen, IsLonger, point_in, state_in}
 use Rattle.fdp_base.specs.EntryKinds.{empties, puts_into}
 use Rattle.fdp_history.specs.Orderly.{IsOrderly}
 use Rattle.fdp_history.proofs.Effects.{fewer-going}
 use Rattle.fdp_isolation.specs.Isolated.{before_erase, sets_placement, since_setting}
-use Rattle.fdp_locations.specs.Written.{Written, written_after, written_by}
-use Rattle.fdp_locations.proofs.Histories.{written_by-push}
 use Rattle.fdp_pointers.specs.Facts.{HasOnlyPlaced}
 use Rattle.fdp_pointers.proofs.Unplaced.{only-placed-next}
 use Rattle.fdp_rules.specs.Change.{after, changed_by}
 use Rattle.fdp_rules.specs.Effect.{effect_of}
-use Rattle.fdp_rules.specs.History.{Found, point_of}
 use Rattle.fdp_rules.specs.Next.{next}
 use Rattle.fdp_rules.specs.PlainState.{PlainState}
 use Rattle.fdp_rules.specs.Point.{Point}
 use Rattle.fdp_rules.specs.Sites.{traced_by}
 use Rattle.fdp_rules.specs.Step.{Follows}
-use Rattle.fdp_rules.proofs.Pushes.{point_of-push}
+use Rattle.fdp_book.proofs.Longer.{point-none, point-one}
 
 pub no : true ≡ false → ⊥
 no e = cc
@@ -104,44 +98,6 @@ generation-next c p entries.Reopened other = refl
 
 -- ---- a book with further entries
 
-pub point-one : (old new : BookSeen) (e : Entry) → IsLonger old new (e ∷ []) → point_in new ≡ next old.config (point_in old) e
-point-one old new e h =
-    ap (λ (c : DriveConfig). point_of c new.found new.entries) h.config_is
-    ∙ ap (λ (f : Found). point_of old.config f new.entries) h.found_is
-    ∙ ap (point_of old.config old.found) h.entries_are
-    ∙ point_of-push old.config old.found old.entries e
-
-pub point-two : (old new : BookSeen) (a b : Entry) → IsLonger old new (a ∷ b ∷ []) → point_in new ≡ next old.config (next old.config (point_in old) a) b
-point-two old new a b h =
-    ap (λ (c : DriveConfig). point_of c new.found new.entries) h.config_is
-    ∙ ap (λ (f : Found). point_of old.config f new.entries) h.found_is
-    ∙ ap (point_of old.config old.found) (h.entries_are ∙ sym (append_assoc old.entries (a ∷ []) (b ∷ [])))
-    ∙ point_of-push old.config old.found (old.entries ++ a ∷ []) b
-    ∙ ap (λ (p : Point). next old.config p b) (point_of-push old.config old.found old.entries a)
-
-pub point-none : (old new : BookSeen) → IsLonger old new [] → point_in new ≡ point_in old
-point-none old new h =
-    ap (λ (c : DriveConfig). point_of c new.found new.entries) h.config_is
-    ∙ ap (λ (f : Found). point_of old.config f new.entries) h.found_is
-    ∙ ap (point_of old.config old.found) (h.entries_are ∙ append-nil old.entries)
-
--- what pages hold
-pub written-one : (old new : BookSeen) (e : Entry) → IsLonger old new (e ∷ []) → written_in new ≡ written_after old.config (state_in old) (written_in old) e
-written-one old new e h =
-    ap (λ (c : DriveConfig). written_by c new.found no_pages new.entries) h.config_is
-    ∙ ap (λ (f : Found). written_by old.config f no_pages new.entries) h.found_is
-    ∙ ap (written_by old.config old.found no_pages) h.entries_are
-    ∙ written_by-push old.config old.found no_pages old.entries e
-
-pub written-two : (old new : BookSeen) (a b : Entry) → IsLonger old new (a ∷ b ∷ []) → written_in new ≡ written_after old.config (next old.config (point_in old) a).state (written_after old.config (state_in old) (written_in old) a) b
-written-two old new a b h =
-    ap (λ (c : DriveConfig). written_by c new.found no_pages new.entries) h.config_is
-    ∙ ap (λ (f : Found). written_by old.config f no_pages new.entries) h.found_is
-    ∙ ap (written_by old.config old.found no_pages) (h.entries_are ∙ sym (append_assoc old.entries (a ∷ []) (b ∷ [])))
-    ∙ written_by-push old.config old.found no_pages (old.entries ++ a ∷ []) b
-    ∙ ap (λ (p : Point). written_after old.config p.state (written_by old.config old.found no_pages (old.entries ++ a ∷ [])) b) (point_of-push old.config old.found old.entries a)
-    ∙ ap (λ (w : Spot → Option Written). written_after old.config (next old.config (point_in old) a).state w b) (written_by-push old.config old.found no_pages old.entries a)
-
 pub since-longer : (old new : BookSeen) (es : List Entry) → IsLonger old new es → AreQuiet es → since_setting new.entries ≡ since_setting old.entries ++ es
 since-longer old new es h quiet = ap since_setting h.entries_are ∙ since-more old.entries es quiet
 
@@ -152,6 +108,19 @@ put-before unit es more none put = cases (list_any (puts_into unit) es) (sym (li
   cases : (b : Bool) → (b || false) ≡ true → b ≡ true
   cases true e = refl
   cases false e = absurd (no (sym e))
+
+-- an entry since is one of the run
+pub put-whole : (unit : ℕ) (es : List Entry) → IsTrue (list_any (puts_into unit) (since_setting es)) → IsTrue (list_any (puts_into unit) es)
+unfolding since_setting
+put-whole unit [] put = put
+put-whole unit (e ∷ es) put = cases (put-whole unit es) (list_any sets_placement (e ∷ es)) put where
+  behind : (b : Bool) → list_any (puts_into unit) es ≡ true → (b || list_any (puts_into unit) es) ≡ true
+  behind true some = refl
+  behind false some = some
+
+  cases : (IsTrue (list_any (puts_into unit) (since_setting es)) → IsTrue (list_any (puts_into unit) es)) → (b : Bool) → list_any (puts_into unit) (if b then since_setting es else e ∷ es) ≡ true → list_any (puts_into unit) (e ∷ es) ≡ true
+  cases rest true since = behind (puts_into unit e) (rest since)
+  cases rest false all = all
 
 pub put-cases : (unit : ℕ) (es : List Entry) (e : Entry) → IsTrue (list_any (puts_into unit) (es ++ e ∷ [])) → IsTrue (list_any (puts_into unit) es) ⊎ IsTrue (puts_into unit e)
 put-cases unit es e put = cases (list_any (puts_into unit) es) (puts_into unit e) (sym (list_any-append (puts_into unit) es (e ∷ [])) ∙ put) where

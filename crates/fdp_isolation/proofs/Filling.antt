@@ -19,7 +19,7 @@ use Rattle.fdp_image.specs.Isolation.{EachPage}
 use Rattle.fdp_isolation.specs.Laned.{IsLaned}
 use Rattle.fdp_isolation.proofs.Keeping.{FillsUnit, GoesWay}
 use Rattle.fdp_isolation.proofs.Pages.{blank-none, each-both, each-got, each-none, each-weaker, program-own}
-use Rattle.fdp_isolation.proofs.Spares.{Says, spare-says}
+use Rattle.fdp_image.proofs.Spares.{Says, spare-says}
 use Rattle.fdp_locations.specs.Located.{AreUnitsOf}
 use Rattle.fdp_pages.specs.Joined.{AreJoined}
 use Rattle.fdp_pages.specs.PageTables.{PageTables, left_of, no_passes, passes_at, unit_of}
@@ -60,15 +60,15 @@ abbrev pub NamesHandle : DriveConfig → ℕ → List Cell → ℕ → ℕ → T
 NamesHandle c generation cells unit ruh = EachPage c cells unit (λ x. (x.rg ≡ group_of c unit) × (x.generation ≡ generation) × (x.ruh ≡ ruh))
 
 -- before the program: the handle has the unit, or takes it, blank
-pub handle-pages : (c : DriveConfig) (s : PlainState) (generation : ℕ) (es : List Entry) (t : PageTables) (cells : List Cell) (rg ruh : ℕ) (spot : Spot) → AreUnitsOf c s t → AreJoined t → IsBlankBehind (geometry_of c) cells t.units → IsFalse (is_lost (state_at t.units spot.unit)) → IsUnit t.units spot.unit → MayPut t rg ruh spot
-    → IsLaned c generation es t cells → NamesHandle c generation cells spot.unit ruh
-handle-pages c s generation es t cells rg ruh spot units joined blank kept is may laned = cases (unit_of t rg ruh) refl may.page where
+pub handle-pages : (c : DriveConfig) (s : PlainState) (generation : ℕ) (run es : List Entry) (t : PageTables) (cells : List Cell) (rg ruh : ℕ) (spot : Spot) → AreUnitsOf c s t → AreJoined t → IsBlankBehind (geometry_of c) cells t.units → IsFalse (is_lost (state_at t.units spot.unit)) → IsUnit t.units spot.unit → MayPut t rg ruh spot
+    → IsLaned c generation run es t cells → NamesHandle c generation cells spot.unit ruh
+handle-pages c s generation run es t cells rg ruh spot units joined blank kept is may laned = cases (unit_of t rg ruh) refl may.page where
   cases : (r : Option ℕ) → unit_of t rg ruh ≡ r → MatchOption r (IsFreeUnit t.units rg spot.unit × (spot.page ≡ 0)) (λ (unit : ℕ). (spot.unit ≡ unit) × (spot.page + left_of t rg ruh ≡ t.units.unit_pages)) → NamesHandle c generation cells spot.unit ruh
   cases None e h = each-none c spot.unit cells _ (blank-none c cells spot.unit (unit_at t.units spot.unit).next (joined.live.unused spot.unit h.0.free) (blank spot.unit is kept))
   cases (Some unit) e h =
       let own : unit_of t rg ruh ≡ Some spot.unit = e ∙ ap (λ (u : ℕ). Some u) (sym h.0) in
-      let way = laned.units spot.unit (data-unit c s t spot.unit units is) in
-      each-weaker c spot.unit cells _ _ (λ x both. (both.0.0, both.1.0, both.1.1)) (each-both c spot.unit cells _ _ way.pages (laned.filled rg ruh spot.unit own))
+      let group = (laned.units spot.unit (data-unit c s t spot.unit units is)).group in
+      each-weaker c spot.unit cells _ _ (λ x both. (both.0.0, both.1.0, both.1.1)) (each-both c spot.unit cells _ _ group.pages (laned.filled rg ruh spot.unit own))
 
 -- after it
 pub filled-pages : (c : DriveConfig) (generation : ℕ) (cells now : List Cell) (spot : Spot) (x : DataSpare) (bytes : List ℕ) → x.rg ≡ group_of c spot.unit → x.rg < 2 ^ 16 → x.generation ≡ generation → generation < 2 ^ 32 → spot.page < c.unit_pages

@@ -1,5 +1,5 @@
 -- What a step keeps apart, by what it does to the tables and to the cells.
-use Rattle.std.proofs.Common.{◌≡◌, ◌≢◌, ◌⊎◌, ℕ, false, List, ◌++◌, Option, Some, sym, ◌∙◌, ap, arith, subst, ⊎_elim}
+use Rattle.std.proofs.Common.{◌≡◌, ◌≢◌, ◌⊎◌, ℕ, false, List, ◌++◌, Option, Some, sym, ◌∙◌, ap, arith, inl, inr, subst, ⊎_elim}
 use Rattle.std.specs.Prelude.{IsTrue, slice_index_or}
 use Rattle.std.specs.List.{list_any}
 use Rattle.std.proofs.lemmas.Bool.{cases_eq}
@@ -8,12 +8,12 @@ use Rattle.fdp_base.specs.declared.config.DriveConfig.{DriveConfig}
 use Rattle.fdp_base.specs.declared.entry.Entry.{Entry}
 use Rattle.fdp_base.specs.declared.entry.Spot.{Spot}
 use Rattle.fdp_base.specs.EntryKinds.{puts_into}
-use Rattle.fdp_book.specs.Book.{BookSeen, state_in}
+use Rattle.fdp_book.specs.Book.{BookSeen, IsLonger, state_in}
 use Rattle.fdp_flash.specs.declared.cell.Cell.{Cell}
 use Rattle.fdp_handles.specs.HandleTable.{HandleTable, reference_at}
 use Rattle.fdp_image.specs.Isolation.{EachPage}
 use Rattle.fdp_isolation.specs.Isolated.{since_setting}
-use Rattle.fdp_isolation.specs.Laned.{AreLaned, GoesOneWay, IsLaned, lane_by}
+use Rattle.fdp_isolation.specs.Laned.{AreLaned, IsKeptApart, IsLaned, IsTaken, lane_by}
 use Rattle.fdp_isolation.proofs.Entries.{IsQuietStep, put-before, since-longer}
 use Rattle.fdp_isolation.proofs.Pages.{KeepsPages, each-both, each-kept}
 use Rattle.fdp_owners.specs.declared.owner.Owner.{Owner}
@@ -42,17 +42,27 @@ owners-fill t now h = record {
   targets = λ rg unit lane e. ap (λ (xs : List GroupPasses). target_at (slice_index_or xs rg no_passes) lane) (sym h.passes) ∙ e;
 }
 
--- a unit goes one way still
-way-kept : (c : DriveConfig) (generation : ℕ) (classes : List Class) (old new : List Cell) (unit : ℕ) → KeepsPages c old new unit → GoesOneWay c generation classes old unit → GoesOneWay c generation classes new unit
-way-kept c generation classes old new unit keeps h = record { own = h.own; past = h.past; lane = h.lane; pages = each-kept c unit old new _ keeps h.pages }
+-- no further unit is taken
+abbrev pub TakesNoMore : PageTables → PageTables → List Entry → List Entry → Type 0
+TakesNoMore t now run later = (unit : ℕ) → IsTaken now later unit → IsTaken t run unit
 
-module _ (c : DriveConfig) (generation : ℕ) (es more : List Entry) (t now : PageTables) (old new : List Cell) where
+-- a unit is kept apart still
+apart-kept : (c : DriveConfig) (generation : ℕ) (classes : List Class) (old new : List Cell) (unit : ℕ) (was is : Type 0) → KeepsPages c old new unit → (is → was) → IsKeptApart c generation classes old unit was → IsKeptApart c generation classes new unit is
+apart-kept c generation classes old new unit was is keeps taken h = record {
+  group = record { generation = h.group.generation; pages = each-kept c unit old new _ keeps h.group.pages };
+  past = λ yes. h.past (taken yes);
+  way = λ yes force. let way = h.way (taken yes) force in (way.0, each-kept c unit old new _ keeps way.1);
+}
+
+module _ (c : DriveConfig) (generation : ℕ) (run later es more : List Entry) (t now : PageTables) (old new : List Cell) where
   -- ---- no page is put
 
-  pub laned-kept : FillsNoMore t now → ((unit : ℕ) → KeepsPages c old new unit) → ((unit : ℕ) → IsTrue (list_any (puts_into unit) more) → IsTrue (list_any (puts_into unit) es)) → AreInForce c generation (owner_at now.owners)
-      → IsLaned c generation es t old → IsLaned c generation more now new
-  laned-kept fills keeps puts live h = record {
-    units = λ unit is. subst (λ (classes : List Class). GoesOneWay c generation classes new unit) (sym fills.classes) (way-kept c generation t.handles.classes old new unit (keeps unit) (h.units unit is));
+  pub laned-kept : FillsNoMore t now → TakesNoMore t now run later → ((unit : ℕ) → KeepsPages c old new unit) → ((unit : ℕ) → IsTrue (list_any (puts_into unit) more) → IsTrue (list_any (puts_into unit) es)) → AreInForce c generation (owner_at now.owners)
+      → IsLaned c generation run es t old → IsLaned c generation later more now new
+  laned-kept fills taken keeps puts live h = record {
+    units = λ unit is.
+        subst (λ (classes : List Class). IsKeptApart c generation classes new unit (IsTaken now later unit)) (sym fills.classes)
+        (apart-kept c generation t.handles.classes old new unit (IsTaken t run unit) (IsTaken now later unit) (keeps unit) (taken unit) (h.units unit is));
     filled = λ rg ruh unit e. each-kept c unit old new _ (keeps unit) (h.filled rg ruh unit (fills.filled rg ruh unit e));
     targets = λ rg unit lane e.
         each-kept c unit old new _ (keeps unit) (subst (λ (classes : List Class). EachPage c old unit (λ x. (x.generation ≡ generation) × (lane_by classes x ≡ lane))) (sym fills.classes) (h.targets rg unit lane (fills.targets rg unit lane e)));
@@ -75,19 +85,14 @@ pub record FillsUnit (c : DriveConfig) (t now : PageTables) (cells : List Cell) 
   pub targets : (rg other : ℕ) (way : Lane) → target_at (passes_at now rg) way ≡ Some other → other ≢ unit → target_at (passes_at t rg) way ≡ Some other
   pub targets_here : (rg : ℕ) (way : Lane) → target_at (passes_at now rg) way ≡ Some unit → way ≡ lane
 
-module _ (c : DriveConfig) (generation : ℕ) (es more : List Entry) (t now : PageTables) (old new : List Cell) (unit : ℕ) (lane : Lane) where
-  pub laned-got : FillsUnit c t now new unit lane → ((other : ℕ) → other ≢ unit → KeepsPages c old new other) → GoesWay c generation t.handles.classes new unit lane
+module _ (c : DriveConfig) (generation : ℕ) (run later es more : List Entry) (t now : PageTables) (old new : List Cell) (unit : ℕ) (lane : Lane) where
+  pub laned-got : FillsUnit c t now new unit lane → ((other : ℕ) → other ≢ unit → IsTaken now later other → IsTaken t run other) → ((other : ℕ) → other ≢ unit → KeepsPages c old new other) → GoesWay c generation t.handles.classes new unit lane
       → ((other : ℕ) → IsTrue (list_any (puts_into other) more) → IsTrue (list_any (puts_into other) es) ⊎ (other ≡ unit)) → AreInForce c generation (owner_at now.owners)
-      → IsLaned c generation es t old → IsLaned c generation more now new
-  laned-got fills keeps way puts live h = record {
-    units = λ other is. subst (λ (classes : List Class). GoesOneWay c generation classes new other) (sym fills.classes) (⊎_elim
-        (λ (same : other ≡ unit). subst (GoesOneWay c generation t.handles.classes new) (sym same) (record {
-          own = generation;
-          past = omega arith;
-          lane = lane;
-          pages = λ page spare bytes low e. let x = way page spare bytes low e in (x.0, x.1, (x.2.0, x.2.1, λ same. x.2.2));
-        }))
-        (λ (ne : other ≢ unit). way-kept c generation t.handles.classes old new other (keeps other ne) (h.units other is))
+      → IsLaned c generation run es t old → IsLaned c generation later more now new
+  laned-got fills taken keeps way puts live h = record {
+    units = λ other is. subst (λ (classes : List Class). IsKeptApart c generation classes new other (IsTaken now later other)) (sym fills.classes) (⊎_elim
+        (λ (same : other ≡ unit). subst (λ (u : ℕ). IsKeptApart c generation t.handles.classes new u (IsTaken now later u)) (sym same) here)
+        (λ (ne : other ≢ unit). apart-kept c generation t.handles.classes old new other (IsTaken t run other) (IsTaken now later other) (keeps other ne) (taken other ne) (h.units other is))
         (cases_eq other unit));
     filled = λ rg ruh other e. ⊎_elim
         (λ (same : other ≡ unit). subst (λ (u : ℕ). EachPage c new u (λ x. (x.generation ≡ generation) × (x.ruh ≡ ruh))) (sym same)
@@ -106,24 +111,37 @@ module _ (c : DriveConfig) (generation : ℕ) (es more : List Entry) (t now : Pa
         (cases_eq other unit);
     live = live;
   } where
+    here : IsKeptApart c generation t.handles.classes new unit (IsTaken now later unit)
+    here = record {
+      group = record { generation = generation; pages = λ page spare bytes low e. let x = way page spare bytes low e in (x.0, x.1, (x.2.0, x.2.1)) };
+      past = λ yes. omega arith;
+      way = λ yes force. (lane, λ page spare bytes low e. let x = way page spare bytes low e in (x.0, x.1, x.2.2));
+    }
+
     in-force : EachPage c new unit (λ x. x.generation ≡ generation)
     in-force page spare bytes low e = let x = way page spare bytes low e in (x.0, x.1, x.2.1)
 
 -- ---- books
 
+-- where each page that has an owner had one before, and no page is put, no further unit is taken
+pub taken-kept : (old new : BookSeen) (es : List Entry) → IsLonger old new es → ((spot : Spot) (x : Owner) → owner_at new.pages.owners spot ≡ Some x → (y : Owner) × (owner_at old.pages.owners spot ≡ Some y)) → ((unit : ℕ) → list_any (puts_into unit) es ≡ false)
+    → TakesNoMore old.pages new.pages old.entries new.entries
+taken-kept old new es longer owners none unit (inl owned) = let was = owners owned.0 owned.1 owned.2 in inl (owned.0, was.0, was.1, owned.3)
+taken-kept old new es longer owners none unit (inr put) = inr (put-before unit old.entries es (none unit) (subst (λ (xs : List Entry). IsTrue (list_any (puts_into unit) xs)) longer.entries_are put))
+
 -- what is kept apart after a step
-pub laned-longer : (old new : BookSeen) (es : List Entry) (cells : List Cell) → IsQuietStep old new es → IsLaned old.config (state_in old).generation (since_setting old.entries ++ es) new.pages cells → AreLaned new cells
+pub laned-longer : (old new : BookSeen) (es : List Entry) (cells : List Cell) → IsQuietStep old new es → IsLaned old.config (state_in old).generation new.entries (since_setting old.entries ++ es) new.pages cells → AreLaned new cells
 laned-longer old new es cells step laned = record {
-  laned = subst (λ (c : DriveConfig). IsLaned c (state_in new).generation (since_setting new.entries) new.pages cells) (sym step.longer.config_is)
-      (subst (λ (g : ℕ). IsLaned old.config g (since_setting new.entries) new.pages cells) (sym step.generation)
-      (subst (λ (xs : List Entry). IsLaned old.config (state_in old).generation xs new.pages cells) (sym (since-longer old new es step.longer step.quiet)) laned));
+  laned = subst (λ (c : DriveConfig). IsLaned c (state_in new).generation new.entries (since_setting new.entries) new.pages cells) (sym step.longer.config_is)
+      (subst (λ (g : ℕ). IsLaned old.config g new.entries (since_setting new.entries) new.pages cells) (sym step.generation)
+      (subst (λ (xs : List Entry). IsLaned old.config (state_in old).generation new.entries xs new.pages cells) (sym (since-longer old new es step.longer step.quiet)) laned));
   placed = step.placed;
 }
 
--- and where no page is put, and the owners are in force
-pub laned-still : (old new : BookSeen) (es : List Entry) (cells now : List Cell) → IsQuietStep old new es → FillsNoMore old.pages new.pages → ((unit : ℕ) → KeepsPages old.config cells now unit) → ((unit : ℕ) → list_any (puts_into unit) es ≡ false)
+-- and where no page is put, no unit is taken, and the owners are in force
+pub laned-still : (old new : BookSeen) (es : List Entry) (cells now : List Cell) → IsQuietStep old new es → FillsNoMore old.pages new.pages → TakesNoMore old.pages new.pages old.entries new.entries → ((unit : ℕ) → KeepsPages old.config cells now unit) → ((unit : ℕ) → list_any (puts_into unit) es ≡ false)
     → AreInForce old.config (state_in old).generation (owner_at new.pages.owners) → AreLaned old cells → AreLaned new now
-laned-still old new es cells now step fills keeps none live was =
+laned-still old new es cells now step fills taken keeps none live was =
     laned-longer old new es now step
-    (laned-kept old.config (state_in old).generation (since_setting old.entries) (since_setting old.entries ++ es) old.pages new.pages cells now fills keeps
+    (laned-kept old.config (state_in old).generation old.entries new.entries (since_setting old.entries) (since_setting old.entries ++ es) old.pages new.pages cells now fills taken keeps
     (λ unit put. put-before unit (since_setting old.entries) es (none unit) put) live was.laned)

@@ -103,7 +103,7 @@ module _ (old new : BookSeen) (before after : FlashState) (rg : ℕ) (may_erase 
     away unit full same =
         none-open (state_at old.pages.units unit) full
         (subst (λ (u : ℕ). (state_at old.pages.units u ≡ Target) ⊎ IsTrue (is_free (state_at old.pages.units u))) (sym same)
-        (is-opened old.config (state_in old) (since_setting old.entries) old.pages before.cells rg (state_in old).generation kept.known.units kept.known.joined kept.holds.blank there laned.laned is.from is.to is.owner is.middle is.due is.owned is.opened).stands)
+        (is-opened old.config (state_in old) old.entries (since_setting old.entries) old.pages before.cells rg (state_in old).generation kept.known.units kept.known.joined kept.holds.blank there laned.laned is.from is.to is.owner is.middle is.due is.owned is.opened).stands)
 
     copied : (es : List Entry) (result : Wrote) (passes : GroupPasses) → Copies before after is.from is.to (data_spare is.owner.spare) result → UsesPage is.middle.passes passes is.middle.units new.pages.units (lane_at old.pages.handles.classes is.owner) is.to.unit
         → ((unit : ℕ) → unit ≢ is.to.unit → list_any (puts_into unit) es ≡ false) → Leaves es

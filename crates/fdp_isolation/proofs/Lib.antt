@@ -1,4 +1,3 @@
-pub mod Spares
 pub mod Pages
 pub mod Entries
 pub mod Keeping
@@ -9,9 +8,11 @@ pub mod Started
 pub mod Placed
 pub mod Copying
 pub mod Relocated
+pub mod Trailed
 pub mod Moved
 pub mod Promised
 pub mod Alike
+pub mod Found
 pub mod Leaving
 pub mod LeftAlone
 pub mod LeftByRelocation

@@ -29,10 +29,10 @@ use Rattle.fdp_handles.specs.HandleTable.{HandleTable, reference_at}
 use Rattle.fdp_history.proofs.Placing.{going_with-is}
 use Rattle.fdp_history.proofs.Points.{orderly-next}
 use Rattle.fdp_isolation.specs.Isolated.{sets_placement, since_setting}
-use Rattle.fdp_isolation.specs.Laned.{AreLaned, StandsOver, IsKnown, IsLaned}
-use Rattle.fdp_isolation.proofs.Entries.{AreQuiet, generation-next, only-placed-host, point-two, put-before, put-cases, quiet-one, written-one, written-two}
+use Rattle.fdp_isolation.specs.Laned.{AreLaned, StandsOver, IsKnown, IsLaned, IsTaken}
+use Rattle.fdp_isolation.proofs.Entries.{AreQuiet, generation-next, only-placed-host, put-before, put-cases, quiet-one}
 use Rattle.fdp_isolation.proofs.Filling.{NamesHandle, fills-unit, filled-by, filled-pages, handle-pages, handle-way}
-use Rattle.fdp_isolation.proofs.Keeping.{AreInForce, laned-got, laned-longer}
+use Rattle.fdp_isolation.proofs.Keeping.{AreInForce, laned-got, laned-longer, taken-kept}
 use Rattle.fdp_isolation.proofs.Owning.{KeepsOwners, StoodBehind, book-owners, force-kept, host-site, shut-content, shut-site, stood-host}
 use Rattle.fdp_isolation.proofs.Pages.{program-others}
 use Rattle.fdp_locations.specs.Written.{Written, next_page, next_spare, page_of_ticket}
@@ -57,6 +57,7 @@ use Rattle.fdp_rules.specs.Point.{Point}
 use Rattle.fdp_rules.specs.Sites.{group_of}
 use Rattle.fdp_trails.proofs.Moving.{cases_spot, owner-there}
 use Rattle.fdp_rules.specs.Step.{Follows, IsPlaced}
+use Rattle.fdp_book.proofs.Longer.{point-two, written-one, written-two}
 
 -- ---- the next page of a write
 
@@ -113,14 +114,16 @@ module _ (old : BookSeen) (ticket : Ticket) (g : Going) (w : Write) (spot : Spot
 
   pages : NamesHandle old.config generation now spot.unit g.ruh
   pages = filled-pages old.config generation cells now spot (next_spare (state_in old) g w) bytes is-write.group is-write.small refl kept.known.generation is-write.inside left
-      (handle-pages old.config (state_in old) generation (since_setting old.entries) old.pages cells g.rg g.ruh spot kept.known.units kept.known.joined kept.holds.blank next.kept next.is_unit next.may h.laned)
+      (handle-pages old.config (state_in old) generation old.entries (since_setting old.entries) old.pages cells g.rg g.ruh spot kept.known.units kept.known.joined kept.holds.blank next.kept next.is_unit next.may h.laned)
 
   -- what is kept apart after it, with one reference changed
-  pub program-laned : (more : List Entry) (t : PageTables) (r : Reference) → t.handles.classes ≡ old.pages.handles.classes → t.passes ≡ old.pages.passes → reference_at t.handles ≡ with_reference (reference_at old.pages.handles) g.rg g.ruh r → ((u : ℕ) → r.unit ≡ Some u → u ≡ spot.unit)
-      → ((other : ℕ) → IsTrue (list_any (puts_into other) more) → IsTrue (list_any (puts_into other) (since_setting old.entries)) ⊎ (other ≡ spot.unit)) → AreInForce old.config generation (owner_at t.owners) → IsLaned old.config generation more t now
-  program-laned more t r classes passes references own puts live =
-      laned-got old.config generation (since_setting old.entries) more old.pages t cells now spot.unit way
+  pub program-laned : (later more : List Entry) (t : PageTables) (r : Reference) → t.handles.classes ≡ old.pages.handles.classes → t.passes ≡ old.pages.passes → reference_at t.handles ≡ with_reference (reference_at old.pages.handles) g.rg g.ruh r → ((u : ℕ) → r.unit ≡ Some u → u ≡ spot.unit)
+      → ((other : ℕ) → other ≢ spot.unit → IsTaken t later other → IsTaken old.pages old.entries other)
+      → ((other : ℕ) → IsTrue (list_any (puts_into other) more) → IsTrue (list_any (puts_into other) (since_setting old.entries)) ⊎ (other ≡ spot.unit)) → AreInForce old.config generation (owner_at t.owners) → IsLaned old.config generation later more t now
+  program-laned later more t r classes passes references own taken puts live =
+      laned-got old.config generation old.entries later (since_setting old.entries) more old.pages t cells now spot.unit way
       (fills-unit old.config generation old.pages t now g.rg g.ruh spot kept.known.joined is-next classes passes (filled-by old.config old.pages t g.rg g.ruh spot r kept.known.joined is-next references own) pages)
+      taken
       (program-others old.config cells now spot (data_spare (next_spare (state_in old) g w)) bytes left is-write.inside)
       (handle-way old.config generation old.pages.handles.classes now spot.unit g.ruh pages)
       puts live h.laned
@@ -157,15 +160,25 @@ laned-placed old new ticket g w spot last bytes cells now kept led is write next
     let e : Entry = entries.Placed (record { ticket = ticket.position; index = g.placed; unit = spot.unit; page = spot.page }) in
     let longer : IsLonger old new (e ∷ []) = places.step in
     let handles = places.puts.handles in
+    let before : (at : Spot) (x : Owner) → at ≢ spot → owner_at new.pages.owners at ≡ Some x → owner_at old.pages.owners at ≡ Some x = λ at x ne owned.
+    sym (owner-there (owner_at old.pages.owners) spot (Some places.owner) at ne) ∙ ap (λ (f : Spot → Option Owner). f at) (sym places.puts.owners) ∙ owned in
+    let taken : (other : ℕ) → other ≢ spot.unit → IsTaken new.pages new.entries other → IsTaken old.pages old.entries other = λ other ne t. ⊎_elim
+    (λ owned. inl (owned.0, owned.1, before owned.0 owned.1 (λ same. ne (sym owned.3 ∙ ap (λ (s : Spot). s.unit) same)) owned.2, owned.3))
+    (λ put. ⊎_elim
+    (λ was. inr was)
+    (λ (here : IsTrue (spot.unit == other)). absurd (ne (sym (eqb-true spot.unit other here))))
+    (put-cases other old.entries e (subst (λ (xs : List Entry). IsTrue (list_any (puts_into other) xs)) longer.entries_are put)))
+    t in
     let live : AreInForce old.config (state_in old).generation (owner_at new.pages.owners) = λ at x owned. ⊎_elim
     (λ (same : at ≡ spot).
     let named = placed-owner old ticket g w spot bytes cells now kept is next left h new x led longer write (ap (owner_at new.pages.owners) (sym same) ∙ owned) in
     (named.0, named.1 ∙ ap (λ (s : Spot). group_of old.config s.unit) (sym same)))
-    (λ (ne : at ≢ spot). h.laned.live at x (sym (owner-there (owner_at old.pages.owners) spot (Some places.owner) at ne) ∙ ap (λ (f : Spot → Option Owner). f at) (sym places.puts.owners) ∙ owned))
+    (λ (ne : at ≢ spot). h.laned.live at x (before at x ne owned))
     (cases_spot at spot) in
     laned-longer old new (e ∷ []) now (quiet-one true old new e longer refl kept.known.orderly (next.follows true) h.placed)
-    (program-laned old ticket g w spot bytes cells now kept is next left h (since_setting old.entries ++ e ∷ []) new.pages (one_less old.config spot.unit (reference_at old.pages.handles g.rg g.ruh))
+    (program-laned old ticket g w spot bytes cells now kept is next left h new.entries (since_setting old.entries ++ e ∷ []) new.pages (one_less old.config spot.unit (reference_at old.pages.handles g.rg g.ruh))
     (ap (λ (x : HandleTable). x.classes) handles.rest) places.puts.passes (handles.references old.config kept.known.units.unit_pages) (λ u. one-less-unit old.config spot.unit u (reference_at old.pages.handles g.rg g.ruh))
+    taken
     (λ other put. ⊎_elim inl (λ (here : IsTrue (spot.unit == other)). inr (sym (eqb-true spot.unit other here))) (put-cases other (since_setting old.entries) e put))
     live)
 
@@ -201,11 +214,12 @@ laned-shut old new ticket g w spot status moment done bytes cells now kept led i
     let keeps : KeepsOwners (owner_at old.pages.owners) (owner_at new.pages.owners) = book-owners old new kept.known.led led longer.config_is (written-two old new a b longer) sites stood in
     let handles = shuts.shut.handles in
     laned-longer old new (a ∷ b ∷ []) now (record { longer = longer; quiet = quiet; generation = generation; placed = placed })
-    (program-laned old ticket g w spot bytes cells now kept is next left h (since_setting old.entries ++ a ∷ b ∷ []) new.pages (no_reference c)
+    (program-laned old ticket g w spot bytes cells now kept is next left h new.entries (since_setting old.entries ++ a ∷ b ∷ []) new.pages (no_reference c)
     (ap (λ (x : HandleTable). x.classes) shuts.left.handles ∙ ap (λ (x : HandleTable). x.classes) handles.rest)
     (shuts.left.passes ∙ shuts.shut.passes)
     (ap (λ (x : HandleTable). reference_at x) shuts.left.handles ∙ handles.references c kept.known.units.unit_pages)
     (λ u none. absurd (never u none))
+    (λ other ne t. taken-kept old new (a ∷ b ∷ []) longer (λ at x owned. let was = keeps at x owned in (was.0, was.1)) (λ unit. refl) other t)
     (λ other put. inl (put-before other (since_setting old.entries) (a ∷ b ∷ []) refl put))
     (force-kept c (state_in old).generation (owner_at old.pages.owners) (owner_at new.pages.owners) keeps h.laned.live)) where
       never : (u : ℕ) → None ≡ Some u → ⊥

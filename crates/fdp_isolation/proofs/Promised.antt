@@ -1,5 +1,5 @@
 -- What is kept apart at first, and what it promises.
-use Rattle.std.proofs.Common.{◌≡◌, ℕ, zero, suc, ◌*◌, ◌<◌, true, false, List, [], Option, Some, None, slice_get, refl, sym, ◌∙◌, ap, subst, arith, ⊎_elim, div-lt_iff_lt-mul}
+use Rattle.std.proofs.Common.{◌≡◌, ℕ, zero, suc, ◌*◌, ◌<◌, true, false, List, [], Option, Some, None, slice_get, refl, sym, ◌∙◌, ap, subst, arith, inl, inr, ⊎_elim, div-lt_iff_lt-mul}
 use Rattle.std.specs.Prelude.{IsTrue, slice_index_or}
 use Rattle.std.specs.List.{list_any}
 use Rattle.std.specs.Option.{option_map_or}
@@ -19,11 +19,12 @@ use Rattle.fdp_flash.specs.Cells.{IsBlankUnit}
 use Rattle.fdp_image.specs.CheckpointFields.{is_persistent}
 use Rattle.fdp_image.specs.Isolation.{EachPage, IsIsolated}
 use Rattle.fdp_image.specs.Roomy.{page_in}
-use Rattle.fdp_isolation.specs.Isolated.{IsIsolatedDrive, has_live, since_setting}
-use Rattle.fdp_isolation.specs.Laned.{AreLaned, GoesOneWay, StandsOver, IsKnown, lane_by}
+use Rattle.fdp_isolation.specs.Isolated.{IsIsolatedDrive, has_live, is_in_use, since_setting}
+use Rattle.fdp_isolation.specs.Laned.{AreLaned, IsKeptApart, IsKnown, IsTaken, StandsOver}
+use Rattle.fdp_isolation.proofs.Entries.{put-whole}
 use Rattle.fdp_isolation.proofs.Filling.{data-unit, target-unit}
 use Rattle.fdp_isolation.proofs.Pages.{HasNoPage, blank-unit-none, each-both, each-none, each-weaker}
-use Rattle.fdp_isolation.proofs.Spares.{Says, spare-says}
+use Rattle.fdp_image.proofs.Spares.{Says, spare-says}
 use Rattle.fdp_locations.specs.Located.{next_in}
 use Rattle.fdp_locations.proofs.Owned.{owned-written}
 use Rattle.fdp_owners.specs.declared.owner.Owner.{Owner}
@@ -48,7 +49,11 @@ no-entries = refl
 pub laned-fresh : (c : DriveConfig) (b : BookSeen) (cells : List Cell) → IsKnown b → IsFirst c b → ((unit : ℕ) → IsDataUnit c unit → IsBlankUnit (geometry_of c) cells unit) → AreLaned b cells
 laned-fresh c b cells known first blank = record {
   laned = record {
-    units = λ unit is. record { own = 0; past = omega arith; lane = Shared; pages = each-none b.config unit cells _ (none unit is) };
+    units = λ unit is. record {
+      group = record { generation = 0; pages = each-none b.config unit cells _ (none unit is) };
+      past = λ taken. omega arith;
+      way = λ taken force. (Shared, each-none b.config unit cells _ (none unit is));
+    };
     filled = λ rg ruh unit e. each-none b.config unit cells _ (none unit (data-unit b.config (state_in b) b.pages unit known.units (known.joined.filled.fills rg ruh unit e).stands.is_unit));
     targets = λ rg unit lane e. each-none b.config unit cells _ (none unit (data-unit b.config (state_in b) b.pages unit known.units (target-unit b.pages rg unit lane known.joined e).is_unit));
     put = λ unit put. absurd (false-true (sym (ap (list_any (puts_into unit)) (ap since_setting first.entries_are ∙ no-entries)) ∙ put));
@@ -99,7 +104,7 @@ group-below c unit is = (div-lt_iff_lt-mul (some c.units is)).1 is where
 
 module _ (b : BookSeen) (cells : List Cell) (kept : StandsOver b cells) (h : AreLaned b cells) where
   -- a unit with a page that has an owner goes one way in the generation in force
-  owned-own : (spot : Spot) (x : Owner) → owner_at b.pages.owners spot ≡ Some x → (is : IsDataUnit b.config spot.unit) → (h.laned.units spot.unit is).own ≡ (state_in b).generation
+  owned-own : (spot : Spot) (x : Owner) → owner_at b.pages.owners spot ≡ Some x → (is : IsDataUnit b.config spot.unit) → (h.laned.units spot.unit is).group.generation ≡ (state_in b).generation
   owned-own spot x e is =
       let force = h.laned.live spot x e in
       let held = owned-written b.config (point_in b) (written_in b) kept.known.led.at b.pages kept.known.led.led spot x e in
@@ -109,7 +114,7 @@ module _ (b : BookSeen) (cells : List Cell) (kept : StandsOver b cells) (h : Are
       let generation : held.page.spare.generation ≡ (state_in b).generation = ap (λ (y : DataSpare). y.generation) held.spare ∙ force.0 in
       let low = kept.known.generation in
       let says : Says (data_spare held.page.spare) held.page.spare = spare-says held.page.spare (omega (arith, group, below, few.1)) (omega (arith, generation, low)) in
-      let named = (h.laned.units spot.unit is).pages spot.page (data_spare held.page.spare) held.page.bytes (kept.holds.lie spot held.page held.is).page (kept.holds.whole spot held.page held.is) in
+      let named = (h.laned.units spot.unit is).group.pages spot.page (data_spare held.page.spare) held.page.bytes (kept.holds.lie spot held.page held.is).page (kept.holds.whole spot held.page held.is) in
       let same : named.0 ≡ says.said = one (sym named.1 ∙ says.is) in
       sym named.2.1 ∙ ap (λ (y : DataSpare). y.generation) same ∙ says.generation ∙ generation where
         one : {y z : DataSpare} → Some y ≡ Some z → y ≡ z
@@ -119,48 +124,57 @@ module _ (b : BookSeen) (cells : List Cell) (kept : StandsOver b cells) (h : Are
     abbrev InForce : Type 0
     InForce = EachPage b.config cells unit (λ x. x.generation ≡ (state_in b).generation)
 
-    abbrev way : GoesOneWay b.config (state_in b).generation b.pages.handles.classes cells unit
-    way = h.laned.units unit is
-
-    abbrev Named : DataSpare → Type 0
-    Named x = (x.rg ≡ group_of b.config unit) × (x.generation ≡ way.own) × (way.own ≡ (state_in b).generation → lane_by b.pages.handles.classes x ≡ way.lane)
+    abbrev own : IsKeptApart b.config (state_in b).generation b.pages.handles.classes cells unit (IsTaken b.pages b.entries unit)
+    own = h.laned.units unit is
 
     -- a unit with a live page
-    live-force : IsTrue (has_live b.config (point_in b) unit) → InForce
-    live-force live =
+    live-owned : IsTrue (has_live b.config (point_in b) unit) → (spot : Spot) × (x : Owner) × (owner_at b.pages.owners spot ≡ Some x) × (spot.unit ≡ unit)
+    live-owned live =
         let found = any-found (λ page. is_live b.config (point_in b) (page_in unit page)) 0 b.config.unit_pages live in
         let led = kept.known.led.led in
         let to = (live-is b.config (point_in b) (next_in b.pages.units) kept.known.led.at kept.known.orderly.state led.table h.placed (page_in unit found.0)).0 found.1 in
         let owner = led.owned.owned to.0 to.1 to.2 in
-        let own = owned-own (page_in unit found.0) owner.owner (ap (owner_at b.pages.owners) (sym to.3) ∙ owner.is_owner) is in
-        each-weaker b.config unit cells _ _ (λ x named. named.1 ∙ own) (h.laned.units unit is).pages
+        (page_in unit found.0, owner.owner, ap (owner_at b.pages.owners) (sym to.3) ∙ owner.is_owner, refl)
 
-    -- where the pages of a unit name the generation in force it is isolated
-    force-isolated : InForce → IsIsolated b.config (state_in b) cells unit
-    force-isolated force = record {
+    live-force : IsTrue (has_live b.config (point_in b) unit) → InForce
+    live-force live =
+        let owned = live-owned live in
+        let force = owned-own owned.0 owned.1 owned.2 (subst (IsDataUnit b.config) (sym owned.3) is) in
+        subst (λ (u : ℕ). EachPage b.config cells u (λ x. x.generation ≡ (state_in b).generation)) owned.3
+        (each-weaker b.config owned.0.unit cells _ _ (λ x named. named.1 ∙ force) (h.laned.units owned.0.unit (subst (IsDataUnit b.config) (sym owned.3) is)).group.pages)
+
+    -- a unit in use is taken
+    used-taken : IsTrue (is_in_use b.config (point_in b) b.entries unit) → IsTaken b.pages b.entries unit
+    used-taken used = ⊎_elim
+        (λ live. inl (live-owned live))
+        (λ put. inr (put-whole unit b.entries put))
+        (or-cases (has_live b.config (point_in b) unit) (list_any (puts_into unit) (since_setting b.entries)) used)
+
+    -- where the pages of a unit that is taken name the generation in force it is isolated
+    force-isolated : IsTaken b.pages b.entries unit → InForce → IsIsolated b.config (state_in b) cells unit
+    force-isolated taken force = record {
       generation = force;
       alone = λ page spare bytes low e.
-          let x = both page spare bytes low e in (
+          let here = both page spare bytes low e in
+          let all = each-both b.config unit cells _ _ both (own.way taken (sym here.2.0 ∙ here.2.1)).1 in
+          let x = all page spare bytes low e in (
             x.0,
             x.1,
             λ keeps other others content below f.
-                let y = both other others content below f in (
+                let y = all other others content below f in (
                   y.0,
                   y.1,
-                  alone-in-lane b.pages.handles.classes x.0.ruh y.0.ruh (subst (λ (classes : List Class). IsTrue (option_map_or is_persistent (slice_get classes x.0.ruh) false)) kept.known.units.classes keeps)
-                      (lane x.0 x.2 ∙ sym (lane y.0 y.2)),
+                  alone-in-lane b.pages.handles.classes x.0.ruh y.0.ruh (subst (λ (classes : List Class). IsTrue (option_map_or is_persistent (slice_get classes x.0.ruh) false)) kept.known.units.classes keeps) (x.2.1 ∙ sym y.2.1),
                 ),
           );
     } where
-      both : EachPage b.config cells unit (λ x. Named x × (x.generation ≡ (state_in b).generation))
-      both = each-both b.config unit cells _ _ way.pages force
-
-      lane : (x : DataSpare) → Named x × (x.generation ≡ (state_in b).generation) → lane_by b.pages.handles.classes x ≡ way.lane
-      lane x named = named.0.2 (sym named.0.1 ∙ named.1)
+      both : EachPage b.config cells unit (λ x. (x.generation ≡ own.group.generation) × (x.generation ≡ (state_in b).generation))
+      both = each-both b.config unit cells _ _ (each-weaker b.config unit cells _ _ (λ x named. named.1) own.group.pages) force
 
 -- what is kept apart is isolated
 pub isolated : (b : BookSeen) (cells : List Cell) → StandsOver b cells → AreLaned b cells → IsIsolatedDrive b.config (point_in b) b.entries cells
 isolated b cells kept h = record {
-  grouped = λ unit is. let way = h.laned.units unit is in record { generation = way.own; pages = each-weaker b.config unit cells _ _ (λ x named. (named.0, named.1)) way.pages };
-  apart = λ unit is used. force-isolated b cells kept h unit is (⊎_elim (live-force b cells kept h unit is) (h.laned.put unit) (or-cases (has_live b.config (point_in b) unit) (list_any (puts_into unit) (since_setting b.entries)) used));
+  grouped = λ unit is. (h.laned.units unit is).group;
+  apart = λ unit is used. force-isolated b cells kept h unit is (used-taken b cells kept h unit is used)
+      (⊎_elim (live-force b cells kept h unit is) (h.laned.put unit) (or-cases (has_live b.config (point_in b) unit) (list_any (puts_into unit) (since_setting b.entries)) used));
 }

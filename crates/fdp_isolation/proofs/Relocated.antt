@@ -1,5 +1,5 @@
 -- A step of relocation keeps apart what was.
-use Rattle.std.proofs.Common.{◌≡◌, ◌⊎◌, ℕ, ◌<◌, Bool, true, false, List, [], ◌∷◌, ◌++◌, None, refl, sym, ◌∙◌, ap, subst, arith, inl, inr, ⊎_elim, eqb-true}
+use Rattle.std.proofs.Common.{◌≡◌, ◌⊎◌, ℕ, ◌<◌, Bool, true, false, List, [], ◌∷◌, ◌++◌, Some, None, refl, sym, ◌∙◌, ap, subst, arith, inl, inr, ⊎_elim, eqb-true}
 use Rattle.std.specs.Prelude.{◌==◌, IsTrue}
 use Rattle.std.specs.List.{list_any}
 use Rattle.fdp_base.specs.declared.config.Geometry.{Geometry}
@@ -31,9 +31,10 @@ use Rattle.fdp_isolation.specs.Isolated.{sets_placement, since_setting}
 use Rattle.fdp_isolation.specs.Laned.{AreLaned, StandsOver}
 use Rattle.fdp_isolation.proofs.Copying.{KeepsTargets, copied-fills, copied-pages, same-targets, used-targets, went-targets}
 use Rattle.fdp_isolation.proofs.Entries.{IsQuietStep, put-before, put-cases, quiet-none, quiet-one}
-use Rattle.fdp_isolation.proofs.Keeping.{AreInForce, FillsNoMore, laned-got, laned-longer, laned-still}
+use Rattle.fdp_isolation.proofs.Keeping.{AreInForce, FillsNoMore, laned-got, laned-longer, laned-still, taken-kept}
 use Rattle.fdp_isolation.proofs.Pages.{KeepsPages, erase-keeps, program-others}
 use Rattle.fdp_locations.proofs.Others.{ChangesPasses, passes-other}
+use Rattle.fdp_owners.specs.declared.owner.Owner.{Owner}
 use Rattle.fdp_owners.specs.OwnerTable.{OwnerTable, owner_at}
 use Rattle.fdp_pages.specs.PageTables.{PageTables, passes_at, relocation_at}
 use Rattle.fdp_passes.specs.declared.lane.Lane.{Lane}
@@ -72,13 +73,16 @@ module _ (old new : BookSeen) (before after : FlashState) (rg : ℕ) (may_erase 
         (cases_eq k rg);
   }
 
+  before-owner : Stays → (spot : Spot) (x : Owner) → owner_at new.pages.owners spot ≡ Some x → owner_at old.pages.owners spot ≡ Some x
+  before-owner same spot x e = ap (λ (o : OwnerTable). owner_at o spot) (sym same.owners) ∙ e
+
   there : IsGroup old.pages.units rg
   there = subst (λ (k : Cut). rg < k.groups) (sym kept.known.units.cut) low
 
   -- ---- no page is put
 
   still : (es : List Entry) → IsQuietStep old new es → Stays → ((unit : ℕ) → list_any (puts_into unit) es ≡ false) → KeepsTargets (passes_at old.pages rg) (passes_at new.pages rg) → ((unit : ℕ) → KeepsPages old.config before.cells after.cells unit) → AreLaned new after.cells
-  still es step same none keeps cells = laned-still old new es before.cells after.cells step (fills same keeps) cells none (live same) h
+  still es step same none keeps cells = laned-still old new es before.cells after.cells step (fills same keeps) (taken-kept old new es step.longer (λ spot x e. (x, before-owner same spot x e)) none) cells none (live same) h
 
   same-cells : after.cells ≡ before.cells → (unit : ℕ) → KeepsPages old.config before.cells after.cells unit
   same-cells same = subst (λ (cells : List Cell). (unit : ℕ) → KeepsPages old.config before.cells cells unit) (sym same) (λ unit page spare bytes low is. is)
@@ -111,16 +115,20 @@ module _ (old new : BookSeen) (before after : FlashState) (rg : ℕ) (may_erase 
         omega (arith, pages, within)
 
     copied : (es : List Entry) (result : Wrote) → IsQuietStep old new es → Stays → Copies before after is.from is.to (data_spare is.owner.spare) result → KeepsTargets is.middle.passes (passes_at new.pages rg)
-        → ((other : ℕ) → IsTrue (list_any (puts_into other) (since_setting old.entries ++ es)) → IsTrue (list_any (puts_into other) (since_setting old.entries)) ⊎ (other ≡ is.to.unit)) → AreLaned new after.cells
+        → ((xs : List Entry) (other : ℕ) → IsTrue (list_any (puts_into other) (xs ++ es)) → IsTrue (list_any (puts_into other) xs) ⊎ (other ≡ is.to.unit)) → AreLaned new after.cells
     copied es result quiet same copies keeps puts =
         let left = program-left is.from is.to (data_spare is.owner.spare) result copies in
         let groups = kept.known.config.ranges.groups in
         laned-longer old new es after.cells quiet
-        (laned-got old.config (state_in old).generation (since_setting old.entries) (since_setting old.entries ++ es) old.pages new.pages before.cells after.cells is.to.unit (lane_at old.pages.handles.classes is.owner)
-        (copied-fills old.config (state_in old) (since_setting old.entries) old.pages before.cells rg (state_in old).generation kept.known.units kept.known.joined kept.holds.blank there h.laned is.from is.to is.owner is.middle is.due is.owned is.opened new.pages after.cells same.handles same.passes keeps)
+        (laned-got old.config (state_in old).generation old.entries new.entries (since_setting old.entries) (since_setting old.entries ++ es) old.pages new.pages before.cells after.cells is.to.unit (lane_at old.pages.handles.classes is.owner)
+        (copied-fills old.config (state_in old) old.entries (since_setting old.entries) old.pages before.cells rg (state_in old).generation kept.known.units kept.known.joined kept.holds.blank there h.laned is.from is.to is.owner is.middle is.due is.owned is.opened new.pages after.cells same.handles same.passes keeps)
+        (λ other ne taken. ⊎_elim
+        (λ owned. inl (owned.0, owned.1, before-owner same owned.0 owned.1 owned.2, owned.3))
+        (λ put. ⊎_elim (λ was. inr was) (λ (here : other ≡ is.to.unit). absurd (ne here)) (puts old.entries other (subst (λ (xs : List Entry). IsTrue (list_any (puts_into other) xs)) quiet.longer.entries_are put)))
+        taken)
         (program-others old.config before.cells after.cells is.to (data_spare is.owner.spare) left.0 left.1 inside)
-        (copied-pages old.config (state_in old) (since_setting old.entries) old.pages before.cells rg (state_in old).generation kept.known.units kept.known.joined kept.holds.blank there h.laned is.from is.to is.owner is.middle is.due is.owned is.opened after.cells left.0 (omega (arith, groups.1)) kept.known.generation inside left.1)
-        puts (live same) h.laned)
+        (copied-pages old.config (state_in old) old.entries (since_setting old.entries) old.pages before.cells rg (state_in old).generation kept.known.units kept.known.joined kept.holds.blank there h.laned is.from is.to is.owner is.middle is.due is.owned is.opened after.cells left.0 (omega (arith, groups.1)) kept.known.generation inside left.1)
+        (puts (since_setting old.entries)) (live same) h.laned)
 
   -- the targets after it
   added-targets : (middle : Relocation) (lane : Lane) (copy : Copied) → AddsCopy middle (relocation_at new.pages rg) lane copy → KeepsTargets middle.passes (passes_at new.pages rg)
@@ -137,8 +145,8 @@ module _ (old new : BookSeen) (before after : FlashState) (rg : ℕ) (may_erase 
   quiet : (e : Entry) → IsLonger old new (e ∷ []) → ((told : Bool) → Follows told old.config (point_in old) e) → sets_placement e ≡ false → IsQuietStep old new (e ∷ [])
   quiet e longer follows none = quiet-one true old new e longer none kept.known.orderly (follows true) h.placed
 
-  put-here : (copy : Copied) (to : Spot) → copy.to.unit ≡ to.unit → (other : ℕ) → IsTrue (list_any (puts_into other) (since_setting old.entries ++ entries.Copied copy ∷ [])) → IsTrue (list_any (puts_into other) (since_setting old.entries)) ⊎ (other ≡ to.unit)
-  put-here copy to same other put = ⊎_elim inl (λ (here : IsTrue (copy.to.unit == other)). inr (sym (eqb-true copy.to.unit other here) ∙ same)) (put-cases other (since_setting old.entries) (entries.Copied copy) put)
+  put-here : (copy : Copied) (to : Spot) → copy.to.unit ≡ to.unit → (xs : List Entry) (other : ℕ) → IsTrue (list_any (puts_into other) (xs ++ entries.Copied copy ∷ [])) → IsTrue (list_any (puts_into other) xs) ⊎ (other ≡ to.unit)
+  put-here copy to same xs other put = ⊎_elim inl (λ (here : IsTrue (copy.to.unit == other)). inr (sym (eqb-true copy.to.unit other here) ∙ same)) (put-cases other xs (entries.Copied copy) put)
 
   pub relocated : (step : Step) → Relocates old new before after rg may_erase step → AreLaned new after.cells
   relocated steps.Nothing r = still [] (quiet-none old new r.longer h.placed) (stays steps.Nothing r) (λ unit. refl) (rested r.is.1) (same-cells (r.is.1.flash.cells told))
@@ -155,7 +163,7 @@ module _ (old new : BookSeen) (before after : FlashState) (rg : ℕ) (may_erase 
   relocated (steps.Fault lost.None) r =
       copied (steps.Fault lost.None) r.is [] wrote.Failed (quiet-none old new r.longer h.placed) (stays (steps.Fault lost.None) r) r.is.ended.1
       (skipped-targets r.is.middle (lane_at old.pages.handles.classes r.is.owner) r.is.to.unit r.is.ended.0)
-      (λ other put. inl (put-before other (since_setting old.entries) [] refl put))
+      (λ xs other put. inl (put-before other xs [] refl put))
   relocated (steps.Fault (lost.Aside unit)) r =
       still (entries.Aside (record { unit = unit }) ∷ []) (quiet (entries.Aside (record { unit = unit })) r.longer r.follows refl) (stays (steps.Fault (lost.Aside unit)) r) (λ u. refl) (gave-up r.is.aside.passes) (same-cells (r.is.flash.read.cells told))
   relocated (steps.Fault (lost.Retired unit)) r =

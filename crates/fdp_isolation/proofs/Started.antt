@@ -9,8 +9,8 @@ use Rattle.fdp_book.specs.Book.{BookSeen, IsLed, IsLonger, point_in, state_in}
 use Rattle.fdp_book.specs.Steps.{Starts}
 use Rattle.fdp_flash.specs.declared.cell.Cell.{Cell}
 use Rattle.fdp_isolation.specs.Laned.{AreLaned, IsKnown}
-use Rattle.fdp_isolation.proofs.Entries.{point-one, quiet-one, written-one}
-use Rattle.fdp_isolation.proofs.Keeping.{laned-still, owners-fill}
+use Rattle.fdp_isolation.proofs.Entries.{quiet-one}
+use Rattle.fdp_isolation.proofs.Keeping.{laned-still, owners-fill, taken-kept}
 use Rattle.fdp_isolation.proofs.Owning.{KeepsOwners, StoodBehind, book-owners, force-kept, started-site, stood-renamed}
 use Rattle.fdp_owners.specs.OwnerTable.{owner_at}
 use Rattle.fdp_pages.specs.Steps.{ChangesOwners}
@@ -18,6 +18,7 @@ use Rattle.fdp_pointers.specs.Contents.{content_at, renamed_by}
 use Rattle.fdp_pointers.proofs.Steps.{contents-renamed}
 use Rattle.fdp_rules.specs.Next.{next}
 use Rattle.fdp_rules.specs.Point.{Point}
+use Rattle.fdp_book.proofs.Longer.{point-one, written-one}
 
 pub laned-started : (old new : BookSeen) (queue number : ℕ) (command : Command) (ticket : Ticket) (cells : List Cell) → IsKnown old → IsLed new
     → Starts old new queue number command ticket → ChangesOwners old.pages new.pages
@@ -34,6 +35,7 @@ laned-started old new queue number command ticket cells known led starts changes
     let keeps : KeepsOwners (owner_at old.pages.owners) (owner_at new.pages.owners) = book-owners old new known.led led longer.config_is (written-one old new e longer) sites stood in
     laned-still old new (e ∷ []) cells cells (quiet-one true old new e longer refl known.orderly (starts.follows true) h.placed)
     (owners-fill old.pages new.pages changes)
+    (taken-kept old new (e ∷ []) longer (λ spot x owned. let was = keeps spot x owned in (was.0, was.1)) (λ unit. refl))
     (λ unit page spare bytes low is. is)
     (λ unit. refl)
     (force-kept old.config (state_in old).generation (owner_at old.pages.owners) (owner_at new.pages.owners) keeps h.laned.live)

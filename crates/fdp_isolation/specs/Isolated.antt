@@ -1,13 +1,10 @@
 -- What isolation promises of the cells of a drive.
-use Rattle.std.specs.Prelude.{◌≡◌, ◌⊎◌, ℕ, ◌<◌, Bool, true, false, ◌&&◌, ◌||◌, ◌==◌, IsFalse, IsTrue, List, [], ◌∷◌, Some, if◌then◌else◌, slice_get}
+use Rattle.std.specs.Prelude.{◌≡◌, ◌⊎◌, ℕ, ◌<◌, Bool, false, ◌&&◌, ◌||◌, IsFalse, IsTrue, List, [], ◌∷◌, Some, if◌then◌else◌, slice_get}
 use Rattle.std.specs.List.{list_any}
 use Rattle.std.specs.Option.{option_map_or}
-use Rattle.fdp_base.specs.declared.command.Command.{Command}
-use Rattle.fdp_base.specs.declared.command.Command.TheVariants as commands
 use Rattle.fdp_base.specs.declared.config.DriveConfig.{DriveConfig}
 use Rattle.fdp_base.specs.declared.config.Geometry.{Geometry}
 use Rattle.fdp_base.specs.declared.entry.Entry.{Entry}
-use Rattle.fdp_base.specs.declared.entry.Entry.TheVariants as entries
 use Rattle.fdp_base.specs.declared.entry.Host.{Host}
 use Rattle.fdp_base.specs.EntryKinds.{empties, host_of, puts_into}
 use Rattle.fdp_base.specs.Numbers.{numbers_below}

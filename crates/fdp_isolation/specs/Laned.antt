@@ -1,5 +1,5 @@
 -- How the pages of a drive keep its data apart: what each step keeps of the cells, beside the tables of the pages.
-use Rattle.std.specs.Prelude.{◌≡◌, ℕ, ◌^◌, ◌≤◌, ◌<◌, IsTrue, List, Some, slice_index_or}
+use Rattle.std.specs.Prelude.{◌≡◌, ◌⊎◌, ℕ, ◌^◌, ◌≤◌, ◌<◌, IsTrue, List, Some, slice_index_or}
 use Rattle.std.specs.List.{list_any}
 use Rattle.fdp_base.specs.declared.config.Class.{Class}
 use Rattle.fdp_base.specs.declared.config.Class.TheVariants.{Initial}
@@ -13,7 +13,7 @@ use Rattle.fdp_base.specs.EntryKinds.{puts_into}
 use Rattle.fdp_book.specs.Book.{BookSeen, IsLed, point_in, state_in, written_in}
 use Rattle.fdp_flash.specs.declared.cell.Cell.{Cell}
 use Rattle.fdp_history.specs.Orderly.{IsOrderly}
-use Rattle.fdp_image.specs.Isolation.{EachPage}
+use Rattle.fdp_image.specs.Isolation.{EachPage, IsOfOneGroup}
 use Rattle.fdp_isolation.specs.Isolated.{since_setting}
 use Rattle.fdp_locations.specs.Located.{AreUnitsOf}
 use Rattle.fdp_locations.specs.Stored.{HoldsWritten}
@@ -49,18 +49,26 @@ pub record StandsOver (b : BookSeen) (cells : List Cell) : Type 0 where
 abbrev pub lane_by : List Class → DataSpare → Lane
 lane_by classes x = lane_of (slice_index_or classes x.ruh Initial) x.ruh
 
--- the whole pages of a unit name its group, and all one generation, that in force or an earlier one; where it is that in force all go one way
-pub record GoesOneWay (c : DriveConfig) (generation : ℕ) (classes : List Class) (cells : List Cell) (unit : ℕ) : Type 0 where
-  pub own : ℕ
-  pub past : own ≤ generation
-  pub lane : Lane
-  pub pages : EachPage c cells unit (λ x. (x.rg ≡ group_of c unit) × (x.generation ≡ own) × (own ≡ generation → lane_by classes x ≡ lane))
+-- the whole pages of a unit go one way
+abbrev pub GoOneWay : DriveConfig → List Class → List Cell → ℕ → Type 0
+GoOneWay c classes cells unit = (lane : Lane) × EachPage c cells unit (λ x. lane_by classes x ≡ lane)
 
--- What is kept apart, where this generation is in force and these are the entries since: each unit goes one way; the whole pages of one
--- that a handle fills name the handle, those of a target go the way of its lane, and both name the generation in force; so do those of
--- a unit into which one of these entries put a page, and the spare that the owner of a live page knows.
-pub record IsLaned (c : DriveConfig) (generation : ℕ) (es : List Entry) (t : PageTables) (cells : List Cell) : Type 0 where
-  pub units : (unit : ℕ) → IsDataUnit c unit → GoesOneWay c generation t.handles.classes cells unit
+-- a unit holds data of the drive: a page of it has an owner, or an entry of the run put one there
+abbrev pub IsTaken : PageTables → List Entry → ℕ → Type 0
+IsTaken t run unit = ((spot : Spot) × (x : Owner) × (owner_at t.owners spot ≡ Some x) × (spot.unit ≡ unit)) ⊎ IsTrue (list_any (puts_into unit) run)
+
+-- the whole pages of a unit name its group, and all one generation; where it is taken, that is the one in force or an earlier one, and where
+-- it is that in force they go one way
+pub record IsKeptApart (c : DriveConfig) (generation : ℕ) (classes : List Class) (cells : List Cell) (unit : ℕ) (taken : Type 0) : Type 0 where
+  pub group : IsOfOneGroup c cells unit
+  pub past : taken → group.generation ≤ generation
+  pub way : taken → group.generation ≡ generation → GoOneWay c classes cells unit
+
+-- What is kept apart, where this generation is in force, by the entries of the run, and those since it came in force: each unit is kept
+-- apart; the whole pages of one that a handle fills name the handle, those of a target go the way of its lane, and both name the generation
+-- in force; so do those of a unit into which an entry since put a page, and the spare that the owner of a live page knows.
+pub record IsLaned (c : DriveConfig) (generation : ℕ) (run es : List Entry) (t : PageTables) (cells : List Cell) : Type 0 where
+  pub units : (unit : ℕ) → IsDataUnit c unit → IsKeptApart c generation t.handles.classes cells unit (IsTaken t run unit)
   pub filled : (rg ruh unit : ℕ) → unit_of t rg ruh ≡ Some unit → EachPage c cells unit (λ x. (x.generation ≡ generation) × (x.ruh ≡ ruh))
   pub targets : (rg unit : ℕ) (lane : Lane) → target_at (passes_at t rg) lane ≡ Some unit → EachPage c cells unit (λ x. (x.generation ≡ generation) × (lane_by t.handles.classes x ≡ lane))
   pub put : (unit : ℕ) → IsTrue (list_any (puts_into unit) es) → EachPage c cells unit (λ x. x.generation ≡ generation)
@@ -68,5 +76,5 @@ pub record IsLaned (c : DriveConfig) (generation : ℕ) (es : List Entry) (t : P
 
 -- a book and its cells; each page of a going write that stands somewhere was placed
 pub record AreLaned (b : BookSeen) (cells : List Cell) : Type 0 where
-  pub laned : IsLaned b.config (state_in b).generation (since_setting b.entries) b.pages cells
+  pub laned : IsLaned b.config (state_in b).generation b.entries (since_setting b.entries) b.pages cells
   pub placed : HasOnlyPlaced (point_in b)

@@ -1,3 +1,4 @@
 pub mod Isolated
 pub mod Laned
 pub mod Alone
+pub mod Begun

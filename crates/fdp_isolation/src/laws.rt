@@ -1,10 +1,15 @@
 ghost use Rattle.std.specs.Prelude.{List, ℕ};
 ghost use Rattle.fdp_base.specs.declared.config.DriveConfig.{DriveConfig};
+ghost use Rattle.fdp_base.specs.Config.{IsValidConfig};
 ghost use Rattle.fdp_base.specs.Placement.{geometry_of};
 ghost use Rattle.fdp_book.specs.Book.{BookSeen, IsFirst, point_in};
 ghost use Rattle.fdp_flash.specs.declared.cell.Cell.{Cell};
 ghost use Rattle.fdp_flash.specs.Cells.{IsBlankUnit};
 ghost use Rattle.fdp_isolation.specs.Alone.{AreLeftAlone};
+ghost use Rattle.fdp_image.specs.Isolation.{IsIsolatedImage};
+ghost use Rattle.fdp_image.specs.Reading.{Reading};
+ghost use Rattle.fdp_image.specs.Valid.{IsValid};
+ghost use Rattle.fdp_isolation.specs.Begun.{HasBegun};
 ghost use Rattle.fdp_isolation.specs.Isolated.{IsIsolatedDrive, LeavesUsed, since_setting};
 ghost use Rattle.fdp_isolation.specs.Laned.{AreLaned, StandsOver, IsKnown};
 ghost use Rattle.fdp_rules.specs.Step.{IsDataUnit};
@@ -20,4 +25,10 @@ pub fn what_is_kept_apart_is_isolated()
 pub fn fresh_drives_are_kept_apart()
     ensures laned { (c : DriveConfig) (b : BookSeen) (cells : List Cell) → IsKnown b → IsFirst c b → ((unit : ℕ) → IsDataUnit c unit → IsBlankUnit (geometry_of c) cells unit) → AreLaned b cells }
     ensures alone { (c : DriveConfig) (b : BookSeen) (cells : List Cell) → StandsOver b cells → IsFirst c b → AreLeftAlone cells b cells }
+{}
+
+/// And on a drive whose image was opened, where that keeps its data apart.
+pub fn found_drives_are_kept_apart()
+    ensures laned { (c : DriveConfig) (cells : List Cell) (r : Reading) (b : BookSeen) → IsValidConfig c → IsValid c cells r → IsIsolatedImage c cells r → HasBegun c cells r b → AreLaned b cells }
+    ensures alone { (c : DriveConfig) (cells : List Cell) (r : Reading) (b : BookSeen) → HasBegun c cells r b → AreLeftAlone cells b cells }
 {}

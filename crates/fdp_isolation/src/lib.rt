@@ -3,4 +3,6 @@
 
 mod laws;
 
-pub use laws::{fresh_drives_are_kept_apart, what_is_kept_apart_is_isolated};
+pub use laws::{
+    found_drives_are_kept_apart, fresh_drives_are_kept_apart, what_is_kept_apart_is_isolated,
+};

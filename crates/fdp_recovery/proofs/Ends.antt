@@ -1,5 +1,6 @@
 -- How openings end, one step after another.
 use Rattle.std.proofs.Common.{◌≡◌, ◌∙◌, ◌+◌, Ok, Err, IsTrue, Result, ℕ, List, subst, sym}
+use Rattle.std.specs.Prelude.{IfOk}
 use Rattle.fdp_base.specs.declared.config.Geometry.{Geometry}
 use Rattle.fdp_areas.specs.declared.seal.LookFailed.{LookFailed}
 use Rattle.fdp_areas.specs.Looking.{Ends}
@@ -13,6 +14,11 @@ use Rattle.fdp_recovery.specs.declared.opened.OpenFault.TheVariants as faults
 use Rattle.fdp_recovery.specs.Opened.{EndsOpening}
 use Rattle.fdp_recovery.specs.Ready.{NeverFails}
 use Rattle.fdp_recovery.specs.Walking.{OnlyLooks}
+
+-- what holds whatever is answered holds of an answer that is no fault
+pub if_ok : {X E P : Type 0} (result : Result X E) → P → IfOk result (λ x. P)
+if_ok (Ok x) p = p
+if_ok (Err e) p = tt
 
 -- no look, and some looks after others
 pub no_look : (s : FlashState) → OnlyLooks s s

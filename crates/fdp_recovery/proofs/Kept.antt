@@ -57,17 +57,17 @@ past_list s nsid lba rows e past l le = sym (e l) ∙ ap (option_and_then (λ (x
 -- ---- the order of the blocks
 
 -- the blocks before the next one are those before this one, and this one
-before-next : (n l nsid lba : ℕ) → IsBefore n l nsid (lba + 1) → IsBefore n l nsid lba ⊎ ((n ≡ nsid) × (l ≡ lba))
+pub before-next : (n l nsid lba : ℕ) → IsBefore n l nsid (lba + 1) → IsBefore n l nsid lba ⊎ ((n ≡ nsid) × (l ≡ lba))
 before-next n l nsid lba (inl low) = inl (inl low)
 before-next n l nsid lba (inr h) =
     ⊎_elim (λ (low : l < lba). inl (inr (h.0, low))) (λ (high : lba ≤ l). let same : l ≡ lba = omega (arith, high, h.1) in inr (h.0, same)) (cases_lt l lba)
 
-before-more : (n l nsid lba : ℕ) → IsBefore n l nsid lba → IsBefore n l nsid (lba + 1)
+pub before-more : (n l nsid lba : ℕ) → IsBefore n l nsid lba → IsBefore n l nsid (lba + 1)
 before-more n l nsid lba (inl low) = inl low
 before-more n l nsid lba (inr h) = inr (h.0, omega (arith, h.1))
 
 -- those before the next namespace are those before any address of this one, and those behind that
-before-row : (n l nsid lba : ℕ) → IsBefore n l (nsid + 1) 0 → IsBefore n l nsid lba ⊎ ((n ≡ nsid) × (lba ≤ l))
+pub before-row : (n l nsid lba : ℕ) → IsBefore n l (nsid + 1) 0 → IsBefore n l nsid lba ⊎ ((n ≡ nsid) × (lba ≤ l))
 before-row n l nsid lba (inl low) =
     ⊎_elim
     (λ (lower : n < nsid). inl (inl lower))
@@ -77,30 +77,30 @@ before-row n l nsid lba (inl low) =
     (cases_lt n nsid)
 before-row n l nsid lba (inr h) = absurd (omega (arith, h.1))
 
-before-all-row : (n l nsid lba : ℕ) → IsBefore n l nsid lba → IsBefore n l (nsid + 1) 0
+pub before-all-row : (n l nsid lba : ℕ) → IsBefore n l nsid lba → IsBefore n l (nsid + 1) 0
 before-all-row n l nsid lba (inl low) = inl (omega (arith, low))
 before-all-row n l nsid lba (inr h) = inl (omega (arith, h.0))
 
-never-before : (nsid lba : ℕ) → IsBefore nsid lba nsid lba → ⊥
+pub never-before : (nsid lba : ℕ) → IsBefore nsid lba nsid lba → ⊥
 never-before nsid lba (inl low) = omega (arith, low)
 never-before nsid lba (inr h) = omega (arith, h.1)
 
 -- ---- the namespaces
 
 -- a block that has a page is of one of the sixteen namespaces
-record IsOfSixteen (nsid : ℕ) : Type 0 where
+pub record IsOfSixteen (nsid : ℕ) : Type 0 where
   pub least : 1 ≤ nsid
   pub most : nsid < 17
 
-of_sixteen : (s : State) (nsid lba page : ℕ) → (reading_of_state s).pages nsid lba ≡ Some page → IsOfSixteen nsid
+pub of_sixteen : (s : State) (nsid lba page : ℕ) → (reading_of_state s).pages nsid lba ≡ Some page → IsOfSixteen nsid
 unfolding reading_of_state
 of_sixteen s nsid lba page there = let id = id_is nsid (listed-id s.pages nsid lba page there) in record { least = id.0; most = omega (arith, id.1) }
 
-none-before : (s : State) (n l page : ℕ) → IsBefore n l 1 0 → (reading_of_state s).pages n l ≡ Some page → ⊥
+pub none-before : (s : State) (n l page : ℕ) → IsBefore n l 1 0 → (reading_of_state s).pages n l ≡ Some page → ⊥
 none-before s n l page (inl low) there = let is = of_sixteen s n l page there in omega (arith, is.least, low)
 none-before s n l page (inr h) there = omega (arith, h.1)
 
-all-before : (s : State) (n l page nsid : ℕ) → 17 ≤ nsid → (reading_of_state s).pages n l ≡ Some page → IsBefore n l nsid 0
+pub all-before : (s : State) (n l page nsid : ℕ) → 17 ≤ nsid → (reading_of_state s).pages n l ≡ Some page → IsBefore n l nsid 0
 all-before s n l page nsid past there = let is = of_sixteen s n l page there in inl (omega (arith, is.most, past))
 
 -- ---- blocks that are kept

@@ -202,12 +202,25 @@ fn names_block(
     ensures { result ≡ option_map_or (names_block config.now (reading_of_state state.now) nsid lba number) (said_by_data spare.now) false }
 {
     match decode_data_spare(spare) {
-        Some(said) => {
-            is_named(config, state, nsid, lba, number, &said)
-                && is_one_of(handles_of(state, nsid), said.ruh)
-        }
+        Some(said) => says_block(config, state, nsid, lba, number, &said),
         None => false,
     }
+}
+
+/// Whether a spare names a block, the group of its unit, the generation in force and one of the handles of its namespace.
+pub fn says_block(
+    config: &DriveConfig,
+    state: &State,
+    nsid: u32,
+    lba: u64,
+    number: u32,
+    said: &DataSpare,
+) -> bool
+    requires config { IsInRange config.now }
+    requires state { IsLoadable state.now }
+    ensures { result ≡ names_block config.now (reading_of_state state.now) nsid lba number said.now }
+{
+    is_named(config, state, nsid, lba, number, said) && is_one_of(handles_of(state, nsid), said.ruh)
 }
 
 /// Whether a spare names a block, the group of its unit and the generation in force.

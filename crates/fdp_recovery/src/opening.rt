@@ -48,6 +48,7 @@ pub fn open_state<F: Flash>(
     ensures told { IsTrue (F.state flash.old).told → TellsOpened config.now (F.state flash.old).geometry (F.state flash.old).cells result }
     ensures ends { EndsOpening (F.state flash.old) (F.state flash.new) result }
     ensures goes_on { IfOk result (GoesOn config.now) }
+    ensures cut { IfOk result (λ opened. (F.state flash.old).geometry ≡ geometry_of config.now) }
 {
     let block = flash.geometry().block as usize;
     match blank_page(alloc, block) {
@@ -76,6 +77,7 @@ fn open_with<F: Flash>(
     ensures told { IsTrue (F.state flash.old).told → TellsOpened config.now (F.state flash.old).geometry (F.state flash.old).cells result }
     ensures ends { EndsOpening (F.state flash.old) (F.state flash.new) result }
     ensures goes_on { IfOk result (GoesOn config.now) }
+    ensures cut { IfOk result (λ opened. (F.state flash.old).geometry ≡ geometry_of config.now) }
 {
     match find_current(flash, page) {
         Ok(Some(current)) => open_area(alloc, flash, config, &current, page),
@@ -98,6 +100,7 @@ fn open_unsealed<F: Flash>(
     ensures told { IsTrue (F.state flash.old).told → TellsOpened config.now (F.state flash.old).geometry (F.state flash.old).cells result }
     ensures ends { EndsOpening (F.state flash.old) (F.state flash.new) result }
     ensures goes_on { IfOk result (GoesOn config.now) }
+    ensures cut { IfOk result (λ opened. (F.state flash.old).geometry ≡ geometry_of config.now) }
 {
     match other_cut(config, &flash.geometry()) {
         Some(key) => return Err(OpenFault::OtherConfig { key }),
@@ -128,6 +131,7 @@ fn open_area<F: Flash>(
     ensures told { IsTrue (F.state flash.old).told → TellsOpened config.now (F.state flash.old).geometry (F.state flash.old).cells result }
     ensures ends { EndsOpening (F.state flash.old) (F.state flash.new) result }
     ensures goes_on { IfOk result (GoesOn config.now) }
+    ensures cut { IfOk result (λ opened. (F.state flash.old).geometry ≡ geometry_of config.now) }
 {
     let state = match read_area(alloc, flash, config, current, page) {
         Ok(state) => state,

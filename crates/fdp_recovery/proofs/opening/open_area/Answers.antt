@@ -8,7 +8,7 @@ use Rattle.fdp_flash.proofs.OnlyReads.{reads_joined}
 use Rattle.fdp_image.specs.Areas.{data_pages}
 use Rattle.fdp_image.specs.Checkpoint.{reading_of_state}
 use Rattle.fdp_recovery.specs.Blocks.{TellsBlocks}
-use Rattle.fdp_recovery.proofs.Ends.{cut_after, ends_quiet, looked, told_before}
+use Rattle.fdp_recovery.proofs.Ends.{cut_after, ends_quiet, if_ok, looked, told_before}
 use Rattle.fdp_recovery.proofs.Passing.{bad_block, fault_opened, left_so}
 use Rattle.fdp_recovery.proofs.opening.open_area.Goals as goal
 
@@ -67,3 +67,6 @@ returns-in-Err-find_unkept-clause-looks g c =
 
 pub returns-in-Ok-None-clause-goes_on : goal.returns-in-Ok-None-clause-goes_on
 returns-in-Ok-None-clause-goes_on g c = c.found.ensures.goes_on c.args.config.now c.in-Ok.ensures.ready.state (c.in-Ok-None.ensures.apart (ap Ok c.in-Ok-None.field-0-is))
+
+pub returns-in-Ok-None-clause-cut : goal.returns-in-Ok-None-clause-cut
+returns-in-Ok-None-clause-cut g c = if_ok c.found.result c.in-Ok.ensures.ready.cut

@@ -1,11 +1,12 @@
 use Rattle.std.proofs.Common.{◌≡◌, ◌+◌, List, Option, None, arith, length, subst}
-use Rattle.std.specs.Prelude.{IfSome}
+use Rattle.std.specs.Prelude.{IfOk, IfSome}
 use Rattle.std.proofs.lemmas.Grind.{common_steps}
 use Rattle.fdp_areas.specs.declared.seal.Current.{Current}
 use Rattle.fdp_areas.specs.Seals.{IsCurrentSeal, LiesIn, TellsCurrent}
 use Rattle.fdp_base.specs.declared.config.Geometry.{Geometry}
 use Rattle.fdp_flash.specs.declared.cell.Cell.{Cell}
 use Rattle.fdp_base.specs.Geometry.{area_pages}
+use Rattle.fdp_base.specs.Placement.{geometry_of}
 use Rattle.fdp_flash.specs.OnlyReads.{ReadsOnly}
 use Rattle.fdp_flash.proofs.OnlyReads.{reads_fewer, reads_joined}
 use Rattle.fdp_image.specs.Areas.{current_area, data_pages}
@@ -76,3 +77,11 @@ returns-in-Ok-None-clause-told g c =
 
 pub returns-in-Ok-None-clause-ends : goal.returns-in-Ok-None-clause-ends
 returns-in-Ok-None-clause-ends g c = ends_behind _ _ _ c.open_unsealed.result (looked _ _ _ c.in-Ok-None.ensures.looks) c.in-Ok-None.ensures.ends c.open_unsealed.ensures.ends
+
+pub returns-in-Ok-Some-clause-cut : goal.returns-in-Ok-Some-clause-cut
+returns-in-Ok-Some-clause-cut g c =
+    cut_before (g.F.Flash.state c.args.flash.now) (g.F.Flash.state c.find_current.new.flash) (λ (x : Geometry). IfOk c.open_area.result (λ opened. x ≡ geometry_of c.args.config.now)) (looked _ _ _ c.in-Ok-Some.ensures.looks) c.open_area.ensures.cut
+
+pub returns-in-Ok-None-clause-cut : goal.returns-in-Ok-None-clause-cut
+returns-in-Ok-None-clause-cut g c =
+    cut_before (g.F.Flash.state c.args.flash.now) (g.F.Flash.state c.find_current.new.flash) (λ (x : Geometry). IfOk c.open_unsealed.result (λ opened. x ≡ geometry_of c.args.config.now)) (looked _ _ _ c.in-Ok-None.ensures.looks) c.open_unsealed.ensures.cut

@@ -1,0 +1,14 @@
+pub mod Listing
+pub mod Lists
+pub mod Blocks
+pub mod Stating
+pub mod Reading
+pub mod Ordering
+pub mod Loaded
+pub mod Paging
+pub mod Leading
+pub mod Pointing
+pub mod Opening
+pub mod Reopening
+pub mod Telling
+pub mod Bridging

@@ -1,0 +1,4 @@
+pub mod Finding
+pub mod Beginning
+pub mod Opened
+pub mod Told

@@ -1,0 +1,8 @@
+use Rattle.fdp_isolation.proofs.Found.{alone-found, laned-found}
+use Rattle.fdp_isolation.proofs.laws.found_drives_are_kept_apart.Goals as goal
+
+pub returns-clause-laned : goal.returns-clause-laned
+returns-clause-laned c = laned-found
+
+pub returns-clause-alone : goal.returns-clause-alone
+returns-clause-alone c = alone-found

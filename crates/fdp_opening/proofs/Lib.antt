@@ -1,0 +1,4 @@
+pub mod Scanned
+pub mod Owning
+pub mod Looking
+pub mod Mapping

@@ -1,0 +1,14 @@
+//! What an opening finds of the pages of data: which units are used, and whose pages are.
+#![tactic(auto)]
+
+mod blocks;
+mod fault;
+mod opening;
+mod taking;
+#[cfg(test)]
+mod tests;
+mod units;
+
+pub use fault::PagesFault;
+pub use opening::find_pages;
+pub use taking::take_map;
