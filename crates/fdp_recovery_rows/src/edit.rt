@@ -1,4 +1,5 @@
 use crate::image::{fill, set, with_checkpoint};
+use crate::reopen::{reopened, stopped};
 use fdp_base::Sequence;
 use fdp_flash::{Cell, Outcome, Plan};
 use std::alloc::{AllocError, Global};
@@ -63,8 +64,13 @@ pub fn make_edit(
         }
         "stop" => {
             let old = mem::replace(cells, Vec::new(alloc));
-            let plan = stopped(alloc, number_in(words.second), words.third);
+            let plan = stopped(alloc, number_in(words.second), outcome_in(words.third));
             *cells = with_checkpoint(alloc, old, plan, 1, 2, 6)?;
+            Ok(())
+        }
+        "reopen" => {
+            let old = mem::replace(cells, Vec::new(alloc));
+            *cells = reopened(alloc, old, number_in(words.second), outcome_in(words.third))?;
             Ok(())
         }
         "clear" => {
@@ -83,14 +89,6 @@ pub fn make_edit(
             Ok(())
         }
         _ => Ok(()),
-    }
-}
-
-fn stopped(alloc: Global, call: u64, what: &str) -> Plan {
-    Plan {
-        calls: 0,
-        failing: Sequence::new(alloc),
-        stop: Some((call, outcome_in(what))),
     }
 }
 

@@ -1,7 +1,9 @@
-use crate::drive::{SMALL, small_state};
+ghost use Rattle.std.specs.Prelude.{◌≤◌};
+
+use crate::drive::small_state;
+use crate::reopen::with_state;
 use fdp_base::{DataSpare, Sequence, Totals};
-use fdp_checkpoint::{page_count, write};
-use fdp_flash::{Cell, Flash, FlashMem, Plan, Wrote};
+use fdp_flash::{Cell, Plan};
 use fdp_records::{Change, Stamp, SystemKind, SystemSpare};
 use std::alloc::{AllocError, Global};
 
@@ -95,17 +97,7 @@ fn record(
     })
 }
 
-/// A second copy of cells.
-pub fn copied(alloc: Global, cells: &[Cell]) -> Result<Vec<Cell>, AllocError> {
-    let mut copy = Vec::new(alloc);
-    for cell in cells {
-        copy.push(cell.copied()?)?;
-    }
-    Ok(copy)
-}
-
-/// The cells once the small state at a position was written into an area, under a plan; as they are where they are not those of the small
-/// drive.
+/// The cells once the small state at a position was written into an area, under a plan.
 pub fn with_checkpoint(
     alloc: Global,
     cells: Vec<Cell>,
@@ -113,27 +105,9 @@ pub fn with_checkpoint(
     area: u8,
     epoch: u64,
     position: u16,
-) -> Result<Vec<Cell>, AllocError> {
-    if !FlashMem::are_cells(SMALL, cells.as_slice()) || area > 1 {
-        return Ok(cells);
-    }
+) -> Result<Vec<Cell>, AllocError>
+    requires { area ≤ 1 }
+{
     let state = small_state(alloc, position)?;
-    let mut flash = FlashMem::of_cells(alloc, SMALL, cells, plan)?;
-    let geometry = flash.geometry();
-    let mut page = vec![in alloc; 0u8; geometry.block as usize]?;
-    match page_count(&geometry, &state.summary) {
-        Some(_count) => {
-            let pages = state.pages.as_slice();
-            let _wrote: Wrote = write(
-                &mut flash,
-                area,
-                epoch,
-                &state.summary,
-                pages,
-                page.as_mut_slice(),
-            );
-        }
-        None => {}
-    }
-    copied(alloc, flash.cells())
+    with_state(alloc, cells, plan, area, epoch, &state)
 }

@@ -9,6 +9,7 @@
 //! - `page N blank`, `page N torn`, `page N spare AT VALUE` and `page N byte AT VALUE` change a page; `page N as M` makes it like another;
 //! - `second EPOCH` writes a checkpoint of this epoch at position 6 into the second area: seven erases, eleven programs, and that of the
 //!   seal; `stop CALL OUTCOME` writes it with epoch 2, stopped in a call (`blank`, `torn`, `whole`);
+//! - `reopen CALL OUTCOME` opens the drive, and writes its checkpoint into the other area, stopped in this call of that; call 20 is none of it;
 //! - `full` fills the first area with records; `clear` makes each page blank;
 //! - `units N` is the number of data units that the configuration asks for; `fail CALL` lets a call of the opening fail.
 #![tactic(auto)]
@@ -16,6 +17,7 @@
 mod drive;
 mod edit;
 mod image;
+mod reopen;
 mod row;
 
 use anyhow::Result;
