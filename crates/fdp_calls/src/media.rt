@@ -4,6 +4,7 @@ ghost use Rattle.fdp_base.specs.Pattern.{HasBlock, payload_block};
 ghost use Rattle.fdp_flash.specs.declared.cell.Cell.TheVariants.{Whole};
 ghost use Rattle.fdp_flash.specs.Cells.{IsBlankFrom, ProgramMayLeave};
 ghost use Rattle.fdp_flash.specs.Layout.{IsIn, page_number};
+ghost use Rattle.fdp_flash.specs.Runs.{Runs};
 ghost use Rattle.fdp_calls.specs.Calls.{IsKept, IsWholeAt, MakesCalls, fetch_at, program_at};
 ghost use Rattle.fdp_calls.specs.Media.{IsProgrammedTo, IsReadFrom};
 
@@ -52,6 +53,7 @@ pub fn program<F: Flash>(
     requires payload { HasBlock (length block.old) payload.now index }
     requires order { IsTrue (F.state flash.old).told → IsBlankFrom (F.state flash.old).geometry (F.state flash.old).cells at }
     ensures kept { IsKept (F.state flash.old) (F.state flash.new) }
+    ensures stops { Runs (F.state flash.old) (F.state flash.new) (λ m image. ProgramMayLeave (F.state flash.old).geometry (F.state flash.old).cells at spare.now (payload_block (length block.old) payload.now index) image) }
     ensures done { OnOk result (IsProgrammedTo (F.state flash.old) (F.state flash.new) (page_number (F.state flash.old).geometry at) (Whole spare.now (payload_block (length block.old) payload.now index))) }
     ensures size { length block.new ≡ length block.old }
     ensures called { OnOk result (MakesCalls (F.state flash.old) (F.state flash.new) (program_at at false ∷ [])) }

@@ -110,7 +110,7 @@ ready_read c s now summary base flash h told =
 
 -- ---- what may be read
 
-pub saving_first : (c : DriveConfig) (wanted : Bool) (own tried : Reading) (given : State) (x : Change × Totals) (old new : FlashState)
+saving_first : (c : DriveConfig) (wanted : Bool) (own tried : Reading) (given : State) (x : Change × Totals) (old new : FlashState)
     → Holds (ReadsAsOneOf c old.cells (within_renewal wanted own tried given)) old new → Holds (ReadsAsOneOf c old.cells (within_saving c wanted own tried given x)) old new
 saving_first c wanted own tried given x old new held =
     let base = base_of wanted own given in
@@ -138,6 +138,12 @@ saving_stops c wanted own tried given x a b d p q =
       among = behind own r.reading (tried ∷ base ∷ more ∷ []) (behind tried r.reading (base ∷ more ∷ []) r.among);
       data_pages_same = λ page lt. r.data_pages_same page lt ∙ before.data_pages_same page lt;
     }))
+
+-- the checkpoint failed, so one was wanted
+pub unsaved_stops : (c : DriveConfig) (wanted : Bool) (own tried : Reading) (given : State) (s : JournalState) (old new : FlashState) → MakesSystemCalls old new (AreCallsOfRenewal wanted s given.summary Failed)
+    → Holds (ReadsAsOneOf c old.cells (within_renewal wanted own tried given)) old new → Holds (ReadsAsOneOf c old.cells (within_checkpoint own tried given)) old new
+unsaved_stops c wanted own tried given s old new made held =
+    subst (λ (b : Bool). Holds (ReadsAsOneOf c old.cells (own ∷ tried ∷ (if b then reading_of_state given else own) ∷ [])) old new) made.are.0 held
 
 -- ---- the calls
 

@@ -9,3 +9,4 @@ pub mod Joined
 pub mod Beginning
 pub mod DataPages
 pub mod Room
+pub mod Failing

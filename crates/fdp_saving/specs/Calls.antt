@@ -1,7 +1,8 @@
 -- The calls of a saving.
-use Rattle.std.specs.Prelude.{◌≡◌, ◌≤◌, Bool, true, List, [], ◌∷◌, ◌++◌, All, if◌then◌else◌}
+use Rattle.std.specs.Prelude.{◌≡◌, ◌≤◌, Bool, true, false, List, [], ◌∷◌, ◌++◌, All, if◌then◌else◌}
+use Rattle.std.specs.List.{list_any}
 use Rattle.fdp_base.specs.Geometry.{data_units}
-use Rattle.fdp_calls.specs.Calls.{MakesCalls}
+use Rattle.fdp_calls.specs.Calls.{MakesCalls, has_failed}
 use Rattle.fdp_checkpoint.specs.Writing.{checkpoint_calls}
 use Rattle.fdp_flash.specs.declared.answer.Wrote.{Wrote}
 use Rattle.fdp_flash.specs.declared.answer.Wrote.TheVariants as wrote
@@ -21,6 +22,14 @@ pub record AreUpToFailed (planned calls : List Call) : Type 0 where
   pub behind : List Call
   pub planned_are : planned ≡ before ++ last ∷ behind
   pub calls_are : calls ≡ before ++ record last { failed = true } ∷ []
+
+-- calls of which just the last failed
+pub record FailAtEnd (calls : List Call) : Type 0 where
+  pub before : List Call
+  pub last : Call
+  pub calls_are : calls ≡ before ++ last ∷ []
+  pub well : list_any has_failed before ≡ false
+  pub failed : last.failed ≡ true
 
 -- Calls in system units were made, one after another, that are these; no page of data was programmed.
 pub record MakesSystemCalls (old new : FlashState) (Are : List Call → Type 0) : Type 0 where

@@ -44,6 +44,12 @@ within_append c own x = own ∷ applied c own x ∷ []
 abbrev pub within_saving : DriveConfig → Bool → Reading → Reading → State → Change × Totals → List Reading
 within_saving c wanted own tried given x = own ∷ tried ∷ base_of wanted own given ∷ applied c (base_of wanted own given) x ∷ []
 
+-- what may be read while a change is saved, by the answer: where the checkpoint before it failed, nothing more than while that was written
+abbrev pub within_saved : DriveConfig → Bool → Reading → Reading → State → Change × Totals → Saved → List Reading
+within_saved c wanted own tried given x answers.Done = within_saving c wanted own tried given x
+within_saved c wanted own tried given x (answers.Doubtful moment) = within_saving c wanted own tried given x
+within_saved c wanted own tried given x (answers.Unsaved moment) = within_checkpoint own tried given
+
 -- what the areas say after a checkpoint, by its answer: the state that was given, or what they said; where it failed, the other area may say
 -- that state, or what it said
 abbrev pub SayAfterCheckpoint : DriveConfig → JournalState → List Cell → Reading → Reading → State → Wrote → Type 0

@@ -1,10 +1,14 @@
-ghost use Rattle.std.specs.Prelude.{◌≡◌, ◌⊎◌, ℕ, ◌+◌, ◌<◌, ◌≤◌, false, List, Some, None, length, slice_get};
+ghost use Rattle.std.specs.Prelude.{◌≡◌, ◌⊎◌, ℕ, ◌+◌, ◌<◌, ◌≤◌, Bool, false, List, Some, None, length, slice_get};
+ghost use Rattle.std.specs.List.{list_any};
 ghost use Rattle.fdp_base.specs.Config.{IsValidConfig};
 ghost use Rattle.fdp_base.specs.Geometry.{IsValidGeometry, all_pages, area_pages};
 ghost use Rattle.fdp_base.specs.Placement.{geometry_of, most_blocks};
 ghost use Rattle.fdp_base.specs.declared.config.DriveConfig.{DriveConfig};
 ghost use Rattle.fdp_base.specs.declared.config.Geometry.{Geometry};
+ghost use Rattle.fdp_calls.specs.Calls.{has_failed};
+ghost use Rattle.fdp_flash.specs.declared.answer.Wrote.TheVariants as wrote;
 ghost use Rattle.fdp_flash.specs.Cells.{IsBlankFlash};
+ghost use Rattle.fdp_flash.specs.FlashState.{Call};
 ghost use Rattle.fdp_flash.specs.declared.cell.Cell.{Cell};
 ghost use Rattle.fdp_image.specs.Areas.{Sealed, current_area, data_pages};
 ghost use Rattle.fdp_image.specs.Reading.{Reading};
@@ -13,6 +17,8 @@ ghost use Rattle.fdp_image.specs.Replacing.{pages_for};
 ghost use Rattle.fdp_journal.specs.JournalState.{JournalState};
 ghost use Rattle.fdp_snapshot.specs.Reading.{blocks_in};
 ghost use Rattle.fdp_snapshot.specs.declared.state.Summary.{Summary};
+ghost use Rattle.fdp_saving.specs.Calls.{AreCallsOfCheckpoint, AreCallsOfRenewal, AreCallsOfSaving, FailAtEnd};
+ghost use Rattle.fdp_saving.specs.declared.saved.Saved.TheVariants as answers;
 ghost use Rattle.fdp_saving.specs.Said.{AreasSay};
 ghost use Rattle.fdp_saving.specs.Saver.{IsSaverIn, first_saver};
 
@@ -48,4 +54,15 @@ pub fn data_pages_may_change()
 /// Behind the checkpoint of a drive of a valid configuration and its seal an area has room for sixteen records.
 pub fn a_checkpoint_leaves_room_for_a_journal()
     ensures { (c : DriveConfig) (summary : Summary) → IsValidConfig c → blocks_in summary.spaces ≤ most_blocks c → pages_for c.block summary + 17 ≤ area_pages (geometry_of c) }
+{}
+
+/// Of the calls of a saving, of a checkpoint, and of one that was wanted or not, none failed where it is done, and else just the last.
+pub fn only_the_last_call_fails()
+    ensures saved { (s : JournalState) (summary : Summary) (calls : List Call) → AreCallsOfSaving s summary answers.Done calls → list_any has_failed calls ≡ false }
+    ensures doubtful { (s : JournalState) (summary : Summary) (moment : ℕ) (calls : List Call) → AreCallsOfSaving s summary (answers.Doubtful moment) calls → FailAtEnd calls }
+    ensures unsaved { (s : JournalState) (summary : Summary) (moment : ℕ) (calls : List Call) → AreCallsOfSaving s summary (answers.Unsaved moment) calls → FailAtEnd calls }
+    ensures written { (s : JournalState) (summary : Summary) (calls : List Call) → AreCallsOfCheckpoint s summary wrote.Done calls → list_any has_failed calls ≡ false }
+    ensures stopped { (s : JournalState) (summary : Summary) (calls : List Call) → AreCallsOfCheckpoint s summary wrote.Failed calls → FailAtEnd calls }
+    ensures renewed { (wanted : Bool) (s : JournalState) (summary : Summary) (calls : List Call) → AreCallsOfRenewal wanted s summary wrote.Done calls → list_any has_failed calls ≡ false }
+    ensures failed { (wanted : Bool) (s : JournalState) (summary : Summary) (calls : List Call) → AreCallsOfRenewal wanted s summary wrote.Failed calls → FailAtEnd calls }
 {}

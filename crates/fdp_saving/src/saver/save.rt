@@ -13,7 +13,7 @@ ghost use Rattle.fdp_snapshot.specs.Checkpoint.{IsState};
 ghost use Rattle.fdp_saving.specs.Calls.{AreCallsOfAppend, AreCallsOfSaving, MakesSystemCalls};
 ghost use Rattle.fdp_saving.specs.Said.{AreasSay, ReadsAsOneOf};
 ghost use Rattle.fdp_saving.specs.Saver.{IsSaverIn, after_append, after_saving, needs_checkpoint};
-ghost use Rattle.fdp_saving.specs.Saving.{EndsCheckpoint, EndsSaving, IsOfDrive, SayAfterAppend, SayAfterSaving, base_of, within_append, within_saving};
+ghost use Rattle.fdp_saving.specs.Saving.{EndsCheckpoint, EndsSaving, IsOfDrive, SayAfterAppend, SayAfterSaving, base_of, within_append, within_saved};
 
 use crate::saved::Saved;
 use crate::saver::Saver;
@@ -46,7 +46,7 @@ impl Saver {
         requires saver { IsTrue (F.state flash.old).told → IsSaverIn (F.state flash.old).cells self.old }
         ensures saver { self.new ≡ after_saving self.old summary.now result }
         ensures stands { IsTrue (F.state flash.old).told → IsSaverIn (F.state flash.new).cells self.new }
-        ensures stops { (c : DriveConfig) (own tried : Reading) → IsOfDrive c self.old (with_pages summary.now pages.now) → (IsTrue (F.state flash.old).told → AreasSay c self.old (F.state flash.old).cells own tried) → Holds (ReadsAsOneOf c (F.state flash.old).cells (within_saving c (needs_checkpoint self.old) own tried (with_pages summary.now pages.now) (change.now, totals.now))) (F.state flash.old) (F.state flash.new) }
+        ensures stops { (c : DriveConfig) (own tried : Reading) → IsOfDrive c self.old (with_pages summary.now pages.now) → (IsTrue (F.state flash.old).told → AreasSay c self.old (F.state flash.old).cells own tried) → Holds (ReadsAsOneOf c (F.state flash.old).cells (within_saved c (needs_checkpoint self.old) own tried (with_pages summary.now pages.now) (change.now, totals.now) result)) (F.state flash.old) (F.state flash.new) }
         ensures said { (c : DriveConfig) (own tried : Reading) → IsOfDrive c self.old (with_pages summary.now pages.now) → IsTrue (F.state flash.old).told → AreasSay c self.old (F.state flash.old).cells own tried → SayAfterSaving c self.new (F.state flash.new).cells own tried (with_pages summary.now pages.now) (base_of (needs_checkpoint self.old) own (with_pages summary.now pages.now)) (change.now, totals.now) result }
         ensures calls { MakesSystemCalls (F.state flash.old) (F.state flash.new) (AreCallsOfSaving self.old summary.now result) }
         ensures ends { EndsSaving (F.state flash.old) (F.state flash.new) result }

@@ -2,7 +2,7 @@ use Rattle.std.proofs.Common.{IsTrue, sym, subst}
 use Rattle.fdp_checkpoint.specs.Writing.{with_pages}
 use Rattle.fdp_saving.specs.Saver.{needs_checkpoint}
 use Rattle.fdp_saving.specs.Saving.{base_of}
-use Rattle.fdp_saving.proofs.Joined.{doubtful_calls, readied, ready_at, ready_read, saved_calls, saving_first, saving_stops}
+use Rattle.fdp_saving.proofs.Joined.{doubtful_calls, readied, ready_at, ready_read, saved_calls, saving_stops, unsaved_stops}
 use Rattle.fdp_saving.proofs.saver.Saver.save.Goals as goal
 
 pub returns-in-Done-append-clause-stops : goal.returns-in-Done-append-clause-stops
@@ -67,4 +67,4 @@ returns-in-Failed-append-clause-calls g c =
 
 pub returns-in-Failed-clause-stops : goal.returns-in-Failed-clause-stops
 returns-in-Failed-clause-stops g c d own tried drive says =
-    saving_first d (needs_checkpoint c.args.self.now) own tried (with_pages c.args.summary.now c.args.pages.now) (c.args.change.now, c.args.totals.now) _ _ (c.in-Failed.ensures.stops d own tried drive says)
+    unsaved_stops d (needs_checkpoint c.args.self.now) own tried (with_pages c.args.summary.now c.args.pages.now) c.args.self.now _ _ c.in-Failed.ensures.calls (c.in-Failed.ensures.stops d own tried drive says)
