@@ -1,5 +1,5 @@
 -- A live page that was fetched, and the page that was found for its copy.
-use Rattle.std.proofs.Common.{◌≡◌, ℕ, ◌<◌, ◌≤◌, List, Option, Some, refl, ap, sym, ◌∙◌, subst, arith}
+use Rattle.std.proofs.Common.{◌≡◌, ℕ, ◌<◌, ◌≤◌, Bool, List, Option, Some, refl, ap, sym, ◌∙◌, subst, arith, inl, inr}
 use Rattle.std.specs.Prelude.{IfSome, IsTrue}
 use Rattle.fdp_base.specs.declared.config.Class.{Class}
 use Rattle.fdp_base.specs.declared.config.Geometry.{Geometry}
@@ -8,12 +8,12 @@ use Rattle.fdp_base.specs.Geometry.{data_units}
 use Rattle.fdp_base.specs.Spare.{data_spare}
 use Rattle.fdp_collector.specs.declared.step.Lost.TheVariants as lost
 use Rattle.fdp_collector.specs.declared.step.Step.TheVariants as steps
-use Rattle.fdp_collector.specs.Copying.{Copies, IsSameBut}
-use Rattle.fdp_collector.specs.Ready.{AreOfFlash, IsBlankBehind, IsOpen, IsReady, KeepsLive, Relocation, lane_at}
+use Rattle.fdp_collector.specs.Copying.{Copies}
+use Rattle.fdp_collector.specs.Leaving.{StepMayLeave}
+use Rattle.fdp_collector.specs.Ready.{AreOfFlash, IsBlankBehind, IsOpen, IsReady, Relocation, lane_at}
 use Rattle.fdp_collector.specs.Step.{AddsCopy, IsCopyStep, SkipsPage}
-use Rattle.fdp_collector.proofs.Copied.{CopyRun, copies-done, copies-unprogrammed}
-use Rattle.fdp_collector.proofs.Readied.{copy-blank, copy-opened, data-unit, open-cut, open-unit, target-of}
-use Rattle.fdp_collector.proofs.Stored.{other-kept}
+use Rattle.fdp_collector.proofs.Copied.{CopyMayLeave, CopyRun, copies-done, copies-unprogrammed}
+use Rattle.fdp_collector.proofs.Readied.{copy-blank, copy-opened, copy-unused, data-unit, first-blank, open-cut, open-unit, target-of}
 use Rattle.fdp_flash.specs.declared.answer.Fetched.TheVariants as fetched
 use Rattle.fdp_flash.specs.declared.answer.Wrote.TheVariants as wrote
 use Rattle.fdp_flash.specs.declared.cell.Cell.{Cell}
@@ -58,24 +58,34 @@ module _ (s now : Relocation) (o : OwnerTable) (classes : List Class) (rg : ℕ)
     data-page : to.unit < data_units a.geometry
     data-page = data-unit s.units a.geometry to.unit flash (open-unit s now rg from.unit (lane_at classes x) to.unit (target-of s o classes rg (lane_at classes x) ready) own-opened.target).is_unit
 
-    pages : o.unit_pages ≡ a.geometry.unit_pages
-    pages = ready.cut.owners ∙ flash.unit_pages
-
     within : to.page < a.geometry.unit_pages
     within =
         let cut : now.units.unit_pages ≡ s.units.unit_pages = ap (λ (k : Cut). k.unit_pages) (open-cut s now rg from.unit lane to.unit opened.target) in
         let below : to.page < now.units.unit_pages = opened.within in
         omega (arith, cut, below, flash.unit_pages)
 
-    keeps : (c : FlashState) → CopyRun a c to → Runs a c (λ m image. KeepsLive a.geometry o a.cells image)
-    keeps c run = runs_weakened a c (λ m image. IsSameBut a.geometry to a.cells image) (λ m image. KeepsLive a.geometry o a.cells image) run (λ told m image above most same. other-kept a.geometry o to a.cells image pages within live-open.unowned same)
+    left : (may_erase : Bool) (image : List Cell) → IsBlankBehind a.geometry a.cells s.units → CopyMayLeave a to spare bytes image → StepMayLeave may_erase a.geometry s.units o a.cells image
+    left may_erase image behind (inl same) = inl same
+    left may_erase image behind (inr programmed) = inr (inl (record {
+      at = to;
+      spare = spare;
+      bytes = bytes;
+      page = record { unit = data-page; page = within };
+      unused = copy-unused s now o classes rg from to lane ready opened;
+      blank = first-blank a.geometry a.cells to within (copy-blank s now o classes rg from to lane a.geometry a.cells ready opened behind);
+      left = programmed;
+    }))
+
+    leaves : (may_erase : Bool) (c : FlashState) → (IsTrue a.told → IsBlankBehind a.geometry a.cells s.units) → CopyRun a c to spare bytes → Runs a c (λ m image. StepMayLeave may_erase a.geometry s.units o a.cells image)
+    leaves may_erase c behind run =
+        runs_weakened a c (λ m image. CopyMayLeave a to spare bytes image) (λ m image. StepMayLeave may_erase a.geometry s.units o a.cells image) run (λ told m image above most h. left may_erase image (behind told) h)
 
     module _ (c : FlashState) (after : Relocation) (calls : Begins b c) (spare_is : spare ≡ data_spare x.spare) where
-      pub live-copied-run : Programs b c to spare bytes wrote.Done → Runs a c (λ m image. KeepsLive a.geometry o a.cells image)
-      live-copied-run answer = keeps c (copies-done a b c from to spare bytes begins read data-page calls answer).0
+      pub live-copied-run : (may_erase : Bool) → (IsTrue a.told → IsBlankBehind a.geometry a.cells s.units) → Programs b c to spare bytes wrote.Done → Runs a c (λ m image. StepMayLeave may_erase a.geometry s.units o a.cells image)
+      live-copied-run may_erase behind answer = leaves may_erase c behind (copies-done a b c from to spare bytes begins read data-page calls answer).0
 
-      pub live-skipped-run : Programs b c to spare bytes wrote.Failed → Runs a c (λ m image. KeepsLive a.geometry o a.cells image)
-      live-skipped-run answer = keeps c (copies-unprogrammed a b c from to spare bytes begins read calls answer).0
+      pub live-skipped-run : (may_erase : Bool) → (IsTrue a.told → IsBlankBehind a.geometry a.cells s.units) → Programs b c to spare bytes wrote.Failed → Runs a c (λ m image. StepMayLeave may_erase a.geometry s.units o a.cells image)
+      live-skipped-run may_erase behind answer = leaves may_erase c behind (copies-unprogrammed a b c from to spare bytes begins read calls answer).0
 
       pub live-copied : Programs b c to spare bytes wrote.Done → AddsCopy now after lane (record { from = from; to = to }) → IsCopyStep o classes rg s after a c (steps.Copied (record { from = from; to = to }))
       live-copied answer adds = record {

@@ -5,8 +5,10 @@ use Rattle.fdp_base.specs.declared.config.Class.{Class}
 use Rattle.fdp_base.specs.declared.config.Geometry.{Geometry}
 use Rattle.fdp_base.specs.declared.entry.Spot.{Spot}
 use Rattle.fdp_base.specs.Geometry.{all_units, data_units}
+use Rattle.fdp_collector.specs.Leaving.{StepMayLeave}
 use Rattle.fdp_collector.specs.Ready.{AreOfFlash, IsBlankBehind, IsOpen, IsReady, IsUnitOf, KeepsLive, Relocation, lane_at}
 use Rattle.fdp_flash.specs.declared.cell.Cell.{Cell}
+use Rattle.fdp_flash.specs.declared.cell.Cell.TheVariants.{Blank}
 use Rattle.fdp_flash.specs.Cells.{EraseMayLeave, IsBlankFrom}
 use Rattle.fdp_flash.specs.FlashState.{FlashState}
 use Rattle.fdp_flash.specs.Layout.{page_number}
@@ -227,6 +229,17 @@ copy-blank s now o classes rg from to lane g cells ready opened blank =
     let page : (unit_at s.units to.unit).next ≡ to.page = sym (opened.page ∙ open-next s now rg from.unit lane to.unit opened.target) in
     subst (λ (k : ℕ). IsBlankFrom g cells (record { unit = to.unit; page = k })) page (blank to.unit unit.is_unit (⊎_elim (λ (is : state_at s.units to.unit ≡ Target). ap is_lost is) (unlost (state_at s.units to.unit)) unit.stands))
 
+-- the first of these pages is blank
+pub first-blank : (g : Geometry) (cells : List Cell) (at : Spot) → at.page < g.unit_pages → IsBlankFrom g cells at → slice_get cells (page_number g at) ≡ Some Blank
+first-blank g cells at within h = h.blank at.page (omega arith) within
+
+-- the page of a copy was not used
+pub copy-unused : (s now : Relocation) (o : OwnerTable) (classes : List Class) (rg : ℕ) (from to : Spot) (lane : Lane) → IsReady s o classes rg
+    → OpensPage s.passes now.passes s.units now.units rg from.unit lane to → (unit_at s.units to.unit).next ≤ to.page
+copy-unused s now o classes rg from to lane ready opened =
+    let page : to.page ≡ (unit_at s.units to.unit).next = opened.page ∙ open-next s now rg from.unit lane to.unit opened.target in
+    omega (arith, page)
+
 -- ---- an erase
 
 pub erase-keeps-live : (s : Relocation) (o : OwnerTable) (classes : List Class) (rg unit : ℕ) (g : Geometry) (cells image : List Cell) → IsReady s o classes rg → AreOfFlash s.units g → HasNoLive o unit 0 → EraseMayLeave g cells unit image → KeepsLive g o cells image
@@ -244,8 +257,8 @@ erase-keeps-live s o classes rg unit g cells image ready same none left spot liv
       let within : spot.page < o.unit_pages = owned-within o spot x e in
       same_outside_page g unit cells image spot left.others (omega (arith, within, ready.cut.owners, same.unit_pages)) (other x e)
 
-pub erase-run : (s : Relocation) (o : OwnerTable) (classes : List Class) (rg unit : ℕ) (old new : FlashState) → IsReady s o classes rg → AreOfFlash s.units old.geometry → HasNoLive o unit 0
-    → Runs old new (λ m image. EraseMayLeave old.geometry old.cells unit image) → Runs old new (λ m image. KeepsLive old.geometry o old.cells image)
-erase-run s o classes rg unit old new ready same none run =
-    runs_weakened old new (λ m image. EraseMayLeave old.geometry old.cells unit image) (λ m image. KeepsLive old.geometry o old.cells image)
-    run (λ told m image after before left. erase-keeps-live s o classes rg unit old.geometry old.cells image ready same none left)
+pub erase-run : (t : UnitTable) (o : OwnerTable) (may_erase : Bool) (unit : ℕ) (old new : FlashState) → IsTrue may_erase → IsUnit t unit → HasNoLive o unit 0
+    → Runs old new (λ m image. EraseMayLeave old.geometry old.cells unit image) → Runs old new (λ m image. StepMayLeave may_erase old.geometry t o old.cells image)
+erase-run t o may_erase unit old new may there none run =
+    runs_weakened old new (λ m image. EraseMayLeave old.geometry old.cells unit image) (λ m image. StepMayLeave may_erase old.geometry t o old.cells image)
+    run (λ told m image after before left. inr (inr (may, record { unit = unit; is_unit = there; empty = none; left = left })))

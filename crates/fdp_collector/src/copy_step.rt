@@ -1,5 +1,6 @@
 ghost use Rattle.std.specs.Prelude.{◌≡◌, ℕ, ◌≤◌, ◌<◌, Bool, IfSome, IsSome, IsTrue, Some, length};
-ghost use Rattle.fdp_collector.specs.Ready.{AreOfFlash, IsReady, IsStored, KeepsLive, Relocation, lane_at};
+ghost use Rattle.fdp_collector.specs.Leaving.{StepMayLeave};
+ghost use Rattle.fdp_collector.specs.Ready.{AreOfFlash, IsReady, IsStored, Relocation, lane_at};
 ghost use Rattle.fdp_collector.specs.Step.{AddsCopy, GoesAside, IsStep, SkipsPage};
 ghost use Rattle.fdp_flash.specs.Runs.{Runs};
 ghost use Rattle.fdp_owners.specs.OwnerTable.{owner_at};
@@ -86,7 +87,7 @@ pub(crate) fn copy_next<F: Flash>(
     requires stored { IsTrue (F.state flash.old).told → IsStored (F.state flash.old).geometry (F.state flash.old).cells owners.now units.old }
     requires size { length block.old ≡ (F.state flash.old).geometry.block }
     ensures step { (may_erase : Bool) → IsStep owners.now classes.now rg may_erase (record { passes = passes.old; units = units.old }) (record { passes = passes.new; units = units.new }) (F.state flash.old) (F.state flash.new) result }
-    ensures run { Runs (F.state flash.old) (F.state flash.new) (λ m image. KeepsLive (F.state flash.old).geometry owners.now (F.state flash.old).cells image) }
+    ensures run { (may_erase : Bool) → Runs (F.state flash.old) (F.state flash.new) (λ m image. StepMayLeave may_erase (F.state flash.old).geometry units.old owners.now (F.state flash.old).cells image) }
     ensures block { length block.new ≡ length block.old }
 {
     match owners.get(from) {
@@ -127,7 +128,7 @@ fn copy_live<F: Flash>(
     requires stored { IsTrue (F.state flash.old).told → IsStored (F.state flash.old).geometry (F.state flash.old).cells owners.now units.old }
     requires size { length block.old ≡ (F.state flash.old).geometry.block }
     ensures step { (may_erase : Bool) → IsStep owners.now classes.now rg may_erase (record { passes = passes.old; units = units.old }) (record { passes = passes.new; units = units.new }) (F.state flash.old) (F.state flash.new) result }
-    ensures run { Runs (F.state flash.old) (F.state flash.new) (λ m image. KeepsLive (F.state flash.old).geometry owners.now (F.state flash.old).cells image) }
+    ensures run { (may_erase : Bool) → Runs (F.state flash.old) (F.state flash.new) (λ m image. StepMayLeave may_erase (F.state flash.old).geometry units.old owners.now (F.state flash.old).cells image) }
     ensures block { length block.new ≡ length block.old }
 {
     let lane = lane_of_owner(classes, owner);

@@ -4,7 +4,9 @@
 mod copy_step;
 mod copying;
 mod erasing;
+mod laws;
 mod step;
 
 pub use erasing::erase_victim;
+pub use laws::live_pages_outlast_a_step;
 pub use step::{Lost, Step, advance};

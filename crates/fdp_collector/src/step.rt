@@ -1,5 +1,6 @@
 ghost use Rattle.std.specs.Prelude.{◌≡◌, IsTrue, length};
-ghost use Rattle.fdp_collector.specs.Ready.{AreOfFlash, IsReady, IsStored, KeepsLive, Relocation};
+ghost use Rattle.fdp_collector.specs.Leaving.{StepMayLeave};
+ghost use Rattle.fdp_collector.specs.Ready.{AreOfFlash, IsReady, IsStored, Relocation};
 ghost use Rattle.fdp_collector.specs.Step.{IsStep};
 ghost use Rattle.fdp_flash.specs.Runs.{Runs};
 ghost use Rattle.fdp_units.specs.UnitTable.{IsGroup};
@@ -62,7 +63,7 @@ pub fn advance<F: Flash>(
     requires size { length block.old ≡ (F.state flash.old).geometry.block }
     ensures step { IsStep owners.now classes.now rg may_erase (record { passes = passes.old; units = units.old }) (record { passes = passes.new; units = units.new }) (F.state flash.old) (F.state flash.new) result }
     ensures ready { IsReady (record { passes = passes.new; units = units.new }) owners.now classes.now rg }
-    ensures run { Runs (F.state flash.old) (F.state flash.new) (λ m image. KeepsLive (F.state flash.old).geometry owners.now (F.state flash.old).cells image) }
+    ensures run { Runs (F.state flash.old) (F.state flash.new) (λ m image. StepMayLeave may_erase (F.state flash.old).geometry units.old owners.now (F.state flash.old).cells image) }
     ensures stored { IsTrue (F.state flash.old).told → IsStored (F.state flash.old).geometry (F.state flash.new).cells owners.now units.new }
     ensures block { length block.new ≡ length block.old }
 {
@@ -86,7 +87,7 @@ fn make_step<F: Flash>(
     requires stored { IsTrue (F.state flash.old).told → IsStored (F.state flash.old).geometry (F.state flash.old).cells owners.now units.old }
     requires size { length block.old ≡ (F.state flash.old).geometry.block }
     ensures step { IsStep owners.now classes.now rg may_erase (record { passes = passes.old; units = units.old }) (record { passes = passes.new; units = units.new }) (F.state flash.old) (F.state flash.new) result }
-    ensures run { Runs (F.state flash.old) (F.state flash.new) (λ m image. KeepsLive (F.state flash.old).geometry owners.now (F.state flash.old).cells image) }
+    ensures run { Runs (F.state flash.old) (F.state flash.new) (λ m image. StepMayLeave may_erase (F.state flash.old).geometry units.old owners.now (F.state flash.old).cells image) }
     ensures block { length block.new ≡ length block.old }
 {
     match next_step(passes, units, owners, rg) {

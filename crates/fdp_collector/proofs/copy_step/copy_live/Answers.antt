@@ -49,11 +49,11 @@ returns-in-Done-clause-step g c may_erase =
     (g.F.Flash.state c.program.new.self) (record { passes = c.add_copy.new.passes; units = c.add_copy.new.units }) c.in-Done.ensures.call c.encode-spare.ensures c.in-Done.ensures.answer c.add_copy.ensures
 
 pub returns-in-Done-clause-run : goal.returns-in-Done-clause-run
-returns-in-Done-clause-run g c =
+returns-in-Done-clause-run g c may_erase =
     live-copied-run (record { passes = c.args.passes.now; units = c.args.units.now }) (record { passes = c.open_page-to.new.passes; units = c.open_page-to.new.units }) c.args.owners.now c.args.classes.now c.args.rg c.args.from c.open_page-to.result c.args.owner.now c.lane_of_owner-lane.result
     c.lane_of_owner-lane.ensures.value c.requires.ready c.requires.due c.requires.owned c.lane_of_owner-lane.ensures.lane c.open_page-to.ensures
     (g.F.Flash.state c.args.flash.now) (g.F.Flash.state c.read_page.new.flash) _ _ c.requires.flash c.read_page.ensures.call (c.read_page.ensures.read c.if-not-read_page.false)
-    (g.F.Flash.state c.program.new.self) (record { passes = c.add_copy.new.passes; units = c.add_copy.new.units }) c.in-Done.ensures.call c.encode-spare.ensures c.in-Done.ensures.answer
+    (g.F.Flash.state c.program.new.self) (record { passes = c.add_copy.new.passes; units = c.add_copy.new.units }) c.in-Done.ensures.call c.encode-spare.ensures may_erase (λ told. (c.requires.stored told).blank) c.in-Done.ensures.answer
 
 pub returns-in-Failed-clause-step : goal.returns-in-Failed-clause-step
 returns-in-Failed-clause-step g c may_erase =
@@ -63,8 +63,8 @@ returns-in-Failed-clause-step g c may_erase =
     (g.F.Flash.state c.program.new.self) (record { passes = c.skip_page.new.passes; units = c.skip_page.new.units }) c.in-Failed.ensures.call c.encode-spare.ensures c.in-Failed.ensures.answer c.skip_page.ensures
 
 pub returns-in-Failed-clause-run : goal.returns-in-Failed-clause-run
-returns-in-Failed-clause-run g c =
+returns-in-Failed-clause-run g c may_erase =
     live-skipped-run (record { passes = c.args.passes.now; units = c.args.units.now }) (record { passes = c.open_page-to.new.passes; units = c.open_page-to.new.units }) c.args.owners.now c.args.classes.now c.args.rg c.args.from c.open_page-to.result c.args.owner.now c.lane_of_owner-lane.result
     c.lane_of_owner-lane.ensures.value c.requires.ready c.requires.due c.requires.owned c.lane_of_owner-lane.ensures.lane c.open_page-to.ensures
     (g.F.Flash.state c.args.flash.now) (g.F.Flash.state c.read_page.new.flash) _ _ c.requires.flash c.read_page.ensures.call (c.read_page.ensures.read c.if-not-read_page.false)
-    (g.F.Flash.state c.program.new.self) (record { passes = c.skip_page.new.passes; units = c.skip_page.new.units }) c.in-Failed.ensures.call c.encode-spare.ensures c.in-Failed.ensures.answer
+    (g.F.Flash.state c.program.new.self) (record { passes = c.skip_page.new.passes; units = c.skip_page.new.units }) c.in-Failed.ensures.call c.encode-spare.ensures may_erase (λ told. (c.requires.stored told).blank) c.in-Failed.ensures.answer

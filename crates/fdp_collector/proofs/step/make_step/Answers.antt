@@ -23,10 +23,15 @@ erase_victim-requires-clause-place g c =
 pub returns-in-Copy-clause-step : goal.returns-in-Copy-clause-step
 returns-in-Copy-clause-step g c = c.copy_next.ensures.step c.args.may_erase
 
+pub returns-in-Copy-clause-run : goal.returns-in-Copy-clause-run
+returns-in-Copy-clause-run g c = c.copy_next.ensures.run c.args.may_erase
+
 pub returns-in-Done-clause-run : goal.returns-in-Done-clause-run
 returns-in-Done-clause-run g c =
-    erase-run (record { passes = c.args.passes.now; units = c.args.units.now }) c.args.owners.now c.args.classes.now c.args.rg c.in-Erase.unit (g.F.Flash.state c.args.flash.now) (g.F.Flash.state c.erase_victim.new.flash) c.requires.ready c.requires.flash c.in-Erase.ensures.2 c.erase_victim.ensures.run
+    erase-run c.args.units.now c.args.owners.now c.args.may_erase c.in-Erase.unit (g.F.Flash.state c.args.flash.now) (g.F.Flash.state c.erase_victim.new.flash) c.if-may_erase.true
+    (emptied-unit (record { passes = c.args.passes.now; units = c.args.units.now }) c.args.owners.now c.args.classes.now c.args.rg c.in-Erase.unit c.requires.ready c.in-Erase.ensures.0).is_unit c.in-Erase.ensures.2 c.erase_victim.ensures.run
 
 pub returns-in-Failed-clause-run : goal.returns-in-Failed-clause-run
 returns-in-Failed-clause-run g c =
-    erase-run (record { passes = c.args.passes.now; units = c.args.units.now }) c.args.owners.now c.args.classes.now c.args.rg c.in-Erase.unit (g.F.Flash.state c.args.flash.now) (g.F.Flash.state c.erase_victim.new.flash) c.requires.ready c.requires.flash c.in-Erase.ensures.2 c.erase_victim.ensures.run
+    erase-run c.args.units.now c.args.owners.now c.args.may_erase c.in-Erase.unit (g.F.Flash.state c.args.flash.now) (g.F.Flash.state c.erase_victim.new.flash) c.if-may_erase.true
+    (emptied-unit (record { passes = c.args.passes.now; units = c.args.units.now }) c.args.owners.now c.args.classes.now c.args.rg c.in-Erase.unit c.requires.ready c.in-Erase.ensures.0).is_unit c.in-Erase.ensures.2 c.erase_victim.ensures.run
