@@ -48,3 +48,8 @@ IsUnreferencedIn t unit = (rg ruh : ℕ) → (reference_at t rg ruh).unit ≢ So
 pub record AreRows (unit_pages groups : ℕ) (rows : List HandleReference) : Type 0 where
   pub count : length rows ≡ 16 * groups
   pub left : (i : ℕ) (x : HandleReference) → slice_get rows i ≡ Some x → HasRightLeft unit_pages (reference_of x)
+
+-- the rows stand, and a list has room for sixteen classes
+pub record HasRows (unit_pages groups : ℕ) (rows : List HandleReference) (capacity : ℕ) : Type 0 where
+  pub rows_are : AreRows unit_pages groups rows
+  pub room : 16 ≤ capacity

@@ -1,4 +1,4 @@
-ghost use Rattle.std.specs.Prelude.{◌≡◌, ◌+◌, ◌*◌, ◌-◌, ◌<◌, ◌≤◌, ℕ, Some, None, IfOk, IfSome, length, replicate, slice_get};
+ghost use Rattle.std.specs.Prelude.{◌≡◌, ◌+◌, ◌*◌, ◌-◌, ◌<◌, ◌≤◌, ℕ, Some, None, IfOk, IfSome, length, replicate, slice_get, vec_capacity};
 ghost use Rattle.fdp_base.specs.declared.config.DriveConfig.{DriveConfig};
 ghost use Rattle.fdp_rules.specs.Change.{one_less};
 ghost use Rattle.fdp_rules.specs.Effect.{no_reference, with_reference};
@@ -15,25 +15,27 @@ pub struct Handles {
     /// Pages of a unit.
     unit_pages: u32,
     groups: u16,
-    /// By handle.
+    /// By handle; there is room for sixteen.
     classes: Vec<Class>,
     /// Sixteen for each group.
     rows: Vec<HandleReference>,
 }
 
 impl Model for Handles {
-    ghost use Rattle.fdp_handles.specs.HandleTable.{AreRows, HandleTable};
+    ghost use Rattle.std.specs.Prelude.{vec_capacity};
+    ghost use Rattle.fdp_handles.specs.HandleTable.{HandleTable, HasRows};
 
     ghost Value = { HandleTable };
 
     ghost view = { λ h. record { unit_pages = h.unit_pages; groups = h.groups; classes = h.classes.items; rows = h.rows.items } };
 
-    ghost invariant = { λ h. AreRows h.unit_pages h.groups h.rows.items };
+    ghost invariant = { λ h. HasRows h.unit_pages h.groups h.rows.items (vec_capacity h.classes) };
 }
 
 impl Handles {
     /// Handles of these classes, none of which has a unit.
     pub fn new(alloc: Global, classes: &[Class], geometry: Geometry) -> Result<Handles, AllocError>
+        requires { length classes.now ≤ 16 }
         ensures references { IfOk result (λ handles. (rg ruh : ℕ) → reference_at handles rg ruh ≡ blank geometry.unit_pages) }
         ensures unit_pages { IfOk result (λ handles. handles.unit_pages ≡ geometry.unit_pages) }
         ensures groups { IfOk result (λ handles. handles.groups ≡ geometry.groups) }
@@ -111,6 +113,14 @@ impl Handles {
         self.rows[place_of(rg, ruh)] = HandleReference::blank(self.unit_pages);
     }
 
+    /// Handles of these classes are in force. It takes no memory.
+    pub fn set_classes(&mut self, classes: &[Class])
+        requires { length classes.now ≤ 16 }
+        ensures { self.new ≡ record self.old { classes = classes.now } }
+    {
+        put_all(&mut self.classes, classes);
+    }
+
     /// What each handle promises of the data that it places.
     pub fn classes(&self) -> &[Class]
         ensures { result.now ≡ self.now.classes }
@@ -135,11 +145,25 @@ fn place_of(rg: u16, ruh: u8) -> usize
 }
 
 fn copied(alloc: Global, classes: &[Class]) -> Result<Vec<Class>, AllocError>
-    ensures { IfOk result (λ copy. copy.items ≡ classes.now) }
+    requires { length classes.now ≤ 16 }
+    ensures copy { IfOk result (λ copy. copy.items ≡ classes.now) }
+    ensures room { IfOk result (λ copy. 16 ≤ vec_capacity copy) }
 {
-    let mut copy = Vec::new(alloc);
-    copy.extend_from_slice(classes)?;
+    let mut copy = Vec::with_capacity(alloc, 16)?;
+    put_all(&mut copy, classes);
     Ok(copy)
+}
+
+/// A list has these classes, and no others.
+fn put_all(list: &mut Vec<Class>, classes: &[Class])
+    requires { length classes.now ≤ vec_capacity list.old }
+    ensures classes { list.new.items ≡ classes.now }
+    ensures room { vec_capacity list.new ≡ vec_capacity list.old }
+{
+    list.clear();
+    for class in classes {
+        list.push_reserved(*class);
+    }
 }
 
 /// Sixteen rows without a unit for each group.

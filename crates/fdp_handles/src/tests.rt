@@ -43,5 +43,8 @@ fn a_handle_is_shut(rt: HostRuntime) -> Result<(), Fail> {
     assert!(rt; handles.unit(0, 0).is_none());
     assert!(rt; handles.class(0) == Class::Initial);
     assert!(rt; handles.class(1) == Class::Persistent);
+    handles.set_classes(&[Class::Persistent]);
+    assert!(rt; handles.classes().len() == 1 && handles.class(0) == Class::Persistent);
+    assert_eq!(rt; handles.unit(1, 1), Some(5));
     Ok(())
 }

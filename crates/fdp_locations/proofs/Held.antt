@@ -1,14 +1,12 @@
 -- Blank pages hold nothing.
-use Rattle.std.proofs.Common.{◌≡◌, ◌∙◌, ℕ, zero, suc, Bool, true, false, cond, List, Option, Some, None, refl, ap, replicate}
+use Rattle.std.proofs.Common.{◌≡◌, ℕ, zero, suc, Bool, true, false, cond, Option, None, refl, replicate}
 use Rattle.std.specs.Prelude.{◌&&◌, nat_lt, slice_get, option_and_then}
 use Rattle.fdp_base.specs.declared.config.DriveConfig.{DriveConfig}
-use Rattle.fdp_base.specs.declared.entry.Spot.{Spot}
 use Rattle.fdp_base.specs.Geometry.{data_units}
 use Rattle.fdp_base.specs.Placement.{geometry_of}
-use Rattle.fdp_flash.specs.declared.cell.Cell.{Cell}
 use Rattle.fdp_flash.specs.declared.cell.Cell.TheVariants.{Blank}
 use Rattle.fdp_flash.specs.Layout.{page_number}
-use Rattle.fdp_locations.specs.Held.{held_at, held_in, no_pages, pages_held}
+use Rattle.fdp_locations.specs.Held.{held_in, no_pages, pages_held}
 use Rattle.fdp_locations.specs.Written.{Written}
 
 nothing-in : (n k : ℕ) → option_and_then held_in (slice_get (replicate n Blank) k) ≡ None

@@ -10,6 +10,7 @@ use Rattle.fdp_history.specs.OrderlyState.{IsOrderlyState}
 use Rattle.fdp_locations.specs.Located.{AreAlike, AreLed, AreNamed, next_in}
 use Rattle.fdp_locations.specs.Written.{IsWritten, Written}
 use Rattle.fdp_locations.proofs.Handled.{handled-renamed}
+use Rattle.fdp_locations.proofs.Grouped.{units-next, units-renamed}
 use Rattle.fdp_owners.specs.declared.owner.Owner.{Owner}
 use Rattle.fdp_owners.specs.Owned.{AreOwners}
 use Rattle.fdp_owners.specs.OwnerTable.{owner_at, pointer_of}
@@ -105,6 +106,7 @@ led-still told c p e written new at t now orderly follows leaves holds owned nam
       owned = owned;
       named = named-kept p.state (next c p e).state at a named h.named;
       handled = handled-renamed c p e at h.handled;
+      units = units-renamed c (next c p e).state.generation (renamed_by p.state e) at (units-next told c p e (next_in t.units) at orderly follows h.table h.units);
       holds = subst (λ (k : Behind PageContent). Carries (IsWritten new) k a) (sym (contents-renamed told c p e orderly follows (places-none e leaves)))
           (carries-kept (IsWritten written) (IsWritten new) (renamed (renamed_by p.state e) (content_at c p.state)) a
           (λ q y x there content says. holds.pointed q y there ∙ says)

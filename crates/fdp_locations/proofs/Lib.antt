@@ -1,4 +1,5 @@
 pub mod Handled
+pub mod Grouped
 pub mod Held
 pub mod Histories
 pub mod Kept
@@ -12,3 +13,5 @@ pub mod Others
 pub mod Copying
 pub mod Ending
 pub mod Storing
+pub mod Left
+pub mod Set

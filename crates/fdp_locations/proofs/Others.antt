@@ -42,6 +42,13 @@ data-unit c s t unit h there = subst (λ (x : Cut). unit < x.groups * x.group_un
 pub is-group : (c : DriveConfig) (s : PlainState) (t : PageTables) (rg : ℕ) → AreUnitsOf c s t → rg < c.groups → IsGroup t.units rg
 is-group c s t rg h low = subst (λ (x : Cut). rg < x.groups) (sym h.cut) low
 
+-- both pages of a copy of a pass lie in its group
+pub copy-groups : (t : PageTables) (rg : ℕ) (copy : Copied) → IsRelocating (relocation_at t rg) t.owners t.handles.classes rg → Contains (copies_at t rg) copy → (group_in t.units copy.from.unit ≡ rg) × (group_in t.units copy.to.unit ≡ rg)
+copy-groups t rg copy r among = cases (passes_at t rg).pass refl among where
+  cases : (o : Option Pass) → (passes_at t rg).pass ≡ o → Contains (option_map_or (λ (pass : Pass). pass.copies) o []) copy → (group_in t.units copy.from.unit ≡ rg) × (group_in t.units copy.to.unit ≡ rg)
+  cases None e has = absurd (omega (arith, has.1))
+  cases (Some pass) e has = let lie = (r.copied pass e).lie copy has in (ap (group_in t.units) lie.victim ∙ (r.ready.victim pass e).group, lie.group)
+
 -- a unit that no handle fills is not referenced
 pub unreferenced : (c : DriveConfig) (s : PlainState) (t : PageTables) (unit : ℕ) → AreUnitsOf c s t → AreFilled t.handles t.units t.owners → (state_at t.units unit ≡ Referenced → ⊥) → IsUnreferenced s unit
 unreferenced c s t unit h filled other rg ruh e =

@@ -19,6 +19,7 @@ use Rattle.fdp_history.specs.Standing.{IsStanding}
 use Rattle.fdp_locations.specs.Located.{AreAlike, AreLed, AreNamed, handle_at, next_in}
 use Rattle.fdp_locations.specs.Written.{IsWritten, Written, next_page, next_spare, page_of_ticket, with_written, written_after}
 use Rattle.fdp_locations.proofs.Handled.{handled-pointed, handled-renamed}
+use Rattle.fdp_locations.proofs.Grouped.{generation-next, units-pointed, units-same}
 use Rattle.fdp_owners.specs.declared.owner.Owner.{Owner}
 use Rattle.fdp_owners.specs.Owned.{AreOwners, page_of, with_pointer}
 use Rattle.fdp_owners.specs.OwnerTable.{owner_at, pointer_of, with_owner}
@@ -37,7 +38,7 @@ use Rattle.fdp_rules.specs.Change.{after, changed_by, holds_ticket, one_more_pla
 use Rattle.fdp_rules.specs.Next.{next}
 use Rattle.fdp_rules.specs.PlainState.{Going, PlainState}
 use Rattle.fdp_rules.specs.Point.{Point}
-use Rattle.fdp_rules.specs.Sites.{is_spot, is_there}
+use Rattle.fdp_rules.specs.Sites.{group_of, is_spot, is_there}
 use Rattle.fdp_rules.specs.Step.{IsPlaced}
 use Rattle.fdp_trails.specs.Followed.{IsPassOf}
 
@@ -205,6 +206,10 @@ led-placed c p ticket index spot written at t now w x orderly standing placed ne
           ap (option_map (λ (k : Going). k.ruh)) (going-placed c p ticket index spot.unit spot.page orderly placed queue ∙ ap (λ (b : Bool). if b then Some (one_more_placed g) else p.state.going queue) (eq-eqb queue queue refl))
           ∙ ap (λ (s : DataSpare). Some s.ruh) (sym new.spare) in
           handled-pointed q.state at queue g.placed y own (handled-renamed c p e at h.handled);
+      units =
+          let same : q.state.generation ≡ p.state.generation = generation-next c p e refl in
+          let names : y.spare.rg ≡ group_of c spot.unit = ap (λ (s : DataSpare). s.rg) new.spare ∙ sym placed.group in
+          units-pointed c q.state.generation at queue g.placed y (ap (λ (s : DataSpare). s.generation) new.spare ∙ sym same, names) (units-same c p.state.generation q.state.generation at same h.units);
       holds =
           let more : content_at c q.state ≡ pointed (content_at c p.state) queue g.placed (page_of_write c g index) = contents-placed c p ticket index spot.unit spot.page orderly placed ∙ ap (λ (n : ℕ). pointed (content_at c p.state) queue n (page_of_write c g index)) placed.next in
           let kept : Carries (IsWritten (with_written written spot content)) (content_at c p.state) at =

@@ -12,6 +12,7 @@ use Rattle.fdp_history.specs.Orderly.{IsOrderly}
 use Rattle.fdp_locations.specs.Located.{AreAlike, AreLed, AreNamed, IsAlike, next_in}
 use Rattle.fdp_locations.specs.Written.{IsWritten, Written, with_written, without_unit, written_after}
 use Rattle.fdp_locations.proofs.Handled.{handled-moved, handled-renamed}
+use Rattle.fdp_locations.proofs.Grouped.{StayInGroups, units-moved, units-next}
 use Rattle.fdp_locations.proofs.Kept.{holds-same, led-still, named-kept}
 use Rattle.fdp_locations.proofs.Placed.{alike-written, written-below, written-kept, written-same}
 use Rattle.fdp_owners.specs.declared.owner.Owner.{Owner}
@@ -80,6 +81,7 @@ led-copied told c p copy written at t now page orderly follows new holds passes 
       owned = subst (λ (o : Spot → Option Owner). AreOwners o at) (sym new.owners) h.owned;
       named = named-same p.state q.state at (copied-going c p copy) h.named;
       handled = handled-renamed c p (entries.Copied copy) at h.handled;
+      units = units-next told c p (entries.Copied copy) pages at orderly.state follows h.table h.units;
       holds = subst (λ (k : Behind PageContent). Carries (IsWritten (with_written written copy.to x)) k at) (sym (contents-renamed told c p (entries.Copied copy) orderly.state follows refl))
           (carries-kept (IsWritten written) (IsWritten (with_written written copy.to x)) (content_at c p.state) at
           (λ r z k there is says. written-kept pages written copy.to z.spot x new.fresh (h.table.below r z there) ∙ says) h.holds);
@@ -99,15 +101,15 @@ led-copied told c p copy written at t now page orderly follows new holds passes 
 
 -- ---- pages are moved
 
--- each copy of the pass that is moved holds what its old page holds
+-- each copy of the pass that is moved holds what its old page holds, and lies in its group
 pub led-moved : (told : Bool) (c : DriveConfig) (p : Point) (rg : ℕ) (blocks : List BlockName) (written : Spot → Option Written) (at : Behind Page) (t now : PageTables) →
     IsOrderly c p → Follows told c p (entries.Moved (record { rg = rg; blocks = blocks })) →
     AreOwners (owner_at now.owners) (moved (put_at (moved_by (pass_in p.trail rg))) at) → ((unit : ℕ) → next_in now.units unit ≡ next_in t.units unit) →
-    ((q : Pointer) (y : Page) → at q ≡ Some y → written (moved_by (pass_in p.trail rg) y.spot) ≡ written y.spot) →
+    ((q : Pointer) (y : Page) → at q ≡ Some y → written (moved_by (pass_in p.trail rg) y.spot) ≡ written y.spot) → StayInGroups c (moved_by (pass_in p.trail rg)) at →
     ((k : ℕ) → k < c.groups → IsPassOf (moved (put_at (moved_by (pass_in p.trail rg))) at) (next c p (entries.Moved (record { rg = rg; blocks = blocks }))).trail k (passes_at now k)) →
     ((k : ℕ) (x : Copied) → Contains (copies_at now k) x → Contains (copies_at t k) x) →
     AreLed c p written at t → AreLed c (next c p (entries.Moved (record { rg = rg; blocks = blocks }))) written (moved (put_at (moved_by (pass_in p.trail rg))) at) now
-led-moved told c p rg blocks written at t now orderly follows owned next_is holds passes copies h =
+led-moved told c p rg blocks written at t now orderly follows owned next_is holds within passes copies h =
     let e : Entry = entries.Moved (record { rg = rg; blocks = blocks }) in
     let q : Point = next c p e in
     let f : Spot → Spot = moved_by (pass_in p.trail rg) in
@@ -119,6 +121,7 @@ led-moved told c p rg blocks written at t now orderly follows owned next_is hold
           let names = h.named queue index g w was.0 (sym (ap (λ (k : ℕ → Option Going). k queue) (moved-going c p rg blocks)) ∙ going) write was.1 in
           (ap (λ (z : Page). z.spare.nsid) was.2 ∙ names.0, ap (λ (z : Page). z.spare.lba) was.2 ∙ names.1);
       handled = handled-moved q.state f at (handled-renamed c p e at h.handled);
+      units = units-moved c q.state.generation f at within (units-next told c p e (next_in t.units) at orderly.state follows h.table h.units);
       holds = subst (λ (k : Behind PageContent). Carries (IsWritten written) k (moved (put_at f) at)) (sym (contents-renamed told c p e orderly.state follows refl))
           (carries-moved (IsWritten written) f (content_at c p.state) at (λ r y x there content says. holds r y there ∙ says) h.holds);
       below = λ z k is. let low : z.page < next_in t.units z.unit = h.below z k is in omega (arith, low, next_is z.unit);
@@ -164,6 +167,7 @@ led-erased told c p unit written at t now orderly follows free owners next_is pa
       owned = subst (λ (o : Spot → Option Owner). AreOwners o at) (sym owners) h.owned;
       named = named-same p.state q.state at (erased-going c p unit) h.named;
       handled = handled-renamed c p e at h.handled;
+      units = units-next told c p e pages at orderly.state follows h.table h.units;
       holds = subst (λ (k : Behind PageContent). Carries (IsWritten (without_unit written unit)) k at) (sym (contents-renamed told c p e orderly.state follows refl))
           (carries-kept (IsWritten written) (IsWritten (without_unit written unit)) (content_at c p.state) at
           (λ r z k there is says. without-other written unit z.spot (free r z there) ∙ says) h.holds);
@@ -242,6 +246,7 @@ led-skipped c p written at t now left passes h = record {
   owned = subst (λ (o : Spot → Option Owner). AreOwners o at) (sym left.owners) h.owned;
   named = h.named;
   handled = h.handled;
+  units = h.units;
   holds = h.holds;
   below = λ z k is. let low : z.page < next_in t.units z.unit = h.below z k is in omega (arith, low, left.next z.unit);
   passes = passes;

@@ -40,7 +40,7 @@ alike-self t = record { cut = refl; lost = λ unit there. refl; worn = refl }
 pub unit-same : (t now : UnitTable) → cut_of now ≡ cut_of t → (unit : ℕ) → IsUnit now unit → IsUnit t unit
 unit-same t now cut unit h = subst (λ (x : Cut). unit < x.groups * x.group_units) cut h
 
-agrees-alike : (c : DriveConfig) (s n : PlainState) (t now : UnitTable) → n.is_lost ≡ s.is_lost → n.is_worn ≡ s.is_worn → AreLostAlike t now → Agrees t c s → Agrees now c n
+pub agrees-alike : (c : DriveConfig) (s n : PlainState) (t now : UnitTable) → n.is_lost ≡ s.is_lost → n.is_worn ≡ s.is_worn → AreLostAlike t now → Agrees t c s → Agrees now c n
 agrees-alike c s n t now lost worn alike h = record {
   units = h.units ∙ sym (ap (λ (x : Cut). x.group_units) alike.cut);
   lost = λ unit there.
@@ -93,22 +93,27 @@ changed-alike t now unit x h worn same = record {
         (λ (ne : k ≢ unit). ap (λ (b : Bool). is_lost (if b then x else unit_at t k).state) (ne_eqb k unit ne))
         (cases_eq k unit)
 
--- ---- what a handle references becomes another
+-- ---- what handles reference becomes another
 
+-- the references of a state are those of the handles
+pub units-rows : (c : DriveConfig) (s n : PlainState) (t now : PageTables) → n.enabled ≡ s.enabled → n.index ≡ s.index → n.is_lost ≡ s.is_lost → n.is_worn ≡ s.is_worn →
+    n.references ≡ reference_at now.handles → now.handles ≡ record t.handles { rows = now.handles.rows } → AreLostAlike t.units now.units → AreUnitsOf c s t → AreUnitsOf c n now
+units-rows c s n t now enabled index lost worn all rest alike h = record {
+  cut = alike.cut ∙ h.cut;
+  agrees = agrees-alike c s n t.units now.units lost worn alike h.agrees;
+  unit_pages = h.unit_pages ∙ sym (ap (λ (y : HandleTable). y.unit_pages) rest);
+  groups = h.groups ∙ sym (ap (λ (y : HandleTable). y.groups) rest);
+  classes = classes-same c s n enabled index ∙ h.classes ∙ sym (ap (λ (y : HandleTable). y.classes) rest);
+  references = λ r k. ap (λ (refs : References). refs r k) all;
+}
+
+-- what one handle references becomes another
 pub units-referring : (c : DriveConfig) (s n : PlainState) (t now : PageTables) (rg ruh : ℕ) (x : Reference) → n.enabled ≡ s.enabled → n.index ≡ s.index → n.is_lost ≡ s.is_lost → n.is_worn ≡ s.is_worn →
     n.references ≡ with_reference s.references rg ruh x → reference_at now.handles ≡ with_reference (reference_at t.handles) rg ruh x → now.handles ≡ record t.handles { rows = now.handles.rows } →
     AreLostAlike t.units now.units → AreUnitsOf c s t → AreUnitsOf c n now
 units-referring c s n t now rg ruh x enabled index lost worn after_is becomes rest alike h =
     let same : s.references ≡ reference_at t.handles = λ d r k. h.references r k d in
-    let all : n.references ≡ reference_at now.handles = after_is ∙ ap (λ (refs : References). with_reference refs rg ruh x) same ∙ sym becomes in
-    record {
-      cut = alike.cut ∙ h.cut;
-      agrees = agrees-alike c s n t.units now.units lost worn alike h.agrees;
-      unit_pages = h.unit_pages ∙ sym (ap (λ (y : HandleTable). y.unit_pages) rest);
-      groups = h.groups ∙ sym (ap (λ (y : HandleTable). y.groups) rest);
-      classes = classes-same c s n enabled index ∙ h.classes ∙ sym (ap (λ (y : HandleTable). y.classes) rest);
-      references = λ r k. ap (λ (refs : References). refs r k) all;
-    }
+    units-rows c s n t now enabled index lost worn (after_is ∙ ap (λ (refs : References). with_reference refs rg ruh x) same ∙ sym becomes) rest alike h
 
 -- ---- a unit that a handle takes, fills and closes is in use
 

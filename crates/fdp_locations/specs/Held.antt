@@ -1,5 +1,5 @@
 -- What pages of data hold by the cells of a flash.
-use Rattle.std.specs.Prelude.{ℕ, ◌&&◌, List, Option, Some, None, nat_lt, slice_get, if◌then◌else◌, option_and_then, option_map}
+use Rattle.std.specs.Prelude.{ℕ, ◌&&◌, List, Option, None, nat_lt, slice_get, if◌then◌else◌, option_and_then, option_map}
 use Rattle.fdp_base.specs.declared.config.DriveConfig.{DriveConfig}
 use Rattle.fdp_base.specs.declared.config.Geometry.{Geometry}
 use Rattle.fdp_base.specs.declared.entry.Spot.{Spot}

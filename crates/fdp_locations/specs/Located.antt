@@ -16,6 +16,7 @@ use Rattle.fdp_pointers.specs.Facts.{Carries, IsTableOf, Page}
 use Rattle.fdp_pointers.specs.Pointers.{Behind, Pointer, Pointer.of_block, Pointer.of_flight}
 use Rattle.fdp_rules.specs.PlainState.{Block, Going, PlainState}
 use Rattle.fdp_rules.specs.Point.{Point}
+use Rattle.fdp_rules.specs.Sites.{group_of}
 use Rattle.fdp_trails.specs.Followed.{IsPassOf}
 use Rattle.fdp_units.specs.UnitTable.{Agrees, UnitTable, cut_of, unit_at}
 
@@ -36,6 +37,10 @@ handle_at s (of_flight queue index) = option_map (λ (g : Going). g.ruh) (s.goin
 abbrev pub AreHandled : PlainState → Behind Page → Type 0
 AreHandled s at = (p : Pointer) (y : Page) (ruh : ℕ) → at p ≡ Some y → handle_at s p ≡ Some ruh → y.spare.ruh ≡ ruh
 
+-- the spare of each page that a pointer leads to names this generation, and the group of the unit
+abbrev pub NameTheirUnits : DriveConfig → ℕ → Behind Page → Type 0
+NameTheirUnits c generation at = (p : Pointer) (y : Page) → at p ≡ Some y → (y.spare.generation ≡ generation) × (y.spare.rg ≡ group_of c y.spot.unit)
+
 -- the handles and the units are those of a state
 pub record AreUnitsOf (c : DriveConfig) (s : PlainState) (t : PageTables) : Type 0 where
   pub cut : cut_of t.units ≡ record { unit_pages = c.unit_pages; group_units = c.units; groups = c.groups }
@@ -54,13 +59,14 @@ pub record IsAlike (written : Spot → Option Written) (copy : Copied) : Type 0 
 abbrev pub AreAlike : (Spot → Option Written) → List Copied → Type 0
 AreAlike written copies = (copy : Copied) → Contains copies copy → IsAlike written copy
 
--- Where the pointers lead: to the sites of their pages, each to a page that it owns, that holds its content and that names its handle; a
--- pass has copied what the history tells.
+-- Where the pointers lead: to the sites of their pages, each to a page that it owns, that holds its content and that names its handle, the
+-- generation in force and the group of its unit; a pass has copied what the history tells.
 pub record AreLed (c : DriveConfig) (p : Point) (written : Spot → Option Written) (at : Behind Page) (t : PageTables) : Type 0 where
   pub table : IsTableOf c p (next_in t.units) at
   pub owned : AreOwners (owner_at t.owners) at
   pub named : AreNamed p.state at
   pub handled : AreHandled p.state at
+  pub units : NameTheirUnits c p.state.generation at
   pub holds : Carries (IsWritten written) (content_at c p.state) at
   pub below : (spot : Spot) (x : Written) → written spot ≡ Some x → spot.page < next_in t.units spot.unit
   pub passes : (rg : ℕ) → rg < c.groups → IsPassOf at p.trail rg (passes_at t rg)

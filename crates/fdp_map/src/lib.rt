@@ -8,6 +8,6 @@ mod mapped;
 #[cfg(test)]
 mod tests;
 
-pub use lists::PageList;
+pub use lists::{PageList, vacant_list};
 pub use map::Map;
 pub use mapped::Mapped;

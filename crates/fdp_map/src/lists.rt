@@ -25,7 +25,7 @@ pub fn empty_lists(alloc: Global) -> Result<Vec<PageList>, AllocError>
     Ok(lists)
 }
 
-/// So many blocks without a page.
+/// So many blocks without a page. It takes the memory of their page numbers.
 #[tactic(auto, using(std::proofs::lemmas::List::replicate_more))]
 pub fn vacant_list(alloc: Global, size: u64) -> Result<PageList, AllocError>
     ensures { IfOk result (λ list. list ≡ replicate size None) }

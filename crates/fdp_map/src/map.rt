@@ -1,4 +1,4 @@
-ghost use Rattle.std.specs.Prelude.{◌≡◌, ℕ, ◌+◌, ◌^◌, ◌<◌, ◌≤◌, not, ◌&&◌, ◌==◌, Decides, Some, None, Option, length, IfOk, IfSome, OnOk, OnErr, option_map};
+ghost use Rattle.std.specs.Prelude.{◌≡◌, ℕ, ◌+◌, ◌^◌, ◌<◌, ◌≤◌, not, ◌&&◌, ◌==◌, Decides, Some, None, Option, length, replicate, IfOk, IfSome, OnOk, OnErr, option_map};
 ghost use Rattle.fdp_base.specs.Geometry.{IsWithin};
 ghost use Rattle.fdp_base.specs.Numbers.{is_among, with_at};
 ghost use Rattle.fdp_rules.specs.PlainState.{PlainState};
@@ -98,8 +98,21 @@ impl Map {
         ensures err { OnErr result (self.new ≡ self.old) }
     {
         let list = vacant_list(alloc, size)?;
-        self.lists[nsid as usize - 1] = list;
+        self.insert(nsid, list);
         Ok(())
+    }
+
+    /// Takes over the places of a namespace without blocks. It takes a constant time, and no memory.
+    pub fn insert(&mut self, nsid: u32, list: PageList)
+        requires nsid { IsWithin 1 16 nsid }
+        requires size { length list ≤ 262144 }
+        requires vacant { list ≡ replicate (length list) None }
+        requires absent { size_in self.old nsid ≡ 0 }
+        ensures geometry { self.new.geometry ≡ self.old.geometry }
+        ensures sizes { size_in self.new ≡ with_at (size_in self.old) nsid (length list) }
+        ensures blocks { mapped_at self.new ≡ mapped_at self.old }
+    {
+        self.lists[nsid as usize - 1] = list;
     }
 
     /// Takes away the places of a namespace, with the blocks that stood there. It looks at each place.

@@ -1,20 +1,21 @@
 -- The targets and the copies of a group after a page of a target was used.
-use Rattle.std.proofs.Common.{◌≡◌, ◌≢◌, ℕ, ◌+◌, ◌<◌, ◌≤◌, Bool, true, false, List, [], ◌∷◌, ◌++◌, Some, None, refl, ap, sym, ◌∙◌, subst, arith, ⊎_elim, length, get_or-set_other}
+use Rattle.std.proofs.Common.{◌≡◌, ◌≢◌, ℕ, ◌+◌, ◌<◌, ◌≤◌, Bool, true, false, List, [], ◌∷◌, ◌++◌, Some, None, refl, ap, sym, ◌∙◌, subst, arith, append_assoc, ⊎_elim, inr, length, get_or-set_other}
 use Rattle.std.specs.Prelude.{◌⊎◌, Contains, IsTrue, nat_le, option_map, slice_get, slice_index_or, if◌then◌else◌}
 use Rattle.std.proofs.lemmas.Bool.{cases_eq}
-use Rattle.std.proofs.lemmas.List.Elements.{Contains-push_cases}
+use Rattle.std.proofs.lemmas.List.Elements.{Contains-append_right, Contains-push_cases}
 use Rattle.std.proofs.lemmas.Option.{slice_get_within}
 use Rattle.fdp_base.specs.declared.config.Class.{Class}
 use Rattle.fdp_base.specs.declared.entry.Copied.{Copied}
 use Rattle.fdp_base.specs.declared.entry.Spot.{Spot}
-use Rattle.fdp_collector.specs.Ready.{AreTargets, IsUnitOf, Relocation, lane_at}
+use Rattle.fdp_collector.specs.Ready.{AreTargets, HaveLanes, IsUnitOf, Relocation, lane_at}
 use Rattle.fdp_collector.proofs.Kept.{changed-here, changed-other, group-kept, unit-kept, unit-of-kept}
 use Rattle.fdp_collector.proofs.Using.{IsFilled, IsUsable, StaysTarget, used-how, uses-pass}
 use Rattle.fdp_flash.proofs.Lists.{append_cases}
 use Rattle.fdp_owners.specs.declared.owner.Owner.{Owner}
 use Rattle.fdp_owners.specs.OwnerTable.{OwnerTable, owner_at}
-use Rattle.fdp_pages.specs.Joined.{AreCopied, AreTargeted, Awaits, IsCopyOf}
+use Rattle.fdp_pages.specs.Joined.{AreCopied, AreTargeted, Awaits, FillTargets, IsCopyOf, LieInOrder}
 use Rattle.fdp_pages.proofs.Groups.{is_filled, pages-of}
+use Rattle.fdp_pages.proofs.InOrder.{in-order-push, in-order-unit}
 use Rattle.fdp_pages.proofs.Inside.{slot-one}
 use Rattle.fdp_pages.proofs.Places.{never, one, place-contains}
 use Rattle.fdp_pages.proofs.Worked.{AreWorked}
@@ -127,6 +128,17 @@ module _ (s : Relocation) (passes : GroupPasses) (new : UnitTable) (o : OwnerTab
     lie = λ copy is. lies-still pass copy (h.lie copy is);
     ascend = h.ascend;
     differ = h.differ;
+    filled = let f = h.filled in record {
+      first = f.first;
+      last = f.last;
+      first_unit = f.first_unit;
+      last_unit = f.last_unit;
+      split = f.split;
+      first_lie = f.first_lie;
+      last_lie = f.last_lie;
+      one = f.one;
+      goes_on = λ page u x owned e. f.goes_on page u x owned (target-was (lane_at classes x) u e);
+    };
     await = λ copy x is owned. awaits-still copy x (h.await copy x is owned);
   }
 
@@ -139,7 +151,7 @@ module _ (s : Relocation) (passes : GroupPasses) (new : UnitTable) (o : OwnerTab
   -- ---- one copy more
 
   -- the copy of a live page of the victim to the page that was used
-  module _ (pass : Pass) (under : s.passes.pass ≡ Some pass) (copy : Copied) (x : Owner) (victim : pass.victim ≡ copy.from.unit) (order : pass.next ≤ copy.from.page) (low : copy.from.page < s.units.unit_pages) (closed : state_at s.units pass.victim ≡ Closed) (own : IsUnitOf s.units rg unit Target) (to_unit : copy.to.unit ≡ unit) (to_page : copy.to.page ≡ (unit_at s.units unit).next) (free : owner_at o copy.to ≡ None) (owned : owner_at o copy.from ≡ Some x) (way : lane_at classes x ≡ lane) where
+  module _ (pass : Pass) (under : s.passes.pass ≡ Some pass) (copy : Copied) (x : Owner) (victim : pass.victim ≡ copy.from.unit) (order : pass.next ≤ copy.from.page) (low : copy.from.page < s.units.unit_pages) (closed : state_at s.units pass.victim ≡ Closed) (own : IsUnitOf s.units rg unit Target) (to_unit : copy.to.unit ≡ unit) (to_page : copy.to.page ≡ (unit_at s.units unit).next) (free : owner_at o copy.to ≡ None) (owned : owner_at o copy.from ≡ Some x) (way : lane_at classes x ≡ lane) (have : HaveLanes classes o) where
     copies : AreCopied s o classes rg pass
     copies = was.copied pass under
 
@@ -200,6 +212,50 @@ module _ (s : Relocation) (passes : GroupPasses) (new : UnitTable) (o : OwnerTab
           target = λ other e. slot-one other lane (targets.apart (slot_of other) (slot_of lane) unit (target-was other copy.to.unit e ∙ ap (λ (u : ℕ). Some u) to_unit) usable.target) ∙ sym way ∙ ap (lane_at classes) same;
         }
 
+    -- the new pages of before that lie in the unit lie before the page that was used
+    before-page : (a : Copied) → Contains pass.copies a → a.to.unit ≡ unit → a.to.page < copy.to.page
+    before-page a is same =
+        let used : a.to.page < (unit_at s.units a.to.unit).next = (copies.lie a is).used in
+        let next : (unit_at s.units a.to.unit).next ≡ (unit_at s.units unit).next = ap (λ (u : ℕ). (unit_at s.units u).next) same in
+        omega (arith, used, next, to_page)
+
+    was_filled : FillTargets s o classes pass
+    was_filled = copies.filled
+
+    -- a live page of the victim goes the way of the one that was copied
+    same-way : (page u : ℕ) (y : Owner) → owner_at o (record { unit = pass.victim; page = page }) ≡ Some y → target_at passes (lane_at classes y) ≡ Some u → u ≡ unit
+    same-way page u y is e =
+        let lanes : lane_at classes y ≡ lane = have.same (record { unit = pass.victim; page = page }) copy.from y x victim is owned ∙ way in
+        one (sym (target-was (lane_at classes y) u e) ∙ ap (target_at s.passes) lanes ∙ usable.target)
+
+    -- the copy goes on where the last ones lie
+    last-here : (was_filled.last ≡ []) ⊎ (unit ≡ was_filled.last_unit)
+    last-here = was_filled.goes_on copy.from.page unit x (ap (λ (u : ℕ). owner_at o (record { unit = u; page = copy.from.page })) victim ∙ owned) (ap (target_at s.passes) way ∙ usable.target)
+
+    last-copies : (a : Copied) → Contains was_filled.last a → Contains pass.copies a
+    last-copies a is = subst (λ (xs : List Copied). Contains xs a) (sym was_filled.split) (Contains-append_right was_filled.first was_filled.last a is)
+
+    last-lie : LieInOrder unit 0 (was_filled.last ++ copy ∷ [])
+    last-lie = ⊎_elim
+        (λ (none : was_filled.last ≡ []). subst (λ (xs : List Copied). LieInOrder unit 0 (xs ++ copy ∷ [])) (sym none) (to_unit, omega arith, tt))
+        (λ (same : unit ≡ was_filled.last_unit).
+        let lie : LieInOrder unit 0 was_filled.last = subst (λ (u : ℕ). LieInOrder u 0 was_filled.last) (sym same) was_filled.last_lie in
+        in-order-push unit 0 was_filled.last copy lie to_unit (omega arith) (λ a is. before-page a (last-copies a is) (in-order-unit unit 0 was_filled.last a lie is)))
+        last-here
+
+    added-filled : FillTargets now o classes (with_copy copy pass)
+    added-filled = record {
+      first = was_filled.first;
+      last = was_filled.last ++ copy ∷ [];
+      first_unit = was_filled.first_unit;
+      last_unit = unit;
+      split = ap (λ (xs : List Copied). xs ++ copy ∷ []) was_filled.split ∙ append_assoc was_filled.first was_filled.last (copy ∷ []);
+      first_lie = was_filled.first_lie;
+      last_lie = last-lie;
+      one = was_filled.one;
+      goes_on = λ page u y is e. inr (same-way page u y is e);
+    }
+
     added-copied : AreCopied now o classes rg (with_copy copy pass)
     added-copied = record {
       lie = λ c is. ⊎_elim
@@ -231,6 +287,7 @@ module _ (s : Relocation) (passes : GroupPasses) (new : UnitTable) (o : OwnerTab
           (λ (second : (j ≡ length pass.copies) × (copy ≡ b)). first.0 ∙ sym second.0)
           (element j b f))
           (element i a e);
+      filled = added-filled;
       await = λ c y is e. ⊎_elim
           (λ (old : Contains pass.copies c). awaits-still c y (copies.await c y old e))
           (λ (same : copy ≡ c). subst (λ (k : Copied). Awaits now o classes k y) same (new-awaits y (ap (λ (k : Copied). owner_at o k.from) same ∙ e)))
@@ -246,6 +303,7 @@ module _ (s : Relocation) (passes : GroupPasses) (new : UnitTable) (o : OwnerTab
             lie = added-copied.lie;
             ascend = added-copied.ascend;
             differ = added-copied.differ;
+            filled = let f = added-filled in record { first = f.first; last = f.last; first_unit = f.first_unit; last_unit = f.last_unit; split = f.split; first_lie = f.first_lie; last_lie = f.last_lie; one = f.one; goes_on = f.goes_on };
             await = λ c y in_copies owned. let a = added-copied.await c y in_copies owned in record { unowned = a.unowned; way = a.way; target = a.target };
           });
     }

@@ -274,7 +274,7 @@ module _ (s now : Relocation) (o : OwnerTable) (classes : List Class) (rg : ℕ)
       let closed : state_at middle.units has.pass.victim ≡ Closed = (middle-ready.victim has.pass has.under_way).stands in
       record {
         worked = subst (λ (p : GroupPasses). AreWorked (record { passes = p; units = now.units }) o classes rg) (sym adds.copied)
-            (added-worked middle adds.passes now.units o classes rg lane to.unit middle-ready.targets usable adds.used middle-worked has.pass has.under_way (record { from = from; to = to }) owner has-victim has-order low closed own refl opened.page (open-unowned s middle o classes rg from.unit lane to ready opened) owned refl);
+            (added-worked middle adds.passes now.units o classes rg lane to.unit middle-ready.targets usable adds.used middle-worked has.pass has.under_way (record { from = from; to = to }) owner has-victim has-order low closed own refl opened.page (open-unowned s middle o classes rg from.unit lane to ready opened) owned refl ready.lanes);
         gains = λ pass e.
             let is : with_copy (record { from = from; to = to }) has.pass ≡ pass = one (sym (ap (option_map (with_copy (record { from = from; to = to }))) (used-pass adds.passes now.units adds.used)) ∙ ap (λ (p : GroupPasses). p.pass) (sym adds.copied) ∙ e) in
             gains-of now.passes now.units pass (used-gains adds.passes now.units adds.used) (ap (λ (q : Pass). q.victim) (sym is) ∙ has-victim);
@@ -328,7 +328,7 @@ step-advanced o classes rg may_erase s now old new (steps.Fault (lost.Retired un
 -- ---- the tables
 
 -- handles fill what they filled
-filled-outside : (x : HandleTable) (t new : UnitTable) (o : OwnerTable) (rg : ℕ) → StaysOutside t new rg → AreFilled x t o → AreFilled x new o
+pub filled-outside : (x : HandleTable) (t new : UnitTable) (o : OwnerTable) (rg : ℕ) → StaysOutside t new rg → AreFilled x t o → AreFilled x new o
 filled-outside x t new o rg h was = record {
   whole = λ g ruh e. was.whole g ruh e ∙ sym (pages-of t new h.cut);
   fills = λ g ruh u e.
@@ -349,7 +349,7 @@ filled-outside x t new o rg h was = record {
 }
 
 -- another group is as it was
-other-kept : (p : GroupPasses) (t new : UnitTable) (o : OwnerTable) (classes : List Class) (rg other : ℕ) → other ≢ rg → StaysOutside t new rg → IsReady (record { passes = p; units = t }) o classes other → AreLive new o → IsRelocating (record { passes = p; units = t }) o classes other → IsRelocating (record { passes = p; units = new }) o classes other
+pub other-kept : (p : GroupPasses) (t new : UnitTable) (o : OwnerTable) (classes : List Class) (rg other : ℕ) → other ≢ rg → StaysOutside t new rg → IsReady (record { passes = p; units = t }) o classes other → AreLive new o → IsRelocating (record { passes = p; units = t }) o classes other → IsRelocating (record { passes = p; units = new }) o classes other
 other-kept p t new o classes rg other ne h ready live was = record {
   ready = ready-kept p t new o o classes other keeps live was.ready.lanes was.ready;
   targeted = targeted-kept p t new o o classes other h.cut (λ unit is. let own : group_in t unit ≡ other = group-kept new t unit other (sym h.cut) is.group in ap (λ (y : DataUnit). y.state) (sym (h.outside unit (λ e. ne (sym own ∙ e)))) ∙ is.stands) was.targeted.own was.targeted;

@@ -46,7 +46,7 @@ free-sound : (pages : ℕ) → 1 ≤ pages → IsSound pages free_unit
 free-sound pages some = record { some = some; next = omega arith; live = omega arith; free = λ e. refl; room = λ e. omega (arith, some) }
 
 -- what stands in a list of equal elements, and behind it
-all-one : {X : Type 0} (n i : ℕ) (x : X) → get_or (replicate n x) i x ≡ x
+pub all-one : {X : Type 0} (n i : ℕ) (x : X) → get_or (replicate n x) i x ≡ x
 all-one n i x = ⊎_elim
     (λ (low : i < n). get_or-replicate n i x x low)
     (λ (high : n ≤ i). get_or_past (replicate n x) i x (subst (λ (k : ℕ). k ≤ i) (sym (length-replicate n x)) high))

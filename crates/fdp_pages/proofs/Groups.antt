@@ -8,7 +8,7 @@ use Rattle.fdp_collector.specs.Ready.{AreLive, HaveLanes, IsReady, IsUnitOf, Rel
 use Rattle.fdp_collector.proofs.Kept.{group-kept, unit-kept, unit-of-kept}
 use Rattle.fdp_owners.specs.declared.owner.Owner.{Owner}
 use Rattle.fdp_owners.specs.OwnerTable.{OwnerTable, live_in, owner_at}
-use Rattle.fdp_pages.specs.Joined.{AreCopied, AreTargeted, Awaits, IsCopyOf, IsRelocating}
+use Rattle.fdp_pages.specs.Joined.{AreCopied, AreTargeted, Awaits, FillTargets, IsCopyOf, IsRelocating}
 use Rattle.fdp_pages.specs.Steps.{HasSize}
 use Rattle.fdp_pages.proofs.Counts.{fewer-live, room-kept, wanted-fewer}
 use Rattle.fdp_pages.proofs.Places.{IsFrom, from-lane, never, owner-cases, some-is}
@@ -92,7 +92,7 @@ abbrev pub KeepsWays : OwnerTable → OwnerTable → List Class → Pass → Typ
 KeepsWays o now classes pass = (copy : Copied) (x y : Owner) (spot : Spot) → Contains pass.copies copy → owner_at o copy.from ≡ Some x → owner_at now spot ≡ Some y → spot.unit ≡ copy.to.unit → (lane_at classes y ≡ lane_at classes x) × (spot ≢ copy.to)
 
 pub copied-kept : (p : GroupPasses) (t new : UnitTable) (o now : OwnerTable) (classes : List Class) (rg : ℕ) (pass : Pass) → KeepsGroup p t new o now rg → p.pass ≡ Some pass → KeepsWays o now classes pass → AreCopied (record { passes = p; units = t }) o classes rg pass → AreCopied (record { passes = p; units = new }) now classes rg pass
-copied-kept p t new o now classes rg pass k under ways h = record { lie = lies; ascend = h.ascend; differ = h.differ; await = awaits } where
+copied-kept p t new o now classes rg pass k under ways h = record { lie = lies; ascend = h.ascend; differ = h.differ; filled = fill; await = awaits } where
   lies : (copy : Copied) → Contains pass.copies copy → IsCopyOf new rg pass copy
   lies copy in_copies =
       let was = h.lie copy in_copies in
@@ -110,6 +110,22 @@ copied-kept p t new o now classes rg pass k under ways h = record { lie = lies; 
         used = omega (arith, next, used);
         within = omega (arith, next, within, pages-of t new k.cut);
       }
+
+  fill : FillTargets (record { passes = p; units = new }) now classes pass
+  fill = record {
+    first = h.filled.first;
+    last = h.filled.last;
+    first_unit = h.filled.first_unit;
+    last_unit = h.filled.last_unit;
+    split = h.filled.split;
+    first_lie = h.filled.first_lie;
+    last_lie = h.filled.last_lie;
+    one = h.filled.one;
+    goes_on = λ page unit x owns target.
+        let spot : Spot = record { unit = pass.victim; page = page } in
+        let f = k.owners pass spot x under refl owns in
+        h.filled.goes_on page unit f.owner f.was (ap (target_at p) (sym (from-lane classes (owner_at o spot) x f)) ∙ target);
+  }
 
   awaits : (copy : Copied) (x : Owner) → Contains pass.copies copy → owner_at now copy.from ≡ Some x → Awaits (record { passes = p; units = new }) now classes copy x
   awaits copy x in_copies owns =

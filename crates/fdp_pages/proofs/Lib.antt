@@ -12,6 +12,7 @@ pub mod Handled
 pub mod Placed
 pub mod Released
 pub mod Regrouped
+pub mod InOrder
 pub mod Inside
 pub mod Worked
 pub mod Added
@@ -20,3 +21,6 @@ pub mod Fresh
 pub mod Held
 pub mod Lives
 pub mod Found
+pub mod LeftUnits
+pub mod Untargeted
+pub mod Classed

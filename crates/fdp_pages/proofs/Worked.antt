@@ -1,7 +1,8 @@
 -- The targets and the copies of a group after each part of a step of relocation.
-use Rattle.std.proofs.Common.{◌≡◌, ◌≢◌, ℕ, ◌<◌, ◌≤◌, List, [], Option, Some, None, refl, ap, sym, ◌∙◌, subst, arith, ⊎_elim, get_or-set_other}
-use Rattle.std.specs.Prelude.{Contains, is_some, slice_get, slice_index_or}
+use Rattle.std.proofs.Common.{◌≡◌, ◌≢◌, ℕ, ◌<◌, ◌≤◌, true, false, inl, List, [], ◌++◌, Option, Some, None, refl, ap, sym, ◌∙◌, subst, arith, ⊎_elim, get_or-set_other}
+use Rattle.std.specs.Prelude.{Contains, IsFalse, is_some, slice_get, slice_index_or}
 use Rattle.std.proofs.lemmas.Bool.{cases_eq}
+use Rattle.std.proofs.lemmas.List.{append-nil}
 use Rattle.fdp_base.specs.declared.config.Class.{Class}
 use Rattle.fdp_base.specs.declared.entry.Copied.{Copied}
 use Rattle.fdp_collector.specs.Ready.{AreLive, Relocation}
@@ -14,6 +15,7 @@ use Rattle.fdp_pages.proofs.Inside.{slot-one}
 use Rattle.fdp_pages.proofs.Places.{never, one}
 use Rattle.fdp_passes.specs.declared.lane.Lane.{Lane}
 use Rattle.fdp_passes.specs.GroupPasses.{GroupPasses, Pass, begun, slot_of, target_at, with_unit_taken}
+use Rattle.fdp_passes.specs.Place.{has_taken}
 use Rattle.fdp_passes.specs.Targets.{OpensTarget, pass_in, with_pass}
 use Rattle.fdp_units.specs.declared.data_unit.DataUnit.{DataUnit}
 use Rattle.fdp_units.specs.declared.state.UnitState.TheVariants.{Target}
@@ -33,6 +35,17 @@ begun-copied s o classes rg pass none = record {
   lie = λ copy is. no-copy _ copy (subst (λ (xs : List Copied). Contains xs copy) none is);
   ascend = λ i j a b low e f. absurd (never a (ap (λ (xs : List Copied). slice_get xs i) (sym none) ∙ e));
   differ = λ i j a b e f same. absurd (never a (ap (λ (xs : List Copied). slice_get xs i) (sym none) ∙ e));
+  filled = record {
+    first = [];
+    last = [];
+    first_unit = 0;
+    last_unit = 0;
+    split = none;
+    first_lie = tt;
+    last_lie = tt;
+    one = λ untaken. refl;
+    goes_on = λ page unit x owned target. inl refl;
+  };
   await = λ copy x is owned. no-copy _ copy (subst (λ (xs : List Copied). Contains xs copy) none is);
 }
 
@@ -77,6 +90,7 @@ having-worked s now o classes rg victim lane unit has was =
         lie = h.lie;
         ascend = h.ascend;
         differ = h.differ;
+        filled = let f = h.filled in record { first = f.first; last = f.last; first_unit = f.first_unit; last_unit = f.last_unit; split = f.split; first_lie = f.first_lie; last_lie = f.last_lie; one = f.one; goes_on = f.goes_on };
         await = λ copy x is owned. let a = h.await copy x is owned in record { unowned = a.unowned; way = a.way; target = a.target };
       }
 
@@ -121,8 +135,8 @@ module _ (s now : Relocation) (o : OwnerTable) (classes : List Class) (rg victim
       let none : (unit_at s.units copy.to.unit).next ≡ 0 = ap (λ (k : ℕ). (unit_at s.units k).next) same ∙ unused in
       absurd (omega (arith, used, none))
 
-  taking-copied : (pass : Pass) → pass.copies ≡ (pass_in s.passes victim).copies → pass.victim ≡ (pass_in s.passes victim).victim → pass.next ≡ (pass_in s.passes victim).next → AreCopied now o classes rg pass
-  taking-copied pass copies same_victim next = record {
+  taking-copied : (pass : Pass) → pass.copies ≡ (pass_in s.passes victim).copies → pass.victim ≡ (pass_in s.passes victim).victim → pass.next ≡ (pass_in s.passes victim).next → pass.took_unit ≡ true → AreCopied now o classes rg pass
+  taking-copied pass copies same_victim next taken = record {
     lie = λ copy is.
         let lie = h.lie copy (own copy is) in
         let same : unit_at now.units copy.to.unit ≡ unit_at s.units copy.to.unit = unit-same copy.to.unit (copy-away _ copy lie) in
@@ -144,6 +158,17 @@ module _ (s now : Relocation) (o : OwnerTable) (classes : List Class) (rg victim
         };
     ascend = λ i j a b low e f. h.ascend i j a b low (read i a e) (read j b f);
     differ = λ i j a b e f. h.differ i j a b (read i a e) (read j b f);
+    filled = record {
+      first = h.filled.last;
+      last = [];
+      first_unit = h.filled.last_unit;
+      last_unit = 0;
+      split = copies ∙ h.filled.split ∙ ap (λ (xs : List Copied). xs ++ h.filled.last) (h.filled.one (untaken s.passes.pass takes.first)) ∙ sym (append-nil h.filled.last);
+      first_lie = h.filled.last_lie;
+      last_lie = tt;
+      one = λ not_taken. absurd (no (sym taken ∙ not_taken));
+      goes_on = λ page u x owned target. inl refl;
+    };
     await = λ copy x is owned.
         let a = h.await copy x (own copy is) owned in
         record {
@@ -158,6 +183,14 @@ module _ (s now : Relocation) (o : OwnerTable) (classes : List Class) (rg victim
     h : AreCopied s o classes rg (pass_in s.passes victim)
     h = pass-copied s o classes rg victim was
 
+    -- the pass took no unit before
+    untaken : (q : Option Pass) → IsFalse (has_taken (record s.passes { pass = q })) → (pass_in (record s.passes { pass = q }) victim).took_unit ≡ false
+    untaken None first = refl
+    untaken (Some x) first = first
+
+    no : true ≡ false → ⊥
+    no e = cc
+
     own : (copy : Copied) → Contains pass.copies copy → Contains (pass_in s.passes victim).copies copy
     own copy is = subst (λ (xs : List Copied). Contains xs copy) copies is
 
@@ -169,7 +202,7 @@ module _ (s now : Relocation) (o : OwnerTable) (classes : List Class) (rg victim
     targeted = taking-targeted;
     copied = λ pass e.
         let is : with_unit_taken (pass_in s.passes victim) ≡ pass = one (ap (λ (p : GroupPasses). p.pass) (sym takes.passes) ∙ e) in
-        taking-copied pass (ap (λ (q : Pass). q.copies) (sym is)) (ap (λ (q : Pass). q.victim) (sym is)) (ap (λ (q : Pass). q.next) (sym is));
+        taking-copied pass (ap (λ (q : Pass). q.copies) (sym is)) (ap (λ (q : Pass). q.victim) (sym is)) (ap (λ (q : Pass). q.next) (sym is)) (ap (λ (q : Pass). q.took_unit) (sym is));
   }
 
 pub opened-worked : (s now : Relocation) (o : OwnerTable) (classes : List Class) (rg victim : ℕ) (lane : Lane) (unit : ℕ) → AreLive s.units o → target_at now.passes lane ≡ Some unit → IsLaneOf classes lane → OpensTarget s.passes now.passes s.units now.units rg victim lane unit → AreWorked s o classes rg → AreWorked now o classes rg

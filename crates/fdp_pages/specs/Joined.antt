@@ -1,5 +1,5 @@
 -- What the tables of the pages say of each other.
-use Rattle.std.specs.Prelude.{◌≡◌, ◌≢◌, ℕ, ◌+◌, ◌*◌, ◌≤◌, ◌<◌, ◌||◌, Contains, IsTrue, List, Some, None, length, slice_get}
+use Rattle.std.specs.Prelude.{◌≡◌, ◌≢◌, ◌⊎◌, ℕ, ◌+◌, ◌*◌, ◌≤◌, ◌<◌, ◌||◌, ◌++◌, false, Contains, IsTrue, List, [], ◌∷◌, Some, None, length, slice_get}
 use Rattle.fdp_base.specs.declared.config.Class.{Class}
 use Rattle.fdp_base.specs.declared.entry.Copied.{Copied}
 use Rattle.fdp_base.specs.declared.entry.Spot.{Spot}
@@ -73,12 +73,31 @@ pub record Awaits (s : Relocation) (o : OwnerTable) (classes : List Class) (copy
   pub way : (spot : Spot) (y : Owner) → spot.unit ≡ copy.to.unit → owner_at o spot ≡ Some y → lane_at classes y ≡ lane_at classes x
   pub target : (lane : Lane) → target_at s.passes lane ≡ Some copy.to.unit → lane ≡ lane_at classes x
 
--- what the pass under way in a group has copied and not moved: old pages ascend, new ones differ, and where the old page is live the copy
--- waits for its owner
+-- the new pages of these copies lie in one unit, each behind the one before, from a page on
+abbrev pub LieInOrder : ℕ → ℕ → List Copied → Type 0
+LieInOrder unit first [] = Unit {0}
+LieInOrder unit first (x ∷ xs) = (x.to.unit ≡ unit) × (first ≤ x.to.page) × LieInOrder unit (x.to.page + 1) xs
+
+-- The copies of a pass filled a target, and behind it, only once the pass took a free unit, that one: their new pages lie in order in the two.
+-- A copy of a live page that is left goes on in the last of them, unless it has none yet
+pub record FillTargets (s : Relocation) (o : OwnerTable) (classes : List Class) (pass : Pass) : Type 0 where
+  pub first : List Copied
+  pub last : List Copied
+  pub first_unit : ℕ
+  pub last_unit : ℕ
+  pub split : pass.copies ≡ first ++ last
+  pub first_lie : LieInOrder first_unit 0 first
+  pub last_lie : LieInOrder last_unit 0 last
+  pub one : pass.took_unit ≡ false → first ≡ []
+  pub goes_on : (page unit : ℕ) (x : Owner) → owner_at o (record { unit = pass.victim; page = page }) ≡ Some x → target_at s.passes (lane_at classes x) ≡ Some unit → (last ≡ []) ⊎ (unit ≡ last_unit)
+
+-- what the pass under way in a group has copied and not moved: old pages ascend, new ones differ and fill its targets in order, and where the
+-- old page is live the copy waits for its owner
 pub record AreCopied (s : Relocation) (o : OwnerTable) (classes : List Class) (rg : ℕ) (pass : Pass) : Type 0 where
   pub lie : (copy : Copied) → Contains pass.copies copy → IsCopyOf s.units rg pass copy
   pub ascend : (i j : ℕ) (a b : Copied) → i < j → slice_get pass.copies i ≡ Some a → slice_get pass.copies j ≡ Some b → a.from.page < b.from.page
   pub differ : (i j : ℕ) (a b : Copied) → slice_get pass.copies i ≡ Some a → slice_get pass.copies j ≡ Some b → a.to ≡ b.to → i ≡ j
+  pub filled : FillTargets s o classes pass
   pub await : (copy : Copied) (x : Owner) → Contains pass.copies copy → owner_at o copy.from ≡ Some x → Awaits s o classes copy x
 
 -- what stands in a group: what each step of relocation asks for, whose its targets are, and what the pass under way has copied; the unit

@@ -1,21 +1,23 @@
 -- How the tables of the pages change.
-use Rattle.std.specs.Prelude.{◌≡◌, ℕ, ◌+◌, ◌<◌, Contains, List, Option, None, Some, IsSome, MatchOption, is_some, length, option_map, slice_get, if◌then◌else◌}
+use Rattle.std.specs.Prelude.{◌≡◌, ◌⊎◌, ℕ, ◌+◌, ◌<◌, Contains, List, Option, None, Some, true, IsSome, IsTrue, MatchOption, is_some, length, option_map, replicate, slice_get, if◌then◌else◌}
 use Rattle.std.specs.List.{list_any}
+use Rattle.fdp_base.specs.declared.config.Class.{Class}
 use Rattle.fdp_base.specs.declared.config.DriveConfig.{DriveConfig}
 use Rattle.fdp_base.specs.declared.entry.Copied.{Copied}
 use Rattle.fdp_base.specs.declared.entry.Spot.{Spot}
-use Rattle.fdp_handles.specs.HandleTable.{HandleTable, reference_at}
+use Rattle.fdp_handles.specs.HandleTable.{HandleTable, blank, reference_at}
 use Rattle.fdp_owners.specs.declared.owner.Owner.{Owner}
 use Rattle.fdp_owners.specs.OwnerTable.{OwnerTable, live_in, owner_at, with_owner}
-use Rattle.fdp_pages.specs.PageTables.{PageTables, copies_at, left_of, unit_of}
-use Rattle.fdp_passes.specs.GroupPasses.{GroupPasses, without_copies}
+use Rattle.fdp_pages.specs.PageTables.{PageTables, copies_at, left_of, passes_at, unit_of}
+use Rattle.fdp_passes.specs.declared.lane.Lane.{Lane}
+use Rattle.fdp_passes.specs.GroupPasses.{GroupPasses, target_at, without_copies}
 use Rattle.fdp_rules.specs.Change.{one_less}
-use Rattle.fdp_rules.specs.Effect.{no_reference, with_reference}
+use Rattle.fdp_rules.specs.Effect.{no_reference, updated_at, with_reference}
 use Rattle.fdp_rules.specs.PlainState.{Reference}
 use Rattle.fdp_rules.specs.Sites.{is_spot}
 use Rattle.fdp_units.specs.declared.data_unit.DataUnit.{DataUnit}
 use Rattle.fdp_units.specs.declared.state.UnitState.TheVariants.{Closed, Referenced}
-use Rattle.fdp_units.specs.DataUnits.{is_free, raised, used}
+use Rattle.fdp_units.specs.DataUnits.{is_free, is_open, raised, used}
 use Rattle.fdp_units.specs.UnitTable.{Changes, IsFreeUnit, IsGroup, IsUnit, UnitTable, cut_of, is_worn_at, unit_at}
 
 -- the page that a handle uses next: the first one of a free unit where it has none, else that behind the used ones of its unit
@@ -101,3 +103,41 @@ HasMoved t rg = (copy : Copied) → Contains (copies_at t rg) copy → owner_at 
 -- the pass has no copies any more
 abbrev pub ended_move : GroupPasses → GroupPasses
 ended_move p = record p { pass = option_map without_copies p.pass }
+
+-- a unit is as it was, or was open and is closed
+abbrev pub IsLeft : DataUnit → DataUnit → Type 0
+IsLeft old new = (new ≡ old) ⊎ (IsTrue (is_open old.state) × (new ≡ record old { state = Closed }))
+
+-- Handles are left without their units, and lanes without their targets; these units are closed. All else of the units stays, and so do
+-- owners and passes; of the classes nothing is said
+pub record LeavesUnits (old new : PageTables) : Type 0 where
+  pub owners : new.owners ≡ old.owners
+  pub cut : cut_of new.units ≡ cut_of old.units
+  pub units : (unit : ℕ) → IsLeft (unit_at old.units unit) (unit_at new.units unit)
+  pub worn : is_worn_at new.units ≡ is_worn_at old.units
+  pub handles : (rg ruh : ℕ) → (reference_at new.handles rg ruh ≡ reference_at old.handles rg ruh) ⊎ (reference_at new.handles rg ruh ≡ blank old.units.unit_pages)
+  pub passes : (rg : ℕ) → (passes_at new rg).pass ≡ (passes_at old rg).pass
+  pub targets : (rg : ℕ) (lane : Lane) → (target_at (passes_at new rg) lane ≡ target_at (passes_at old rg) lane) ⊎ (target_at (passes_at new rg) lane ≡ None)
+
+-- a handle of a group is updated: where its unit is partly written that is closed, and the handle has none
+pub record UpdatesHandle (old new : PageTables) (rg ruh : ℕ) : Type 0 where
+  pub leaves : LeavesUnits old new
+  pub references : (c : DriveConfig) → c.unit_pages ≡ old.handles.unit_pages → reference_at new.handles ≡ updated_at c (reference_at old.handles) (record { rg = rg; ruh = ruh; valid = true })
+  pub none : unit_of new rg ruh ≡ None
+  pub rest : new.handles ≡ record old.handles { rows = new.handles.rows }
+  pub passes : new.passes ≡ old.passes
+
+-- no page has an owner
+abbrev pub HasNoOwner : PageTables → Type 0
+HasNoOwner t = (spot : Spot) → owner_at t.owners spot ≡ None
+
+-- a group without targets
+abbrev pub without_targets : GroupPasses → GroupPasses
+without_targets p = record p { targets = replicate 17 None }
+
+-- handles of other classes are in force: none has a unit, and no lane a target
+pub record SetsClasses (old new : PageTables) (classes : List Class) : Type 0 where
+  pub leaves : LeavesUnits old new
+  pub references : (rg ruh : ℕ) → reference_at new.handles rg ruh ≡ blank old.units.unit_pages
+  pub handles : new.handles ≡ record old.handles { classes = classes; rows = new.handles.rows }
+  pub targets : (rg : ℕ) (lane : Lane) → target_at (passes_at new rg) lane ≡ None

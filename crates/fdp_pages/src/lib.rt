@@ -2,6 +2,7 @@
 #![tactic(auto)]
 
 mod laws;
+mod leaving;
 mod pages;
 mod taking;
 #[cfg(test)]

@@ -21,6 +21,7 @@ mod finding;
 mod owning;
 mod placing;
 mod relocating;
+mod setting;
 
 /// The pages of data of a drive: whose they are, which unit each handle fills, and what relocation does with them.
 #[derive(Debug, Drop)]

@@ -63,7 +63,9 @@ fn put(pages: &mut Pages, rg: u16, ruh: u8, lba: u64) -> Option<Spot> {
 }
 
 /// The program of the next page of a handle fails.
-fn shut(pages: &mut Pages, rg: u16, ruh: u8) -> Option<Spot> {
+fn shut(pages: &mut Pages, rg: u16, ruh: u8) -> Option<Spot>
+    ensures { pages.new.owners ≡ pages.old.owners }
+{
     if pages.units().groups() <= rg || pages.handles().classes().len() <= usize::from(ruh) {
         return None;
     }
@@ -74,6 +76,15 @@ fn shut(pages: &mut Pages, rg: u16, ruh: u8) -> Option<Spot> {
         }
         None => None,
     }
+}
+
+/// A handle is updated, if it is there.
+fn update(pages: &mut Pages, rg: u16, ruh: u8) -> bool {
+    if pages.units().groups() <= rg || pages.handles().classes().len() <= usize::from(ruh) {
+        return false;
+    }
+    pages.update(rg, ruh);
+    true
 }
 
 /// The owner of a page, if it is there and has one.
@@ -137,6 +148,29 @@ fn handles_fill_units(rt: HostRuntime) -> Result<(), Fail> {
     assert!(rt; unit(&pages, 1) == Some((UnitState::Closed, 2, 1)));
     assert!(rt; put(&mut pages, 0, 1, 6) == Some(Spot { unit: 2, page: 0 }));
     assert!(rt; put(&mut pages, 1, 1, 7) == Some(Spot { unit: 4, page: 0 }));
+    Ok(())
+}
+
+#[test]
+fn a_handle_is_updated(rt: HostRuntime) -> Result<(), Fail> {
+    let mut pages = Pages::new(rt.alloc(), &[Class::Initial, Class::Persistent], SMALL)?;
+    let first = Spot { unit: 0, page: 0 };
+    assert!(rt; update(&mut pages, 0, 0) && put(&mut pages, 0, 0, 3) == Some(first));
+    assert!(rt; put(&mut pages, 1, 0, 4) == Some(Spot { unit: 4, page: 0 }));
+    assert!(rt; update(&mut pages, 0, 0) && update(&mut pages, 0, 0));
+    assert!(rt; unit(&pages, 0) == Some((UnitState::Closed, 1, 1)));
+    assert!(rt; unit(&pages, 4) == Some((UnitState::Referenced, 1, 1)));
+    assert!(rt; put(&mut pages, 0, 0, 5) == Some(Spot { unit: 1, page: 0 }));
+    Ok(())
+}
+
+#[test]
+fn other_handles_are_in_force(rt: HostRuntime) -> Result<(), Fail> {
+    let mut pages = Pages::new(rt.alloc(), &[Class::Initial, Class::Persistent], SMALL)?;
+    assert!(rt; shut(&mut pages, 1, 1) == Some(Spot { unit: 4, page: 0 }));
+    pages.set_classes(&[Class::Persistent]);
+    assert!(rt; pages.handles().classes().len() == 1);
+    assert!(rt; put(&mut pages, 1, 0, 5) == Some(Spot { unit: 5, page: 0 }));
     Ok(())
 }
 

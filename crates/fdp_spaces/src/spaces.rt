@@ -4,6 +4,7 @@ ghost use Rattle.fdp_base.specs.declared.config.DriveConfig.{DriveConfig};
 ghost use Rattle.fdp_base.specs.Geometry.{IsWithin};
 ghost use Rattle.fdp_base.specs.Numbers.{with_at};
 ghost use Rattle.fdp_base.specs.Placement.{group_bits};
+ghost use Rattle.fdp_rules.specs.Effect.{lowest_free};
 ghost use Rattle.fdp_rules.specs.PlainState.{PlainState};
 ghost use Rattle.fdp_rules.specs.Target.{named_by, target_of};
 ghost use Rattle.fdp_spaces.specs.Resolving.{Agrees, IsNamed, LeadsWithin, is_default, named_in, target_by};
@@ -110,6 +111,26 @@ impl Spaces {
         }
     }
 
+    /// The lowest identifier that no namespace has, if there is one.
+    pub fn lowest_free(&self) -> Option<u32>
+        ensures value { (s : PlainState) → ((nsid : ℕ) → s.namespaces nsid ≡ namespace_at self.now nsid) → result ≡ lowest_free s }
+        ensures within { IfSome result (IsWithin 1 16) }
+    {
+        for nsid in 1..17 {
+            if self.is_free(nsid) {
+                return Some(nsid);
+            }
+        }
+        None
+    }
+
+    /// Whether no namespace has an identifier.
+    fn is_free(&self, nsid: u32) -> bool
+        ensures { result ≡ is_none (namespace_at self.now nsid) }
+    {
+        self.space(nsid).is_none()
+    }
+
     /// How many placement handles a group's part of the placement identifiers has room for.
     fn identifiers_of_a_group(&self) -> u32
         ensures { result ≡ 2 ^ (16 - group_bits self.now.groups) }
@@ -156,7 +177,7 @@ impl Spaces {
     }
 
     /// What a placement identifier names for a namespace: a group and a handle, if they are there.
-    fn named_by(&self, nsid: u32, pid: u16) -> Option<(u16, u8)>
+    pub fn named_by(&self, nsid: u32, pid: u16) -> Option<(u16, u8)>
         ensures { IsNamed self.now nsid pid result }
     {
         let each = self.identifiers_of_a_group();

@@ -1,6 +1,6 @@
 ghost use Rattle.std.specs.Prelude.{◌≡◌, ◌<◌, IfSome, IsSome, length};
 ghost use Rattle.fdp_pages.specs.PageTables.{unit_of};
-ghost use Rattle.fdp_pages.specs.Steps.{ClosesUnit, MayPut, PutsPage, ShutsUnit};
+ghost use Rattle.fdp_pages.specs.Steps.{ClosesUnit, MayPut, PutsPage, ShutsUnit, UpdatesHandle};
 ghost use Rattle.fdp_units.specs.UnitTable.{IsGroup};
 
 use crate::pages::Pages;
@@ -43,6 +43,19 @@ impl Pages {
                 self.handles.shut(rg, ruh);
             }
             None => unreachable!(),
+        }
+    }
+
+    /// A handle is updated: where its unit is partly written that gets no page more, and the handle has none. A handle without a unit is
+    /// left as it is.
+    pub fn update(&mut self, rg: u16, ruh: u8)
+        requires group { IsGroup self.old.units rg }
+        requires handle { ruh < length self.old.handles.classes }
+        ensures { UpdatesHandle self.old self.new rg ruh }
+    {
+        self.joined();
+        if self.handles.unit(rg, ruh).is_some() {
+            self.close(rg, ruh);
         }
     }
 }

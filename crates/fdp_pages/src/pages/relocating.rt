@@ -1,5 +1,6 @@
 ghost use Rattle.std.specs.Prelude.{◌≡◌, ◌<◌, IfSome, IsTrue, Some, length, slice_get, slice_set};
-ghost use Rattle.fdp_collector.specs.Ready.{AreOfFlash, IsStored, KeepsLive};
+ghost use Rattle.fdp_collector.specs.Leaving.{StepMayLeave};
+ghost use Rattle.fdp_collector.specs.Ready.{AreOfFlash, IsStored};
 ghost use Rattle.fdp_collector.specs.Step.{IsStep};
 ghost use Rattle.fdp_flash.specs.Runs.{Runs};
 ghost use Rattle.fdp_owners.specs.OwnerTable.{owner_at, with_owner};
@@ -29,7 +30,7 @@ impl Pages {
         requires size { length block.old ≡ (F.state flash.old).geometry.block }
         ensures step { IsStep self.old.owners self.old.handles.classes rg may_erase (relocation_at self.old rg) (relocation_at self.new rg) (F.state flash.old) (F.state flash.new) result }
         ensures rest { self.new ≡ record self.old { units = self.new.units; passes = slice_set self.old.passes rg (passes_at self.new rg) } }
-        ensures run { Runs (F.state flash.old) (F.state flash.new) (λ m image. KeepsLive (F.state flash.old).geometry self.old.owners (F.state flash.old).cells image) }
+        ensures run { Runs (F.state flash.old) (F.state flash.new) (λ m image. StepMayLeave may_erase (F.state flash.old).geometry self.old.units self.old.owners (F.state flash.old).cells image) }
         ensures stored { IsTrue (F.state flash.old).told → IsStored (F.state flash.old).geometry (F.state flash.new).cells self.old.owners self.new.units }
         ensures block { length block.new ≡ length block.old }
     {

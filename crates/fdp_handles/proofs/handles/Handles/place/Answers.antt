@@ -8,8 +8,8 @@ use Rattle.fdp_handles.proofs.handles.Handles.place.Goals as goal
 pub invariant_of-self : goal.invariant_of-self
 invariant_of-self c =
     let groups : c.self.inside.groups ≡ c.args.self.now.groups = ap (λ (x : HandleTable). x.groups) c.self.view_is in
-    let there : c.place_of.result < length c.self.inside.rows.items = omega (arith, groups, c.requires.group, c.requires.handle, c.place_of.ensures, c.self.invariant.count) in
-    rows_put c.self.inside.unit_pages c.self.inside.groups c.self.inside.rows.items c.place_of.result c.after_page.result there c.after_page.ensures.left c.self.invariant
+    let there : c.place_of.result < length c.self.inside.rows.items = omega (arith, groups, c.requires.group, c.requires.handle, c.place_of.ensures, c.self.invariant.rows_are.count) in
+    record { rows_are = rows_put c.self.inside.unit_pages c.self.inside.groups c.self.inside.rows.items c.place_of.result c.after_page.result there c.after_page.ensures.left c.self.invariant.rows_are; room = c.self.invariant.room }
 
 pub returns-clause-references : goal.returns-clause-references
 returns-clause-references c = λ configuration same.
@@ -18,5 +18,5 @@ returns-clause-references c = λ configuration same.
     let groups : inside.groups ≡ t.groups = ap (λ (x : HandleTable). x.groups) c.self.view_is in
     let pages : configuration.unit_pages ≡ inside.unit_pages = same ∙ sym (ap (λ (x : HandleTable). x.unit_pages) c.self.view_is) in
     let less = c.after_page.ensures.value configuration pages ∙ ap (one_less configuration c.args.unit) c.reference-before.ensures.value in
-    reference_put inside c.args.rg c.args.ruh c.place_of.result c.after_page.result (one_less configuration c.args.unit (reference_at t c.args.rg c.args.ruh)) (omega (arith, groups, c.requires.group)) c.requires.handle c.place_of.ensures c.self.invariant less
+    reference_put inside c.args.rg c.args.ruh c.place_of.result c.after_page.result (one_less configuration c.args.unit (reference_at t c.args.rg c.args.ruh)) (omega (arith, groups, c.requires.group)) c.requires.handle c.place_of.ensures c.self.invariant.rows_are less
     ∙ ap (λ (x : HandleTable). with_reference (reference_at x) c.args.rg c.args.ruh (one_less configuration c.args.unit (reference_at t c.args.rg c.args.ruh))) c.self.view_is
