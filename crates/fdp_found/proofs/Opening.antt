@@ -14,7 +14,7 @@ use Rattle.fdp_found.specs.Finding.{found_in}
 use Rattle.fdp_found.specs.Opened.{AreOpened, led_in, spare_found}
 use Rattle.fdp_found.proofs.Leading.{led-none, led-some, held-on, stands-on}
 use Rattle.fdp_found.proofs.Paging.{blank-unit, held-of}
-use Rattle.fdp_found.proofs.Pointing.{led-apart, led-block, led-carries, led-handled, led-owners}
+use Rattle.fdp_found.proofs.Pointing.{led-apart, led-block, led-carries, led-handled, led-owners, led-units}
 use Rattle.fdp_found.proofs.Stating.{state-found}
 use Rattle.fdp_image.specs.Reading.{Reading, spot_of}
 use Rattle.fdp_image.specs.Valid.{IsValid}
@@ -117,6 +117,7 @@ module _ (c : DriveConfig) (cells : List Cell) (r : Reading) (t : PageTables) (c
     owned = subst (λ (o : Spot → Option Owner). AreOwners o (led_in c cells r)) (λ d spot. sym (h.owners spot) d) (led-owners c cells r valid config);
     named = λ queue index g w y going write e. absurd cc;
     handled = subst (λ (s : PlainState). AreHandled s (led_in c cells r)) (sym (state-found c cells r valid can)) (led-handled c cells r valid config);
+    units = led-units c cells r valid config;
     holds = subst (λ (s : PlainState). Carries (IsWritten (pages_held c cells)) (content_at c s) (led_in c cells r)) (sym (state-found c cells r valid can)) (led-carries c cells r valid config);
     below = used-next c cells r t h;
     passes = λ rg low. pass-ended (led_in c cells r) (point_of c (found_in c cells r) []).trail rg (passes_at t rg) (ap (λ (o : Option Pass). option_map_or (λ (pass : Pass). pass.copies) o []) (h.passes rg).pass);

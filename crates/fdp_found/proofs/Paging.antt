@@ -112,6 +112,18 @@ blank-unit g cells unit h = record {
   blank = λ page low. blank-cell (slice_get cells (page_number g (page_in unit page))) (all-numbers (λ k. is_blank_at g cells (page_in unit k)) 0 g.unit_pages h page (omega arith) (omega (arith, low)));
 }
 
+-- pages that are blank are so by the test
+blank-each : (test : ℕ → Bool) (from count : ℕ) → ((page : ℕ) → from ≤ page → page < from + count → test page ≡ true) → list_all test (numbers_from from count) ≡ true
+unfolding numbers_from
+blank-each test from zero h = refl
+blank-each test from (suc count) h =
+    ap (λ (b : Bool). b && list_all test (numbers_from (from + 1) count)) (h from (omega arith) (omega arith))
+    ∙ blank-each test (from + 1) count (λ page low high. h page (omega (arith, low)) (omega (arith, high)))
+
+pub blank-tested : (g : Geometry) (cells : List Cell) (unit : ℕ) → IsBlankUnit g cells unit → is_blank_unit g cells unit ≡ true
+unfolding is_blank_unit
+blank-tested g cells unit blank = blank-each (λ page. is_blank_at g cells (page_in unit page)) 0 g.unit_pages (λ page low high. ap (λ (o : Option Cell). option_map_or is_blank o false) (blank.blank page (omega (arith, high))))
+
 -- in blank units no page holds anything
 pub blank-none : (c : DriveConfig) (cells : List Cell) → ((unit : ℕ) → IsDataUnit c unit → IsBlankUnit (geometry_of c) cells unit) → (spot : Spot) → pages_held c cells spot ≡ None
 blank-none c cells blank spot = of (pages_held c cells spot) refl where

@@ -19,7 +19,7 @@ use Rattle.fdp_image.specs.Outline.{state_with}
 use Rattle.fdp_image.specs.Reading.{Reading, has_page, spot_of}
 use Rattle.fdp_image.specs.Valid.{IsValid, state_in}
 use Rattle.fdp_locations.specs.Held.{pages_held}
-use Rattle.fdp_locations.specs.Located.{AreHandled, handle_at}
+use Rattle.fdp_locations.specs.Located.{AreHandled, NameTheirUnits, handle_at}
 use Rattle.fdp_locations.specs.Written.{IsWritten, Written}
 use Rattle.fdp_owners.specs.declared.owner.Holder.TheVariants.{Block}
 use Rattle.fdp_owners.specs.declared.owner.Owner.{Owner}
@@ -30,6 +30,7 @@ use Rattle.fdp_pointers.specs.Facts.{Carries, IsApart, Page}
 use Rattle.fdp_pointers.specs.Pointers.{Pointer, Pointer.of_block, Pointer.of_flight}
 use Rattle.fdp_records.specs.Spares.{said_by_data}
 use Rattle.fdp_rules.specs.PlainState as state
+use Rattle.fdp_rules.specs.Sites.{group_of}
 
 -- the block behind a pointer that leads somewhere
 pub record IsLedBlock (c : DriveConfig) (cells : List Cell) (r : Reading) (p : Pointer) (y : Page) : Type 0 where
@@ -162,3 +163,11 @@ module _ (c : DriveConfig) (cells : List Cell) (r : Reading) (valid : IsValid c 
       let a = led-block p y e in
       let behind : handle_at (state_in c cells r) p ≡ Some a.on.said.ruh = ap (handle_at (state_in c cells r)) a.pointer ∙ ap (option_map (λ (b : state.Block). b.ruh)) (block-behind p y a) in
       ap (λ (z : Page). z.spare.ruh) a.is ∙ one (sym behind ∙ handle)
+
+  -- and that names the generation in force and the group of its unit
+  pub led-units : NameTheirUnits c r.generation (led_in c cells r)
+  led-units p y e =
+      let a = led-block p y e in (
+        ap (λ (z : Page). z.spare.generation) a.is ∙ a.on.names.generation,
+        ap (λ (z : Page). z.spare.rg) a.is ∙ a.on.names.group ∙ sym (ap (λ (z : Page). group_of c z.spot.unit) a.is),
+      )

@@ -83,7 +83,7 @@ module _ (c : DriveConfig) (owners : Spot → Option Owner) where
   lies spot is = page_number-below (geometry_of c) spot (record { unit = omega (arith, is.unit); page = is.page })
 
   -- the cell of a page
-  told-at : (spot : Spot) → IsDataPage (geometry_of c) spot → slice_get (cells_of_owners c owners) (page_number (geometry_of c) spot) ≡ Some (cell_of_owner c.block (owners spot))
+  pub told-at : (spot : Spot) → IsDataPage (geometry_of c) spot → slice_get (cells_of_owners c owners) (page_number (geometry_of c) spot) ≡ Some (cell_of_owner c.block (owners spot))
   told-at spot is = told-cell (page_number (geometry_of c) spot) (lies spot is) ∙ ap (λ (s : Spot). Some (cell_of_owner c.block (owners s))) (spot-back c spot is.page)
 
   -- ---- what was read is valid over them
@@ -128,8 +128,8 @@ module _ (c : DriveConfig) (owners : Spot → Option Owner) where
           let blank : Some Blank ≡ Some (Whole is.spare w.bytes) = sym (told-at spot (record { unit = is.page.0; page = is.page.1 }) ∙ ap (λ (o : Option Owner). Some (cell_of_owner c.block o)) e) ∙ is.cell in
           absurd cc
 
-    pub told-owners : (spot : Spot) → owners spot ≡ owner_found c (cells_of_owners c owners) r spot
-    told-owners spot = of (owners spot) refl where
+    pub owners-told : (spot : Spot) → owners spot ≡ owner_found c (cells_of_owners c owners) r spot
+    owners-told spot = of (owners spot) refl where
       of : (o : Option Owner) → owners spot ≡ o → owners spot ≡ owner_found c (cells_of_owners c owners) r spot
       of None e = e ∙ sym (owner-none spot e)
       of (Some x) e = e ∙ sym (owner-some spot x e)

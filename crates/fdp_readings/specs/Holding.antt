@@ -1,16 +1,14 @@
 -- Cells that hold the blocks of a history, each on the page where it stands.
-use Rattle.std.specs.Prelude.{◌≡◌, ℕ, List, Option, Some}
+use Rattle.std.specs.Prelude.{◌≡◌, ℕ, List, Some}
 use Rattle.fdp_base.specs.declared.config.DriveConfig.{DriveConfig}
 use Rattle.fdp_base.specs.declared.entry.Spot.{Spot}
 use Rattle.fdp_base.specs.declared.spare.DataSpare.{DataSpare}
 use Rattle.fdp_base.specs.Placement.{geometry_of}
 use Rattle.fdp_collector.specs.Copying.{Holds}
 use Rattle.fdp_flash.specs.declared.cell.Cell.{Cell}
-use Rattle.fdp_owners.specs.declared.owner.Owner.{Owner}
 use Rattle.fdp_records.specs.Spares.{said_by_data}
 use Rattle.fdp_rules.specs.PlainState.{Block}
 use Rattle.fdp_rules.specs.Point.{Point}
-use Rattle.fdp_rules.specs.Sites.{group_of}
 
 -- a page is whole with the bytes of a block, and its spare names the block, its group and its handle, and this generation
 pub record HoldsBlock (c : DriveConfig) (cells : List Cell) (generation nsid lba : ℕ) (b : Block) (spot : Spot) : Type 0 where
@@ -29,8 +27,3 @@ abbrev pub HoldsBlocks : DriveConfig → Point → List Cell → Type 0
 HoldsBlocks c p cells =
     (nsid lba : ℕ) (b : Block) (spot : Spot) → p.state.blocks nsid lba ≡ Some b → p.trail.site b.page ≡ Some spot
     → HoldsBlock c cells p.state.generation nsid lba b spot
-
--- the spare that the owner of a live page knows names this generation, and the group of the unit
-abbrev pub NameTheirUnits : DriveConfig → ℕ → (Spot → Option Owner) → Type 0
-NameTheirUnits c generation owners =
-    (spot : Spot) (x : Owner) → owners spot ≡ Some x → (x.spare.generation ≡ generation) × (x.spare.rg ≡ group_of c spot.unit)

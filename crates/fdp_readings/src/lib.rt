@@ -9,7 +9,8 @@ mod saved;
 
 pub use commanded::saved_commands_are_drawn;
 pub use drawn::{
-    drawn_readings_are_valid, drawn_readings_tell_the_table, led_pages_hold_their_blocks,
+    drawn_pages_were_used, drawn_readings_are_valid, drawn_readings_tell_the_table,
+    led_pages_hold_their_blocks,
 };
 pub use kept::{
     calls_keep_named_pages, calls_of_data_keep_system_pages, named_pages_keep_a_reading,

@@ -1,0 +1,184 @@
+-- What a saving leaves, by what the areas say: over cells alone.
+use Rattle.std.proofs.Common.{◌≡◌, ℕ, ◌+◌, ◌≤◌, Bool, true, false, List, [], ◌∷◌, ◌++◌, length, refl, sym, ◌∙◌, ap, subst, arith, length-append}
+use Rattle.std.specs.Prelude.{All}
+use Rattle.std.proofs.lemmas.List.Elements.{All-cons, All-nil}
+use Rattle.fdp_base.specs.declared.config.DriveConfig.{DriveConfig}
+use Rattle.fdp_base.specs.declared.entry.Entry.{Entry}
+use Rattle.fdp_durability.specs.Beginnings.{CanBeSaved}
+use Rattle.fdp_durability.specs.Durable.{IsDurable}
+use Rattle.fdp_durability.specs.Saved.{firm_renewed, firm_with, with_saved}
+use Rattle.fdp_durability.proofs.Beginnings.{Tells, firm-most, tells-all, tells-grown, tells-in, tells-less, among}
+use Rattle.fdp_flash.specs.declared.answer.Wrote.{Wrote}
+use Rattle.fdp_flash.specs.declared.answer.Wrote.TheVariants as wrote
+use Rattle.fdp_flash.specs.declared.cell.Cell.{Cell}
+use Rattle.fdp_image.specs.Applied.{applied}
+use Rattle.fdp_image.specs.Checkpoint.{reading_of_state}
+use Rattle.fdp_image.specs.Reading.{Reading}
+use Rattle.fdp_image.specs.Saving.{SameDataPages}
+use Rattle.fdp_journal.specs.JournalState.{JournalState}
+use Rattle.fdp_readings.specs.Changes.{Saves}
+use Rattle.fdp_readings.specs.Drawn.{drawn}
+use Rattle.fdp_readings.proofs.Saving.{forgets}
+use Rattle.fdp_records.specs.declared.change.Change.{Change}
+use Rattle.fdp_rules.specs.History.{Found, point_of}
+use Rattle.fdp_rules.specs.Next.{totals_with}
+use Rattle.fdp_rules.specs.Point.{Point}
+use Rattle.fdp_rules.proofs.Pushes.{point_of-push}
+use Rattle.fdp_saving.specs.declared.saved.Saved.{Saved}
+use Rattle.fdp_saving.specs.declared.saved.Saved.TheVariants as answers
+use Rattle.fdp_saving.specs.Said.{AreasSay, AreasSayOneOf}
+use Rattle.fdp_saving.specs.Saver.{IsSaverIn, after_renewal, after_saving, needs_checkpoint}
+use Rattle.fdp_saving.specs.Saving.{SayAfterRenewal, SayAfterSaving, base_of, within_renewal, within_saved}
+use Rattle.fdp_saving.proofs.Joined.{sure_of}
+use Rattle.fdp_snapshot.specs.declared.state.State.{State}
+use Rattle.fdp_units.specs.UnitTable.{UnitTable}
+
+-- ---- what the readings of the two areas are
+
+-- readings of the areas, each of which says a beginning
+abbrev durable-of : (c : DriveConfig) (f : Found) (es : List Entry) (firm : ℕ) (s : JournalState) (t : UnitTable) (cells : List Cell) (own tried : Reading) → IsSaverIn cells s → AreasSay c s cells own tried
+    → Tells c f es firm t cells own → Tells c f es firm t cells tried → (s.in_doubt ≡ false → own ≡ record (drawn c (point_of c f es)) { totals = own.totals }) → IsDurable c f es firm s t cells
+durable-of c f es firm s t cells own tried saver say mine other sure = record {
+  own = own;
+  tried = tried;
+  saver = saver;
+  say = say;
+  own_says = mine.says;
+  tried_says = other.says;
+  own_used = mine.used;
+  tried_used = other.used;
+  sure = sure;
+}
+
+pub tells-own : (c : DriveConfig) (f : Found) (es : List Entry) (firm : ℕ) (s : JournalState) (t : UnitTable) (cells : List Cell) → (h : IsDurable c f es firm s t cells) → Tells c f es firm t cells h.own
+tells-own c f es firm s t cells h = record { says = h.own_says; used = h.own_used }
+
+pub tells-tried : (c : DriveConfig) (f : Found) (es : List Entry) (firm : ℕ) (s : JournalState) (t : UnitTable) (cells : List Cell) → (h : IsDurable c f es firm s t cells) → Tells c f es firm t cells h.tried
+tells-tried c f es firm s t cells h = record { says = h.tried_says; used = h.tried_used }
+
+-- what the history draws is what is said then, but for the sums
+drawn-so : (r q : Reading) → r ≡ q → r ≡ record q { totals = r.totals }
+drawn-so r q is = subst (λ (x : Reading). x ≡ record q { totals = x.totals }) (sym is) refl
+
+-- where one of two readings is said by each of the areas, and something is in doubt
+one-said : (c : DriveConfig) (f : Found) (es : List Entry) (firm : ℕ) (s : JournalState) (t : UnitTable) (old new : List Cell) (owns trieds : List Reading) → SameDataPages c old new → IsSaverIn new s → s.in_doubt ≡ true
+    → All (Tells c f es firm t old) owns → All (Tells c f es firm t old) trieds → AreasSayOneOf c s new owns trieds → IsDurable c f es firm s t new
+one-said c f es firm s t old new owns trieds same saver doubt all_own all_tried says =
+    durable-of c f es firm s t new says.own says.tried saver says.say
+    (tells-in c f es firm t old new says.own same (among (Tells c f es firm t old) owns says.own all_own says.own_among))
+    (tells-in c f es firm t old new says.tried same (among (Tells c f es firm t old) trieds says.tried all_tried says.tried_among))
+    (λ sure. let bad : true ≡ false = sym doubt ∙ sure in absurd cc)
+
+-- where both say what the history draws
+both-drawn : (c : DriveConfig) (f : Found) (es : List Entry) (s : JournalState) (t : UnitTable) (old new : List Cell) (r : Reading) → SameDataPages c old new → IsSaverIn new s → r ≡ drawn c (point_of c f es)
+    → CanBeSaved c (point_of c f es) t old → AreasSay c s new r r → IsDurable c f es (length es) s t new
+both-drawn c f es s t old new r same saver is can say =
+    let tells = tells-in c f es (length es) t old new r same (subst (Tells c f es (length es) t old) (sym is) (tells-all c f es t old can)) in
+    durable-of c f es (length es) s t new r r saver say tells tells (λ sure. drawn-so r (drawn c (point_of c f es)) is)
+
+-- ---- a checkpoint, where one is wanted
+
+module _ (c : DriveConfig) (f : Found) (es : List Entry) (firm : ℕ) (s : JournalState) (t : UnitTable) (old : List Cell) (given : State) (drive : reading_of_state given ≡ drawn c (point_of c f es)) (h : IsDurable c f es firm s t old)
+    (can : CanBeSaved c (point_of c f es) t old) where
+  -- the drive that was given
+  tells-given : Tells c f es firm t old (reading_of_state given)
+  tells-given =
+      subst (Tells c f es firm t old) (sym drive)
+      (tells-less c f es (length es) firm t old (drawn c (point_of c f es)) (firm-most c f es firm old h.own h.own_says) (tells-all c f es t old can))
+
+  tells-base : (wanted : Bool) → Tells c f es firm t old (base_of wanted h.own given)
+  tells-base true = tells-given
+  tells-base false = tells-own c f es firm s t old h
+
+  pub renewal-tells : (wanted : Bool) → All (Tells c f es firm t old) (within_renewal wanted h.own h.tried given)
+  renewal-tells wanted =
+      let P : Reading → Type 0 = Tells c f es firm t old in
+      let base = base_of wanted h.own given in
+      All-cons P h.own (h.tried ∷ base ∷ []) (tells-own c f es firm s t old h)
+      (All-cons P h.tried (base ∷ []) (tells-tried c f es firm s t old h) (All-cons P base [] (tells-base wanted) (All-nil P)))
+
+  -- the checkpoint failed
+  pub failed-durable : (now : JournalState) (new : List Cell) → SameDataPages c old new → IsSaverIn new now → now.in_doubt ≡ true → AreasSayOneOf c now new (h.own ∷ []) (h.tried ∷ reading_of_state given ∷ []) → IsDurable c f es firm now t new
+  failed-durable now new same saver doubt says =
+      let P : Reading → Type 0 = Tells c f es firm t old in
+      one-said c f es firm now t old new (h.own ∷ []) (h.tried ∷ reading_of_state given ∷ []) same saver doubt
+      (All-cons P h.own [] (tells-own c f es firm s t old h) (All-nil P))
+      (All-cons P h.tried (reading_of_state given ∷ []) (tells-tried c f es firm s t old h) (All-cons P (reading_of_state given) [] tells-given (All-nil P)))
+      says
+
+  -- what the areas say after it, by the answer
+  pub renewal-durable : (wanted : Bool) (now : JournalState) (new : List Cell) (answer : Wrote) → (wanted ≡ false → s.in_doubt ≡ false) → now ≡ after_renewal wanted s given.summary answer → SameDataPages c old new → IsSaverIn new now
+      → SayAfterRenewal c now new h.own h.tried given (base_of wanted h.own given) answer → IsDurable c f es (firm_renewed wanted es firm answer) now t new
+  renewal-durable true now new wrote.Done sure is same saver says = both-drawn c f es now t old new (reading_of_state given) same saver drive can says
+  renewal-durable false now new wrote.Done sure is same saver says =
+      let tells = tells-in c f es firm t old new h.own same (tells-own c f es firm s t old h) in
+      durable-of c f es firm now t new h.own h.own saver says tells tells (λ again. h.sure (sure refl))
+  renewal-durable true now new wrote.Failed sure is same saver says = failed-durable now new same saver (ap (λ (k : JournalState). k.in_doubt) is) says
+  renewal-durable false now new wrote.Failed sure is same saver says = failed-durable now new same saver (ap (λ (k : JournalState). k.in_doubt) is) says
+
+-- ---- an entry
+
+module _ (c : DriveConfig) (f : Found) (es : List Entry) (e : Entry) (firm : ℕ) (s : JournalState) (t : UnitTable) (old : List Cell) (given : State) (change : Change) (drive : reading_of_state given ≡ drawn c (point_of c f es))
+    (saves : Saves c (point_of c f es) change e) (h : IsDurable c f es firm s t old) (can : CanBeSaved c (point_of c f es) t old) (can_then : CanBeSaved c (point_of c f (es ++ e ∷ [])) t old) where
+  abbrev before : Point
+  before = point_of c f es
+
+  abbrev then' : List Entry
+  then' = es ++ e ∷ []
+
+  -- with the change what is said before the entry is what is drawn after it
+  from-drawn : applied c (drawn c before) (change, totals_with before.totals e) ≡ drawn c (point_of c f then')
+  from-drawn = saves ∙ ap (drawn c) (sym (point_of-push c f es e))
+
+  from-base : (wanted : Bool) → (wanted ≡ false → s.in_doubt ≡ false) → applied c (base_of wanted h.own given) (change, totals_with before.totals e) ≡ drawn c (point_of c f then')
+  from-base true sure = ap (λ (r : Reading). applied c r (change, totals_with before.totals e)) drive ∙ from-drawn
+  from-base false sure =
+      ap (λ (r : Reading). applied c r (change, totals_with before.totals e)) (h.sure (sure refl))
+      ∙ forgets c (drawn c before) h.own.totals (change, totals_with before.totals e)
+      ∙ from-drawn
+
+  base-says : applied c (base_of (needs_checkpoint s) h.own given) (change, totals_with before.totals e) ≡ drawn c (point_of c f then')
+  base-says = from-base (needs_checkpoint s) (λ none. sure_of s none)
+
+  grows : (r : Reading) → Tells c f es firm t old r → Tells c f then' firm t old r
+  grows r tells = tells-grown c f es (e ∷ []) firm t old r tells
+
+  more : firm ≤ length then'
+  more =
+      let least = firm-most c f es firm old h.own h.own_says in
+      let size : length then' ≡ length es + 1 = length-append es (e ∷ []) in
+      omega (arith, least, size)
+
+  tells-with : Tells c f then' firm t old (applied c (base_of (needs_checkpoint s) h.own given) (change, totals_with before.totals e))
+  tells-with = subst (Tells c f then' firm t old) (sym base-says) (tells-less c f then' (length then') firm t old (drawn c (point_of c f then')) more (tells-all c f then' t old can_then))
+
+  tells-without : Tells c f then' firm t old (base_of (needs_checkpoint s) h.own given)
+  tells-without = grows (base_of (needs_checkpoint s) h.own given) (tells-base c f es firm s t old given drive h can (needs_checkpoint s))
+
+  appended : All (Tells c f then' firm t old) (base_of (needs_checkpoint s) h.own given ∷ applied c (base_of (needs_checkpoint s) h.own given) (change, totals_with before.totals e) ∷ [])
+  appended =
+      let P : Reading → Type 0 = Tells c f then' firm t old in
+      let base = base_of (needs_checkpoint s) h.own given in
+      let with = applied c base (change, totals_with before.totals e) in
+      All-cons P base (with ∷ []) tells-without (All-cons P with [] tells-with (All-nil P))
+
+  all-tell : All (Tells c f then' firm t old) (h.own ∷ h.tried ∷ base_of (needs_checkpoint s) h.own given ∷ applied c (base_of (needs_checkpoint s) h.own given) (change, totals_with before.totals e) ∷ [])
+  all-tell =
+      let P : Reading → Type 0 = Tells c f then' firm t old in
+      let base = base_of (needs_checkpoint s) h.own given in
+      let with = applied c base (change, totals_with before.totals e) in
+      All-cons P h.own (h.tried ∷ base ∷ with ∷ []) (grows h.own (tells-own c f es firm s t old h))
+      (All-cons P h.tried (base ∷ with ∷ []) (grows h.tried (tells-tried c f es firm s t old h)) appended)
+
+  -- what may be read within it, by the answer
+  pub saving-tells : (answer : Saved) → All (Tells c f (with_saved es e answer) firm t old) (within_saved c (needs_checkpoint s) h.own h.tried given (change, totals_with before.totals e) answer)
+  saving-tells answers.Done = all-tell
+  saving-tells (answers.Doubtful moment) = all-tell
+  saving-tells (answers.Unsaved moment) = renewal-tells c f es firm s t old given drive h can true
+
+  -- what the areas say after it, by the answer
+  pub saving-durable : (now : JournalState) (new : List Cell) (answer : Saved) → now ≡ after_saving s given.summary answer → SameDataPages c old new → IsSaverIn new now
+      → SayAfterSaving c now new h.own h.tried given (base_of (needs_checkpoint s) h.own given) (change, totals_with before.totals e) answer → IsDurable c f (with_saved es e answer) (firm_with es e firm answer) now t new
+  saving-durable now new answers.Done is same saver says = both-drawn c f then' now t old new _ same saver base-says can_then says
+  saving-durable now new (answers.Doubtful moment) is same saver says = one-said c f then' firm now t old new _ _ same saver (ap (λ (k : JournalState). k.in_doubt) is) appended appended says
+  saving-durable now new (answers.Unsaved moment) is same saver says = failed-durable c f es firm s t old given drive h can now new same saver (ap (λ (k : JournalState). k.in_doubt) is) says

@@ -1,0 +1,4 @@
+pub mod Firm
+pub mod Beginnings
+pub mod Durable
+pub mod Saved
