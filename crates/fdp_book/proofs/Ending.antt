@@ -138,6 +138,17 @@ completed b new queue number moment ticket f command r reply done l longer queue
       ∙ ap (λ (n : ℕ). record { position = n + length new.entries; moment = moment; reply = reply }) before;
 }
 
+-- and another command
+pub completes-told : (b new : BookSeen) (queue number moment : ℕ) (command : Command) (r : Replies) (reply : Reply) (done : Done) (l : Logged) →
+    IsLonger b new (host queue number command r.history moment ∷ []) → IsTwice reply r → done ≡ record { position = l.before + length l.entries; moment = moment; reply = r.answer } → l.before ≡ new.found.totals.position → new.entries ≡ l.entries →
+    Completes b new [] queue number command reply moment done
+completes-told b new queue number moment command r reply done l longer twice done_is before entries_are = record {
+  step = subst (λ (y : Reply). IsLonger b new (host queue number command y moment ∷ [])) twice.history_is longer;
+  done_is = done_is ∙ ap (λ (y : Reply). record { position = l.before + length l.entries; moment = moment; reply = y }) twice.answer_is
+      ∙ ap (λ (es : List Entry). record { position = l.before + length es; moment = moment; reply = reply }) (sym entries_are)
+      ∙ ap (λ (n : ℕ). record { position = n + length new.entries; moment = moment; reply = reply }) before;
+}
+
 pub completes-by : (b new : BookSeen) (before : List Entry) (ticket : Ticket) (f : Flight) (g : Going) (reply : Reply) (moment : ℕ) (done : Done) → IsTicketOf (state_in b) ticket (going_of f) → IsTicketOf (state_in b) ticket g → Completes b new before ticket.queue f.number f.room.command reply moment done → Completes b new before ticket.queue g.number g.command reply moment done
 completes-by b new before ticket f g reply moment done own is ends =
     subst (λ (k : Going). Completes b new before ticket.queue k.number k.command reply moment done) (one-going (state_in b) ticket (going_of f) g own is) ends

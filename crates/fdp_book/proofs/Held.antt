@@ -7,6 +7,17 @@ pub mod Ended
 pub mod Placed
 pub mod Shut
 pub mod Committed
+pub mod Faulted
+pub mod Applied
+pub mod Cleared
+pub mod Spaced
+pub mod Deleted
+pub mod Created
+pub mod Listened
+pub mod Left
+pub mod Updated
+pub mod Set
+pub mod Reopened
 pub mod Worked
 pub mod Relocated
 pub mod Moved

@@ -1,2 +1,5 @@
 pub mod Follows
+pub mod Accepted
+pub mod Commanded
+pub mod Finding
 pub mod Configuring

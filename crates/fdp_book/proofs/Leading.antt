@@ -127,20 +127,21 @@ pub led-page : (o : Option Page) (spot : Spot) → option_map (λ (y : Page). y.
 led-page None spot e = absurd cc
 led-page (Some y) spot e = (y, refl, cc)
 
--- the page of a queue's write by its index
-pub page-led : (s : PlainState) (map : MapTable) (flights : List (Option Flight)) (at : Behind Page) (queue index : ℕ) (spot : Spot) → LeadsTo (lead_in s map flights) at → slice_get (live_of s (flight_in flights queue)) index ≡ Some spot → (y : Page) × (at (of_flight queue index) ≡ Some y) × (y.spot ≡ spot)
-page-led s map flights at queue index spot h e = led-page (at (of_flight queue index)) spot (h (of_flight queue index) ∙ sym (live-at s index (flight_in flights queue)) ∙ e)
+-- the pointers to the pages of a queue's write lead to these
+abbrev pub LeadsAlong : Behind Page → ℕ → List Spot → Type 0
+LeadsAlong at queue spots = (index : ℕ) → option_map (λ (y : Page). y.spot) (at (of_flight queue index)) ≡ slice_get spots index
 
-pub its-pages : (s : PlainState) (map : MapTable) (flights : List (Option Flight)) (at : Behind Page) (queue : ℕ) → IsApart at → LeadsTo (lead_in s map flights) at → AreItsPages at queue (live_of s (flight_in flights queue))
-its-pages s map flights at queue apart h = record {
-  each = λ index y e.
-      any-at (is_spot y.spot) (live_of s (flight_in flights queue)) index y.spot
-      (live-at s index (flight_in flights queue) ∙ sym (h (of_flight queue index)) ∙ ap (option_map (λ (z : Page). z.spot)) e) (is_spot-same y.spot);
+along-page : (at : Behind Page) (queue index : ℕ) (spots : List Spot) (spot : Spot) → LeadsAlong at queue spots → slice_get spots index ≡ Some spot → (y : Page) × (at (of_flight queue index) ≡ Some y) × (y.spot ≡ spot)
+along-page at queue index spots spot h e = led-page (at (of_flight queue index)) spot (h index ∙ e)
+
+pub its-along : (at : Behind Page) (queue : ℕ) (spots : List Spot) → IsApart at → LeadsAlong at queue spots → AreItsPages at queue spots
+its-along at queue spots apart h = record {
+  each = λ index y e. any-at (is_spot y.spot) spots index y.spot (sym (h index) ∙ ap (option_map (λ (z : Page). z.spot)) e) (is_spot-same y.spot);
   none = λ p y other e.
-      false_from_ne_true (list_any (is_spot y.spot) (live_of s (flight_in flights queue)))
+      false_from_ne_true (list_any (is_spot y.spot) spots)
       (λ any.
-      let found = at-any (is_spot y.spot) (live_of s (flight_in flights queue)) any in
-      let page = page-led s map flights at queue found.0 found.1 h found.2 in
+      let found = at-any (is_spot y.spot) spots any in
+      let page = along-page at queue found.0 spots found.1 h found.2 in
       let same : y.spot ≡ page.0.spot = same-spot y.spot found.1 found.3 ∙ sym page.2 in
       let pointer : p ≡ of_flight queue found.0 = apart p (of_flight queue found.0) y page.0 e page.1 same in
       own queue found.0 (sym (ap (is_of_another queue) pointer) ∙ other));
@@ -152,18 +153,32 @@ its-pages s map flights at queue apart h = record {
 flight-index : (queue i j : ℕ) → of_flight queue i ≡ of_flight queue j → i ≡ j
 flight-index queue i j e = cc
 
-pub pages-owned : (s : PlainState) (map : MapTable) (flights : List (Option Flight)) (at : Behind Page) (o : OwnerTable) (queue : ℕ) → AreOwners (owner_at o) at → IsApart at → LeadsTo (lead_in s map flights) at → AreOwned o (live_of s (flight_in flights queue))
-pages-owned s map flights at o queue owned apart h = record {
+pub owned-along : (at : Behind Page) (o : OwnerTable) (queue : ℕ) (spots : List Spot) → AreOwners (owner_at o) at → IsApart at → LeadsAlong at queue spots → AreOwned o spots
+owned-along at o queue spots owned apart h = record {
   owned = λ spot has.
-      let place = contained-at (live_of s (flight_in flights queue)) spot has in
-      let page = page-led s map flights at queue place.0 spot h place.1 in
+      let place = contained-at spots spot has in
+      let page = along-page at queue place.0 spots spot h place.1 in
       let own = owned.owned (of_flight queue place.0) page.0 page.1 in
       subst (λ (z : Spot). IsSome (owner_at o z)) page.2 (ap (λ (x : Option Owner). is_some x) own.is_owner);
   differ = λ i j spot a b.
-      let one = page-led s map flights at queue i spot h a in
-      let two = page-led s map flights at queue j spot h b in
+      let one = along-page at queue i spots spot h a in
+      let two = along-page at queue j spots spot h b in
       flight-index queue i j (apart (of_flight queue i) (of_flight queue j) one.0 two.0 one.1 two.1 (one.2 ∙ sym two.2));
 }
+
+-- those that lead by the map and the flights
+led-along : (s : PlainState) (map : MapTable) (flights : List (Option Flight)) (at : Behind Page) (queue : ℕ) → LeadsTo (lead_in s map flights) at → LeadsAlong at queue (live_of s (flight_in flights queue))
+led-along s map flights at queue h index = h (of_flight queue index) ∙ sym (live-at s index (flight_in flights queue))
+
+-- the page of a queue's write by its index
+pub page-led : (s : PlainState) (map : MapTable) (flights : List (Option Flight)) (at : Behind Page) (queue index : ℕ) (spot : Spot) → LeadsTo (lead_in s map flights) at → slice_get (live_of s (flight_in flights queue)) index ≡ Some spot → (y : Page) × (at (of_flight queue index) ≡ Some y) × (y.spot ≡ spot)
+page-led s map flights at queue index spot h e = along-page at queue index (live_of s (flight_in flights queue)) spot (led-along s map flights at queue h) e
+
+pub its-pages : (s : PlainState) (map : MapTable) (flights : List (Option Flight)) (at : Behind Page) (queue : ℕ) → IsApart at → LeadsTo (lead_in s map flights) at → AreItsPages at queue (live_of s (flight_in flights queue))
+its-pages s map flights at queue apart h = its-along at queue (live_of s (flight_in flights queue)) apart (led-along s map flights at queue h)
+
+pub pages-owned : (s : PlainState) (map : MapTable) (flights : List (Option Flight)) (at : Behind Page) (o : OwnerTable) (queue : ℕ) → AreOwners (owner_at o) at → IsApart at → LeadsTo (lead_in s map flights) at → AreOwned o (live_of s (flight_in flights queue))
+pages-owned s map flights at o queue owned apart h = owned-along at o queue (live_of s (flight_in flights queue)) owned apart (led-along s map flights at queue h)
 
 -- ---- by the table of namespaces
 
@@ -173,7 +188,7 @@ nsid-of command x (Some w) is e =
     let same : x ≡ extent w = cc in
     ap (λ (y : Extent). y.nsid) same ∙ sym (ap nsid_of (write-is command w is))
 
-nsid-known : (f : Flight) → f.extent.nsid ≡ nsid_of f.room.command
+pub nsid-known : (f : Flight) → f.extent.nsid ≡ nsid_of f.room.command
 nsid-known f = nsid-of f.room.command f.extent (write_of f.room.command) refl f.extent_is
 
 pub there-known : (s : PlainState) (spaces : SpaceTable) (f : Flight) → ((nsid : ℕ) → s.namespaces nsid ≡ namespace_at spaces nsid) → is_there_in spaces f ≡ is_there s (going_of f)
@@ -182,3 +197,7 @@ there-known s spaces f all = sym (ap (λ (nsid : ℕ). option_map_or (λ (x : Na
 pub live-known : (s : PlainState) (spaces : SpaceTable) (o : Option Flight) → ((nsid : ℕ) → s.namespaces nsid ≡ namespace_at spaces nsid) → live_pages spaces o ≡ live_of s o
 live-known s spaces None all = refl
 live-known s spaces (Some f) all = ap (λ (b : Bool). if b then f.pages.items else []) (there-known s spaces f all)
+
+-- the pointers of going writes lead where their flights say, by the table of namespaces
+pub flown-known : (s : PlainState) (map : MapTable) (spaces : SpaceTable) (flights : List (Option Flight)) (at : Behind Page) (queue : ℕ) → ((nsid : ℕ) → s.namespaces nsid ≡ namespace_at spaces nsid) → LeadsTo (lead_in s map flights) at → LeadsAlong at queue (live_pages spaces (flight_in flights queue))
+flown-known s map spaces flights at queue all h = subst (λ (xs : List Spot). LeadsAlong at queue xs) (sym (live-known s spaces (flight_in flights queue) all)) (led-along s map flights at queue h)

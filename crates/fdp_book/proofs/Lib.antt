@@ -3,6 +3,11 @@ pub mod Leading
 pub mod Flights
 pub mod Placing
 pub mod Committing
+pub mod Clearing
+pub mod Releasing
+pub mod Deleting
+pub mod Answering
+pub mod Applying
 pub mod Held
 pub mod Reading
 pub mod Forgetting
@@ -13,3 +18,6 @@ pub mod Histories
 pub mod Space
 pub mod Crowding
 pub mod Relocating
+pub mod Saving
+pub mod Numbers
+pub mod Updating

@@ -22,13 +22,13 @@ use Rattle.fdp_rules.specs.Sites.{is_there}
 use Rattle.fdp_rules.specs.Step.{IsOnTarget}
 
 -- the flight of a ticket: the write that is going in its queue, in order; while its namespace is there, it goes where it was started
--- for, its pages have sites, and its blocks lie below the bound of all namespaces
+-- for, its pages stand where it says, and its blocks lie below the bound of all namespaces
 pub record IsFlightAt (b : BookSeen) (ticket : Ticket) (f : Flight) : Type 0 where
   pub config : IsValidConfig b.config
   pub going : IsTicketOf (state_in b) ticket (going_of f)
   pub orderly : IsOrderlyGoing b.config (state_in b) ticket.queue (going_of f)
   pub target : IsTrue (is_there (state_in b) (going_of f)) → IsOnTarget b.config (state_in b) (going_of f)
-  pub pages : IsTrue (is_there (state_in b) (going_of f)) → (index : ℕ) → index < length f.pages.items → IsSome ((point_in b).trail.site (written f.ticket index))
+  pub pages : IsTrue (is_there (state_in b) (going_of f)) → (index : ℕ) (spot : Spot) → slice_get f.pages.items index ≡ Some spot → (point_in b).trail.site (written f.ticket index) ≡ Some spot
   pub end : IsTrue (is_there (state_in b) (going_of f)) → IfSome (write_of f.room.command) (λ (w : Write). w.slba + w.count ≤ 262144)
 
 -- a write that is let go where it was admitted: none of its pages is placed

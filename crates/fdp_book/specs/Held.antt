@@ -1,5 +1,5 @@
 -- How the tables of a book stand for its history: one record for each pair of a table and what it follows.
-use Rattle.std.specs.Prelude.{◌≡◌, ℕ, ◌+◌, ◌*◌, ◌^◌, ◌≤◌, IsTrue, List, Option, Some, None, length, slice_get, option_and_then, option_map, if◌then◌else◌}
+use Rattle.std.specs.Prelude.{◌≡◌, ℕ, ◌+◌, ◌*◌, ◌^◌, ◌≤◌, ◌<◌, IsTrue, List, Option, Some, None, length, slice_get, option_and_then, option_map, if◌then◌else◌}
 use Rattle.std.specs.Option.{option_flatten}
 use Rattle.fdp_base.specs.declared.config.DriveConfig.{DriveConfig}
 use Rattle.fdp_base.specs.declared.entry.Entry.{Entry}
@@ -132,8 +132,15 @@ book_of c opening log t = record {
   pages = t.pages;
 }
 
+-- A step sets the placement at most once, as the first that it does: so the generation, which was below 2 ^ 31 when the run began, has a
+-- number for the setting of each step
+pub record HasNumbers (generation : ℕ) (log : Logged) : Type 0 where
+  pub few : generation ≤ 2 ^ 31 + log.spent
+  pub fewer : 300 ≤ log.room → generation < 2 ^ 31 + log.spent
+
 -- the parts of a book stand for its history: its tables do, and its log goes on from the position that was found
 pub record IsBook (c : DriveConfig) (opening : Opening) (log : Logged) (t : Tables) : Type 0 where
   pub held : IsHeld c opening.found (pages_held c opening.cells) log.entries t
   pub before_is : log.before ≡ opening.found.totals.position
   pub names_are : log.names ≡ c.unit_pages
+  pub numbers : HasNumbers t.setting.generation log

@@ -33,7 +33,7 @@ pub record IsLogged (old new : Logged) (es : List Entry) : Type 0 where
 pub record HasRoom (entries : Vec Entry Global) (before spare spent room : ℕ) : Type 0 where
   pub fits : vec_len entries + room + 300 * spare ≤ vec_capacity entries
   pub steps : spent + spare ≤ 2 ^ 30
-  pub few : vec_len entries + room ≤ 300 * spent
+  pub few : vec_len entries + room ≤ 300 * spent + 1
   pub begins : before ≤ 2 ^ 62
 
 -- empty lists, each with room for so many names

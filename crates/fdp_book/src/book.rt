@@ -1,5 +1,6 @@
 ghost use Rattle.std.specs.Prelude.{◌≡◌, ◌==◌, ◌+◌, ◌*◌, ◌^◌, ◌≤◌, IsTrue, false, length, true, ◌-◌, ◌<◌, OnErr, OnOk};
 ghost use Rattle.fdp_base.specs.Config.{IsValidConfig};
+ghost use Rattle.fdp_book.specs.Saving.{AreSmall};
 ghost use Rattle.fdp_rules.specs.History.{totals_of};
 
 use crate::log::{Log, MOST_STEP_ENTRIES};
@@ -10,6 +11,9 @@ use fdp_pages::Pages;
 use std::alloc::AllocError;
 use std::marker::Model;
 
+mod answering;
+mod apply;
+mod clearing;
 mod commit;
 mod complete;
 mod end;
@@ -19,11 +23,16 @@ mod judging;
 mod laws;
 mod lookups;
 mod move_pass;
+mod namespaces;
 mod place;
 mod reading;
 mod relocate;
+mod reopened;
+mod saving;
+mod setting;
 mod stage;
 mod start;
+mod updating;
 
 pub use reading::Page;
 
@@ -61,7 +70,7 @@ impl Book {
     /// The history, oldest entry first.
     pub fn entries(&self) -> &[Entry]
         ensures entries { result.now ≡ self.now.entries }
-        ensures few { length result.now ≤ 300 * self.now.spent }
+        ensures few { length result.now ≤ 300 * self.now.spent + 1 }
     {
         self.log.entries()
     }
@@ -124,8 +133,12 @@ impl Book {
 
     /// The position of the last entry, and the sums with those before the history.
     pub fn totals(&self) -> Totals
-        ensures { result ≡ totals_of self.now.found self.now.entries }
+        ensures totals { result ≡ totals_of self.now.found self.now.entries }
+        ensures small { AreSmall result }
     {
+        // Read, so that it is known how few entries there are.
+        let _ = self.log.entries();
+        let _ = self.log.spent();
         let sums = self.tables.sums;
         Totals {
             position: self.log.position(),

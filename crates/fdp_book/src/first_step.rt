@@ -1,7 +1,7 @@
-use fdp_base::{Read, Status};
+use fdp_base::{GetLog, Read, Status};
 use fdp_commands::Admission;
 
-/// What a write or a read comes to first.
+/// What a command comes to first.
 #[derive(Clone, Copy, Debug, PartialEq, Eq)]
 pub enum FirstStep {
     /// It is refused with this status.
@@ -10,4 +10,10 @@ pub enum FirstStep {
     Read(Read),
     /// A write that is not refused, and where it goes.
     Write(Admission),
+    /// A command that is not refused and changes nothing, and is neither a read nor a log.
+    Answered,
+    /// A command that is not refused and whose change is saved, and is no write.
+    Saved,
+    /// A log is asked for. Whether it is refused, those decide who know the events.
+    Log(GetLog),
 }

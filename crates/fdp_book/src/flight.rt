@@ -1,10 +1,11 @@
-ghost use Rattle.std.specs.Prelude.{◌≡◌, IsTrue, Some};
+ghost use Rattle.std.specs.Prelude.{◌≡◌, IsTrue, Some, not};
 ghost use Rattle.fdp_base.specs.CommandKinds.{is_write, write_of};
 ghost use Rattle.fdp_book.specs.Extent.{IsExtentOf};
 ghost use Rattle.fdp_base.specs.declared.command.Write.{Write};
 
 use crate::extent::Extent;
 use crate::room::Room;
+use crate::write_names::WriteNames;
 use arrayvec::ArrayVec;
 use fdp_base::{Payload, Spot};
 
@@ -37,6 +38,22 @@ impl Flight {
     {
         match self.room.command().as_write() {
             Some(write) => &write.payload,
+            None => unreachable!(),
+        }
+    }
+
+    /// What its change names beside its pages.
+    pub fn names(&self) -> WriteNames
+        requires { IsTrue (is_write self.now.room.command) }
+        ensures { (w : Write) → write_of self.now.room.command ≡ Some w → result ≡ record { nsid = w.nsid; slba = w.slba; pid = w.dspec; pid_invalid = not self.now.pid_valid } }
+    {
+        match self.room.command().as_write() {
+            Some(write) => WriteNames {
+                nsid: write.nsid,
+                slba: write.slba,
+                pid: write.dspec,
+                pid_invalid: !self.pid_valid,
+            },
             None => unreachable!(),
         }
     }

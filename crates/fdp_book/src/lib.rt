@@ -11,9 +11,9 @@ mod next_page;
 mod room;
 mod stage;
 mod tables;
-#[cfg(test)]
-mod tests;
 mod ticket;
+mod write_names;
+mod write_place;
 
 pub use book::{Book, Page};
 pub use first_step::FirstStep;
@@ -21,3 +21,5 @@ pub use next_page::NextPage;
 pub use room::{Replies, Room};
 pub use stage::Stage;
 pub use ticket::{Done, Ticket};
+pub use write_names::WriteNames;
+pub use write_place::WritePlace;

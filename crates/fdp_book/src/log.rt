@@ -1,4 +1,5 @@
-ghost use Rattle.std.specs.Prelude.{◌≡◌, ◌+◌, ◌*◌, ◌-◌, ◌<◌, ◌≤◌, ◌^◌, [], ◌∷◌, ◌++◌, false, true, IsTrue, length, vec_capacity, vec_len, OnOk, OnErr};
+ghost use Rattle.std.specs.Prelude.{◌≡◌, ◌+◌, ◌*◌, ◌-◌, ◌<◌, ◌≤◌, ◌^◌, [], ◌∷◌, ◌++◌, false, true, IsTrue, length, vec_capacity, vec_len, IfOk, OnOk, OnErr};
+ghost use Rattle.fdp_base.specs.declared.entry.Entry.TheVariants as entries;
 ghost use Rattle.fdp_book.specs.Logged.{AreLists, IsLogged};
 
 use fdp_base::{BlockName, Entry};
@@ -56,9 +57,29 @@ impl Log {
         }
     }
 
+    /// A log that goes on from a position, whose one entry tells that an image was opened.
+    pub fn reopened(alloc: Global, before: u64, names: u32) -> Result<Log, AllocError>
+        requires { before ≤ 2 ^ 62 }
+        ensures { IfOk result (λ log. log ≡ record { entries = entries.Reopened ∷ []; before = before; spare = 0; spent = 0; room = 0; may_move = false; names = names }) }
+    {
+        let mut entries = Vec::new(alloc);
+        entries.push(Entry::Reopened)?;
+        Ok(Log {
+            entries,
+            before,
+            spare: 0,
+            spent: 0,
+            room: 0,
+            may_move: false,
+            lists: Vec::new(alloc),
+            names,
+            alloc,
+        })
+    }
+
     pub fn entries(&self) -> &[Entry]
         ensures entries { result.now ≡ self.now.entries }
-        ensures few { length result.now ≤ 300 * self.now.spent }
+        ensures few { length result.now ≤ 300 * self.now.spent + 1 }
     {
         let _ = &self.spent;
         self.entries.as_slice()
@@ -75,6 +96,7 @@ impl Log {
     pub fn position(&self) -> u64
         ensures position { result ≡ self.now.before + length self.now.entries }
         ensures small { result < 2 ^ 63 }
+        ensures few { length self.now.entries ≤ 2 ^ 39 }
     {
         self.before + self.entries.len() as u64
     }

@@ -1,9 +1,11 @@
 -- How a write whose pages are placed may end.
 use Rattle.std.proofs.Common.{◌≡◌, ℕ, Bool, false, IsTrue, IsFalse, length, Option, Some, None, sym, ◌∙◌, ap, subst, arith}
-use Rattle.std.specs.Prelude.{option_map}
+use Rattle.std.specs.Prelude.{is_some, option_map}
 use Rattle.std.specs.Option.{option_map_or}
 use Rattle.fdp_base.specs.declared.config.DriveConfig.{DriveConfig}
+use Rattle.fdp_base.specs.declared.entry.Spot.{Spot}
 use Rattle.fdp_base.specs.CommandKinds.{blocks_written, write_of}
+use Rattle.fdp_flash.proofs.Lists.{slice_get_there}
 use Rattle.fdp_rules.specs.PlainState.{Going, PlainState}
 use Rattle.fdp_rules.specs.Room.{is_over_budget}
 use Rattle.fdp_rules.specs.Sites.{is_there}
@@ -36,6 +38,8 @@ may-succeed b ticket f at ready there fits =
       there = there;
       fits = fits;
       placed = placed;
-      pages = λ index below. at.pages there index (omega (arith, below, placed));
+      pages = λ index below.
+          let found = slice_get_there f.pages.items index (omega (arith, below, placed)) in
+          ap (λ (o : Option Spot). is_some o) (at.pages there index found.0 found.1);
       target = at.target there;
     }

@@ -23,6 +23,7 @@ use Rattle.fdp_book.specs.Flown.{place_in, with_pages}
 use Rattle.fdp_book.specs.Held.{AreSpacesOf, IsHeld, IsMapOf, IsSettingOf, flight_in, going_of, lead_in, page_in}
 use Rattle.fdp_book.specs.Taking.{IsPageIn, MayTake}
 use Rattle.fdp_book.proofs.Committing.Points.{IsCommitted, blocks-count, blocks_with, committed}
+use Rattle.fdp_book.proofs.Flights.Flown.{page-sited}
 use Rattle.fdp_book.proofs.Flights.Rows.{flight_in-set}
 use Rattle.fdp_book.proofs.Held.Ended.{flights-less, passes-same}
 use Rattle.fdp_book.proofs.Held.Next.{held-next}
@@ -157,13 +158,8 @@ no-page (Some y) e = absurd cc
 pub flight-lies : (c : DriveConfig) (found : Found) (first : Spot → Option Written) (es : List Entry) (t : Tables) (queue : ℕ) (f : Flight) → IsHeld c found first es t → flight_in t.flights.items queue ≡ Some f → IsTrue (is_there (point_of c found es).state (going_of f)) → LieIn (geometry_of c) f.rg f.pages.items
 flight-lies c found first es t queue f h is there index spot e =
     let p : Point = point_of c found es in
-    let page = page-led p.state t.map t.flights.items h.pages_are.at queue index spot h.pages_are.leads (ap (λ (xs : List Spot). slice_get xs index) (live-there p.state (flight_in t.flights.items queue) f is there) ∙ e) in
-    let content = site-at c p (next_in t.pages.units) h.pages_are.at h.pages_are.led.table (of_flight queue index) page.0 page.1 in
+    let site : p.trail.site (written f.ticket index) ≡ Some spot = page-sited c found first es t queue index spot f h is there e in
     let going : p.state.going queue ≡ Some (going_of f) = h.flights_are.going queue ∙ ap (option_map going_of) is in
-    let write = from-flight c p.state index (p.state.going queue) content.0 content.1 in
-    let both : Some write.0 ≡ Some (going_of f) = sym write.1 ∙ going in
-    let same : write.0 ≡ going_of f = cc in
-    let site : p.trail.site (written f.ticket index) ≡ Some spot = ap (λ (g : Going). p.trail.site (written g.ticket index)) (sym same) ∙ ap (λ (x : PageContent). p.trail.site x.name) write.3 ∙ content.2 ∙ ap Some page.2 in
     let lies = (h.orderly.sites f.ticket index spot site).page in
     record { page = record { unit = lies.0; page = lies.1 }; group = h.standing.writes queue index (going_of f) spot going site }
 

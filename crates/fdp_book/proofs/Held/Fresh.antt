@@ -42,10 +42,10 @@ use Rattle.fdp_units.specs.declared.data_unit.DataUnit.{DataUnit}
 use Rattle.fdp_units.specs.DataUnits.{is_lost}
 use Rattle.fdp_units.specs.UnitTable.{Cut, cut_of, unit_at}
 
-none-some : (f : Flight) → None ≡ Some f → ⊥
+pub none-some : (f : Flight) → None ≡ Some f → ⊥
 none-some f e = cc
 
-none_in : (n q : ℕ) → flight_in (replicate n None) q ≡ None
+pub none_in : (n q : ℕ) → flight_in (replicate n None) q ≡ None
 none_in zero zero = refl
 none_in zero (suc q) = refl
 none_in (suc n) zero = refl
@@ -112,6 +112,7 @@ module _ (c : DriveConfig) (valid : IsValidConfig c) where
       owned = subst (λ (o : Spot → Option Owner). AreOwners o (λ q. None)) (λ d spot. sym (h.unused.owners spot) d) owners-none;
       named = λ queue index g w y going write e. absurd cc;
       handled = λ q y ruh e k. absurd cc;
+      units = λ q y e. absurd cc;
       holds = λ q y x e k. absurd cc;
       below = λ spot x e. absurd cc;
       passes = λ rg low. pass-ended (λ q. None) (point_of c (fresh c) []).trail rg (passes_at t rg) (ap (λ (o : Option Pass). option_map_or (λ (pass : Pass). pass.copies) o []) (none-under_way rg));

@@ -21,7 +21,8 @@ use Rattle.fdp_book.proofs.Leading.{leads-same}
 use Rattle.fdp_book.proofs.Relocating.Leads.{leads-as, owners-same}
 use Rattle.fdp_locations.specs.Located.{AreLed, LeadsTo, next_in}
 use Rattle.fdp_locations.specs.Written.{Written, written_by}
-use Rattle.fdp_locations.proofs.Others.{ChangesPasses, ended-fewer, ended-left}
+use Rattle.fdp_locations.proofs.Others.{ChangesPasses, copy-groups, ended-fewer, ended-left, group-same, is-group}
+use Rattle.fdp_locations.proofs.Grouped.{StayInGroups}
 use Rattle.fdp_locations.proofs.Relocated.{led-moved}
 use Rattle.fdp_locations.proofs.Units.{HasSameUnits, owners-alike, owners-next, units-same}
 use Rattle.fdp_map.specs.MapTable.{MapTable, size_in}
@@ -42,7 +43,7 @@ use Rattle.fdp_rules.specs.History.{Found, point_of}
 use Rattle.fdp_rules.specs.Next.{next}
 use Rattle.fdp_rules.specs.PlainState.{Going, PlainState}
 use Rattle.fdp_rules.specs.Point.{Point}
-use Rattle.fdp_rules.specs.Sites.{is_there, moved_blocks, moved_by, pass_in}
+use Rattle.fdp_rules.specs.Sites.{group_of, is_there, moved_blocks, moved_by, pass_in}
 use Rattle.fdp_rules.specs.Step.{Follows, IsOnTarget}
 use Rattle.fdp_trails.specs.Followed.{IsCopyOf, IsFollowed}
 use Rattle.fdp_trails.specs.Moves.{AreMovable, names_of, owners_moved}
@@ -136,6 +137,16 @@ module _ (c : DriveConfig) (found : Found) (first : Spot → Option Written) (es
   goes : (q : Pointer) (y : Page) → h.pages_are.at q ≡ Some y → (f y.spot ≡ y.spot) ⊎ ((x : Copied) × Contains (copies_at t.pages rg) x × (x.from ≡ y.spot) × (f y.spot ≡ x.to))
   goes q y e = pass-page c p rg (next_in t.pages.units) h.pages_are.at (passes_at t.pages rg) h.pages_are.led.table (h.pages_are.led.passes rg low) some q y e
 
+  -- which stays in its group
+  goes-within : StayInGroups c f h.pages_are.at
+  goes-within q y e =
+      ⊎_elim
+      (λ (stays : f y.spot ≡ y.spot). ap (λ (x : Spot). group_of c x.unit) stays)
+      (λ other.
+      let both = copy-groups t.pages rg other.0 (joined.groups rg (is-group c p.state t.pages rg h.units_are low)) other.1 in
+      ap (λ (x : Spot). group_of c x.unit) other.3 ∙ group-same c p.state t.pages other.0.to.unit h.units_are ∙ both.1 ∙ sym both.0 ∙ sym (group-same c p.state t.pages other.0.from.unit h.units_are) ∙ ap (λ (x : Spot). group_of c x.unit) other.2)
+      (goes q y e)
+
   -- no page of the victim that was copied has an owner
   old-none : (copy : Copied) → Contains (copies_at t.pages rg) copy → owners_moved owners (copies_at t.pages rg) copy.from ≡ None
   old-none copy has = cases (owners_moved owners (copies_at t.pages rg) copy.from) refl
@@ -201,6 +212,7 @@ module _ (c : DriveConfig) (found : Found) (first : Spot → Option Written) (es
         let alike = h.pages_are.led.copies rg low other.0 other.1 in
         ap (written_by c found first es) other.3 ∙ alike.new ∙ sym alike.old ∙ ap (written_by c found first es) other.2)
         (goes q y e))
+        goes-within
         (all-moved c p rg (moved_blocks p rg) h.pages_are.at c.groups (passes_at t.pages) (passes_at ended) h.orderly (λ other there. ended-left t.pages ended rg others none other) none h.pages_are.led.passes)
         (ended-fewer t.pages ended rg others none)
         h.pages_are.led

@@ -26,3 +26,17 @@ are_sums-push found es e x y h host media erased hosts medias same =
       few_media_blocks = omega (arith, medias, h.few_media_blocks, media, count);
       few_erases = omega (arith, same, h.few_erases, erased, count);
     }
+
+-- the sums of an entry that adds as much
+pub are_sums-alike : (found : Found) (es : List Entry) (d e : Entry) (x : Sums) → host_blocks_of e ≡ host_blocks_of d → media_blocks_of e ≡ media_blocks_of d → erases_of e ≡ erases_of d → AreSumsOf found (es ++ d ∷ []) x → AreSumsOf found (es ++ e ∷ []) x
+are_sums-alike found es d e x hosts medias same h =
+    let old : length (es ++ d ∷ []) ≡ length es + 1 = length-append es (d ∷ []) in
+    let count : length (es ++ e ∷ []) ≡ length es + 1 = length-append es (e ∷ []) in
+    record {
+      host_blocks_are = omega (arith, sum-push host_blocks_of es d, sum-push host_blocks_of es e, hosts, h.host_blocks_are);
+      media_blocks_are = omega (arith, sum-push media_blocks_of es d, sum-push media_blocks_of es e, medias, h.media_blocks_are);
+      erases_are = omega (arith, sum-push erases_of es d, sum-push erases_of es e, same, h.erases_are);
+      few_host_blocks = omega (arith, h.few_host_blocks, old, count);
+      few_media_blocks = omega (arith, h.few_media_blocks, old, count);
+      few_erases = omega (arith, h.few_erases, old, count);
+    }

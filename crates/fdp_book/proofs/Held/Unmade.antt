@@ -1,5 +1,5 @@
 -- Where the pointers lead behind the end of a command whose change is not made, whatever it answers.
-use Rattle.std.proofs.Common.{◌≡◌, ◌≢◌, ℕ, ◌≤◌, ◌<◌, Bool, true, false, ◌∷◌, Option, Some, None, sym, ◌∙◌, ap, subst, arith, ⊎_elim, eq-eqb, ne_eqb}
+use Rattle.std.proofs.Common.{◌≡◌, ◌≢◌, ℕ, ◌≤◌, ◌<◌, Bool, true, false, ◌&&◌, ◌∷◌, Option, Some, None, refl, sym, ◌∙◌, ap, subst, arith, ⊎_elim, eq-eqb, ne_eqb}
 use Rattle.std.specs.Prelude.{Contains, IsFalse, if◌then◌else◌, not, option_and_then}
 use Rattle.std.proofs.lemmas.Bool.{cases_eq}
 use Rattle.fdp_base.specs.declared.command.Command.{Command}
@@ -7,11 +7,13 @@ use Rattle.fdp_base.specs.declared.config.DriveConfig.{DriveConfig}
 use Rattle.fdp_base.specs.declared.entry.Copied.{Copied}
 use Rattle.fdp_base.specs.declared.entry.Reply.{Reply}
 use Rattle.fdp_base.specs.declared.entry.Spot.{Spot}
+use Rattle.fdp_base.specs.CommandKinds.{is_setting}
 use Rattle.fdp_base.specs.Numbers.{with_at}
 use Rattle.fdp_history.specs.OrderlyState.{IsOrderlyState}
 use Rattle.fdp_locations.specs.Located.{AreHandled, AreLed, AreNamed, next_in}
 use Rattle.fdp_locations.specs.Written.{IsWritten, Written}
 use Rattle.fdp_locations.proofs.Handled.{handled-renamed}
+use Rattle.fdp_locations.proofs.Grouped.{generation-next, units-renamed, units-same}
 use Rattle.fdp_locations.proofs.Ended.{host}
 use Rattle.fdp_owners.specs.Owned.{AreOwners}
 use Rattle.fdp_owners.specs.OwnerTable.{owner_at}
@@ -75,6 +77,10 @@ named-same s now at same h q index g w y going = h q index g w y (sym (ap (λ (f
 
 -- ---- the pages
 
+unset : (b : Bool) → (b && false) ≡ false
+unset true = refl
+unset false = refl
+
 pub led-unmade : (c : DriveConfig) (p : Point) (queue number : ℕ) (command : Command) (reply : Reply) (moment : ℕ) (written : Spot → Option Written) (r : Pointer → Option Pointer) (at : Behind Page) (t now : PageTables) →
     IsOrderlyState c p.state → IsFalse reply.applied → ended_by p.state queue reply.applied command ≡ r →
     AreOwners (owner_at now.owners) (renamed r at) → AreNamed (next c p (host queue number command reply moment)).state (renamed r at) → ((unit : ℕ) → next_in t.units unit ≤ next_in now.units unit) →
@@ -89,6 +95,7 @@ led-unmade c p queue number command reply moment written r at t now orderly unma
       owned = owned;
       named = named;
       handled = subst (λ (k : Pointer → Option Pointer). AreHandled q.state (renamed k at)) is (handled-renamed c p (host queue number command reply moment) at h.handled);
+      units = units-renamed c q.state.generation r at (units-same c p.state.generation q.state.generation at (generation-next c p (host queue number command reply moment) (ap (λ (b : Bool). is_setting command && b) unmade ∙ unset (is_setting command))) h.units);
       holds = subst (λ (k : Behind PageContent). Carries (IsWritten written) k (renamed r at)) (ap (λ (k : Pointer → Option Pointer). renamed k (content_at c p.state)) (sym is) ∙ sym (contents-unmade c p queue number command reply moment orderly unmade))
           (carries-renamed (IsWritten written) r (content_at c p.state) at h.holds);
       below = λ spot x e. let low : spot.page < next_in t.units spot.unit = h.below spot x e in omega (arith, low, up spot.unit);

@@ -97,7 +97,7 @@ unlisted (x ∷ xs) first (suc i) nsid past =
     rw other (unlisted xs (first + 1) i nsid (omega arith))
 
 -- the budgets of all groups come to no more than the pages
-budgets-few : (c : DriveConfig) → IsValidConfig c → (handles : ℕ) → full_budget c handles ≤ 262144
+pub budgets-few : (c : DriveConfig) → IsValidConfig c → (handles : ℕ) → full_budget c handles ≤ 262144
 budgets-few c valid handles =
     let pages = mul-le c.unit_pages (c.units - 0 - 2 * handles - 3) c.unit_pages c.units (omega arith) (omega arith) in
     let one : budget_of c handles 0 ≤ c.unit_pages * c.units = omega (arith, pages) in

@@ -1,4 +1,4 @@
-ghost use Rattle.std.specs.Prelude.{◌≡◌, ◌≢◌, ℕ, ◌+◌, ◌<◌, ◌≤◌, [], IfSome, IsSome, Some, length, true};
+ghost use Rattle.std.specs.Prelude.{◌≡◌, ◌≢◌, ◌⊎◌, ℕ, ◌+◌, ◌<◌, ◌≤◌, [], IfSome, IsSome, Some, length, true};
 ghost use Rattle.fdp_base.specs.declared.status.TheConstants.Status as statuses;
 ghost use Rattle.fdp_rules.specs.Answer.{bare};
 ghost use Rattle.fdp_rules.specs.PlainState.{Going};
@@ -43,13 +43,15 @@ impl Book {
         }
     }
 
-    /// A write succeeds: its blocks stand at its pages. It puts each of them in the map.
-    pub fn commit(&mut self, ticket: Ticket, moment: u64) -> Done
+    /// The change of a write is made: its blocks stand at its pages. It is answered with success, or with Write Fault where its saving
+    /// failed. It puts each block in the map. Whether that answer may follow is for the caller to say.
+    pub fn commit(&mut self, ticket: Ticket, status: Status, moment: u64) -> Done
         requires may { (g : Going) → IsTicketOf (state_in self.old) ticket g → MaySucceed self.old.config (point_in self.old) g }
         requires ready { IsReady self.old ticket }
+        requires status { (status ≡ statuses.SUCCESS) ⊎ (status ≡ statuses.WRITE_FAULT) }
         requires room { 0 < self.old.room }
         ensures pages { ChangesOwners self.old.pages self.new.pages }
-        ensures step { (g : Going) → IsTicketOf (state_in self.old) ticket g → Completes self.old self.new [] ticket.queue g.number g.command (bare statuses.SUCCESS true) moment result }
+        ensures step { (g : Going) → IsTicketOf (state_in self.old) ticket g → Completes self.old self.new [] ticket.queue g.number g.command (bare status true) moment result }
     {
         let queue = ticket.give_up();
         let flight = take_flight(&mut self.tables.flights, queue);
@@ -65,7 +67,7 @@ impl Book {
             room,
             pages,
         } = flight;
-        let (command, replies) = room.end(Status::SUCCESS, true);
+        let (command, replies) = room.end(status, true);
         put_pages(
             &mut self.tables.map,
             &mut self.tables.pages,
@@ -116,7 +118,7 @@ fn put_page(map: &mut Map, pages: &mut Pages, nsid: u32, lba: u64, spot: Spot)
 }
 
 /// The page that a block has has no owner any more, if it has one.
-fn clear_old(map: &Map, pages: &mut Pages, nsid: u32, lba: u64)
+pub(super) fn clear_old(map: &Map, pages: &mut Pages, nsid: u32, lba: u64)
     requires { IfSome (mapped_at map.now nsid lba) (λ m. IsSome (owner_at pages.old.owners m.spot)) }
     ensures owners { owner_at pages.new.owners ≡ cleared_of (owner_at pages.old.owners) (mapped_at map.now nsid lba) }
     ensures pages { ChangesOwners pages.old pages.new }

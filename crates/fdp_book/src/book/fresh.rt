@@ -52,6 +52,7 @@ fn configured_tables(alloc: Global, config: &DriveConfig) -> Result<Tables, Allo
     requires { IsValidConfig config.now }
     ensures held { IfOk result (λ tables. IsHeld config.now (fresh config.now) (pages_held config.now (fresh_opening config.now).cells) [] tables) }
     ensures unused { IfOk result (λ tables. AreUnused config.now tables.pages) }
+    ensures generation { IfOk result (λ tables. tables.setting.generation ≡ 0) }
 {
     let classes = config.classes(config.enabled, config.index);
     let pages = Pages::new(alloc, classes, config.geometry())?;
@@ -117,14 +118,21 @@ fn configured_handles(handles: &Option<HandleList>) -> SpaceHandles
     ensures { result.items ≡ chosen_handles (unwrap_or handles.now []) }
 {
     match handles {
-        Some(list) => {
-            if list.as_slice().is_empty() {
-                first_handle()
-            } else {
-                listed_handles(list.as_slice())
-            }
-        }
+        Some(list) => chosen_handles(list.as_slice()),
         None => first_handle(),
+    }
+}
+
+/// The handles of a list, or handle 0 where it is empty.
+pub(super) fn chosen_handles(list: &[u16]) -> SpaceHandles
+    requires few { length list.now ≤ 16 }
+    requires known { All (λ ruh. ruh < 16) list.now }
+    ensures { result.items ≡ chosen_handles list.now }
+{
+    if list.is_empty() {
+        first_handle()
+    } else {
+        listed_handles(list)
     }
 }
 
@@ -163,7 +171,7 @@ fn configured_map(alloc: Global, config: &DriveConfig) -> Result<Map, AllocError
 
 /// No write is going in so many rows.
 #[tactic(auto, using(std::proofs::lemmas::List::replicate_more))]
-fn no_flights(alloc: Global, count: usize) -> Result<Vec<Option<Flight>>, AllocError>
+pub(super) fn no_flights(alloc: Global, count: usize) -> Result<Vec<Option<Flight>>, AllocError>
     ensures { IfOk result (λ flights. flights.items ≡ replicate count None) }
 {
     let mut flights = Vec::new(alloc);

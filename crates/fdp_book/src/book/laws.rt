@@ -1,11 +1,13 @@
 ghost use Rattle.fdp_base.specs.Config.{IsValidConfig};
-ghost use Rattle.std.specs.Prelude.{◌<◌, ◌≤◌, ◌^◌};
+ghost use Rattle.std.specs.Prelude.{◌+◌, ◌<◌, ◌≤◌, ◌^◌};
 ghost use Rattle.fdp_book.specs.Book.{IsLed, point_in, state_in};
+ghost use Rattle.fdp_book.specs.Saving.{AreSmall};
 ghost use Rattle.fdp_history.specs.Listed.{IsListed};
 ghost use Rattle.fdp_history.specs.Orderly.{IsOrderly};
 ghost use Rattle.fdp_history.specs.Standing.{IsStanding};
 ghost use Rattle.fdp_locations.specs.Located.{AreUnitsOf};
 ghost use Rattle.fdp_pages.specs.Joined.{AreJoined};
+ghost use Rattle.fdp_rules.specs.History.{totals_of};
 ghost use Rattle.fdp_trails.specs.Crowded.{IsCrowded};
 ghost use Rattle.fdp_units.specs.DataUnits.{is_free};
 ghost use Rattle.fdp_units.specs.UnitTable.{HasNoVictim, count_in};
@@ -28,6 +30,23 @@ impl Book {
     {
         // Read, so that its range is known.
         let _generation = self.tables.setting.generation;
+        self.tables.pages.joined();
+    }
+
+    /// The position and the sums leave room for those of an entry more.
+    pub fn counted(&self)
+        ensures { AreSmall (totals_of self.now.found self.now.entries) }
+    {
+        let _sums = self.tables.sums;
+        let _position = self.log.position();
+    }
+
+    /// The generation has a number for another placement setting.
+    pub fn numbered(&self)
+        ensures { (state_in self.now).generation + 1 < 2 ^ 32 }
+    {
+        // Read, so that it is known how few steps there are.
+        let _steps = self.log.spent();
         self.tables.pages.joined();
     }
 

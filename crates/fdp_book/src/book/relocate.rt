@@ -2,7 +2,7 @@ ghost use Rattle.std.specs.Prelude.{◌≡◌, ◌+◌, ◌^◌, ◌<◌, ◌≤
 ghost use Rattle.fdp_base.specs.Placement.{geometry_of};
 ghost use Rattle.fdp_book.specs.Book.{written_in};
 ghost use Rattle.fdp_book.specs.Relocating.{Relocates, Tells};
-ghost use Rattle.fdp_collector.specs.Ready.{KeepsLive};
+ghost use Rattle.fdp_collector.specs.Leaving.{StepMayLeave};
 ghost use Rattle.fdp_flash.specs.Runs.{Runs};
 ghost use Rattle.fdp_locations.specs.Stored.{HoldsWritten};
 ghost use Rattle.fdp_units.specs.UnitTable.{toil_of};
@@ -29,7 +29,7 @@ impl Book {
         requires stored { IsTrue (F.state flash.old).told → HoldsWritten (F.state flash.old).geometry (F.state flash.old).cells (written_in self.old) self.old.pages.units }
         requires size { length block.old ≡ (F.state flash.old).geometry.block }
         ensures step { Relocates self.old self.new (F.state flash.old) (F.state flash.new) rg may_erase result }
-        ensures run { Runs (F.state flash.old) (F.state flash.new) (λ m image. KeepsLive (F.state flash.old).geometry self.old.pages.owners (F.state flash.old).cells image) }
+        ensures run { Runs (F.state flash.old) (F.state flash.new) (λ m image. StepMayLeave may_erase (F.state flash.old).geometry self.old.pages.units self.old.pages.owners (F.state flash.old).cells image) }
         ensures stored { IsTrue (F.state flash.old).told → HoldsWritten (F.state flash.old).geometry (F.state flash.new).cells (written_in self.new) self.new.pages.units }
         ensures block { length block.new ≡ length block.old }
     {

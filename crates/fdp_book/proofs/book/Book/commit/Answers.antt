@@ -2,7 +2,6 @@ use Rattle.std.proofs.Common.{◌≡◌, ◌∙◌, ◌+◌, ◌≤◌, ℕ, Lis
 use Rattle.fdp_base.specs.declared.config.Geometry.{Geometry}
 use Rattle.fdp_base.specs.declared.entry.Entry.{Entry}
 use Rattle.fdp_base.specs.declared.entry.Spot.{Spot}
-use Rattle.fdp_base.specs.declared.status.TheConstants.Status as statuses
 use Rattle.fdp_rules.specs.Answer.{bare}
 use Rattle.fdp_map.specs.MapTable.{IsPageOf, mapped_at, size_in}
 use Rattle.fdp_book.specs.declared.extent.Extent.{Extent}
@@ -14,12 +13,14 @@ use Rattle.fdp_book.specs.Held.{IsHeld, book_of}
 use Rattle.fdp_book.specs.Taking.{CanTake, MayTake}
 use Rattle.fdp_book.proofs.Ending.{IsCommitting, committing, ended-entry}
 use Rattle.fdp_book.proofs.Held.Committed.{flight-lies, held-committed, may-take}
+use Rattle.fdp_book.proofs.Held.Faulted.{held-made}
 use Rattle.fdp_locations.proofs.Ended.{host}
 use Rattle.fdp_locations.specs.Taken.{taken_first}
 use Rattle.fdp_owners.specs.Owned.{AreOwners}
 use Rattle.fdp_owners.specs.OwnerTable.{owner_at}
 use Rattle.fdp_pointers.specs.Facts.{Page}
 use Rattle.fdp_pointers.specs.Pointers.{Behind, renamed}
+use Rattle.fdp_book.proofs.Numbers.{numbers-logged}
 use Rattle.fdp_book.proofs.book.Book.commit.Goals as goal
 use Rattle.fdp_locations.specs.Held.{pages_held}
 
@@ -91,11 +92,13 @@ invariant_of-self c =
       setting = refl;
       spaces = refl;
     }) in
-    let longer : c.push_host-done.new.log.entries ≡ old.log.entries ++ host c.give_up-queue.result f.number f.room.command (bare statuses.SUCCESS true) c.args.moment ∷ [] =
+    let longer : c.push_host-done.new.log.entries ≡ old.log.entries ++ host c.give_up-queue.result f.number f.room.command (bare c.args.status true) c.args.moment ∷ [] =
     c.push_host-done.ensures.log.entries_are
-    ∙ ap (λ (e : Entry). old.log.entries ++ e ∷ []) (ended-entry c.give_up-queue.result f.number c.args.moment f c.end-command.result.0 c.end-command.result.1 (bare statuses.SUCCESS true) c.end-command.ensures.command c.end-command.ensures.reply) in
+    ∙ ap (λ (e : Entry). old.log.entries ++ e ∷ []) (ended-entry c.give_up-queue.result f.number c.args.moment f c.end-command.result.0 c.end-command.result.1 (bare c.args.status true) c.end-command.ensures.command c.end-command.ensures.reply) in
     record {
-      held = subst (λ (es : List Entry). IsHeld old.config old.origin.found (pages_held old.config old.origin.cells) es now) (sym longer) held;
+      held = subst (λ (es : List Entry). IsHeld old.config old.origin.found (pages_held old.config old.origin.cells) es now) (sym longer)
+          (held-made old.config old.origin.found (pages_held old.config old.origin.cells) old.log.entries c.give_up-queue.result f.number f.room.command c.args.moment old.tables now c.args.status c.requires.status c.self.invariant.held held);
       before_is = c.push_host-done.ensures.log.before_is ∙ c.self.invariant.before_is;
       names_are = c.push_host-done.ensures.log.names_are ∙ c.self.invariant.names_are;
+      numbers = numbers-logged old.tables.setting now.setting old.log c.push_host-done.new.log _ refl c.push_host-done.ensures.log c.self.invariant.numbers;
     }

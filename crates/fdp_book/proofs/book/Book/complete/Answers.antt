@@ -1,10 +1,12 @@
-use Rattle.std.proofs.Common.{sym, subst, ◌∙◌, List}
+use Rattle.std.proofs.Common.{sym, subst, ◌∙◌, List, ap}
 use Rattle.fdp_base.specs.declared.entry.Entry.{Entry}
 use Rattle.fdp_rules.specs.Step.{IsQueue}
 use Rattle.fdp_book.specs.Book.{BookSeen}
+use Rattle.fdp_book.specs.declared.tables.Tables.{Tables}
 use Rattle.fdp_book.specs.Held.{IsHeld}
 use Rattle.fdp_book.proofs.Ending.{held-completed}
 use Rattle.fdp_book.proofs.Forgetting.{may-forget}
+use Rattle.fdp_book.proofs.Numbers.{ends-setting, numbers-logged}
 use Rattle.fdp_book.proofs.book.Book.complete.Goals as goal
 use Rattle.fdp_locations.specs.Held.{pages_held}
 
@@ -23,4 +25,5 @@ invariant_of-self c =
           c.self.invariant.held queue_is c.requires.unapplied c.end_in.ensures.ends);
       before_is = c.push_host.ensures.log.before_is ∙ c.self.invariant.before_is;
       names_are = c.push_host.ensures.log.names_are ∙ c.self.invariant.names_are;
+      numbers = numbers-logged old.tables.setting c.end_in.new.tables.setting old.log c.push_host.new.log _ (ends-setting old.tables c.end_in.new.tables c.args.queue c.args.command c.end_in.ensures.ends) c.push_host.ensures.log c.self.invariant.numbers;
     }

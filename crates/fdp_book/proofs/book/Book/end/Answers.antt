@@ -3,12 +3,14 @@ use Rattle.fdp_base.specs.declared.entry.Entry.{Entry}
 use Rattle.fdp_rules.specs.Answer.{bare}
 use Rattle.fdp_book.specs.Book.{BookSeen, IsLonger, state_in}
 use Rattle.fdp_book.specs.declared.flight.Flight.{Flight}
+use Rattle.fdp_book.specs.declared.tables.Tables.{Tables}
 use Rattle.fdp_book.specs.Held.{IsHeld, book_of, flight_in}
 use Rattle.fdp_book.specs.Steps.{Completes}
 use Rattle.fdp_book.specs.Tickets.{IsTicketOf}
 use Rattle.fdp_book.proofs.Ending.{completed, completes-by, ended-entry, ending, flying-queue, held-ending}
 use Rattle.fdp_book.proofs.Forgetting.{may-forget}
 use Rattle.fdp_locations.proofs.Ended.{host}
+use Rattle.fdp_book.proofs.Numbers.{numbers-logged}
 use Rattle.fdp_book.proofs.book.Book.end.Goals as goal
 use Rattle.fdp_locations.specs.Held.{pages_held}
 
@@ -39,6 +41,7 @@ invariant_of-self c =
           c.self.invariant.held c.self.view_is c.give_up-queue.ensures (there c) c.requires.going c.forget.ensures);
       before_is = c.push_host.ensures.log.before_is ∙ c.self.invariant.before_is;
       names_are = c.push_host.ensures.log.names_are ∙ c.self.invariant.names_are;
+      numbers = numbers-logged old.tables.setting c.forget.new.tables.setting old.log c.push_host.new.log _ (ap (λ (t : Tables). t.setting) c.forget.ensures.rest) c.push_host.ensures.log c.self.invariant.numbers;
     }
 
 pub returns-clause-step : goal.returns-clause-step

@@ -1,4 +1,4 @@
-use Rattle.std.proofs.Common.{◌≡◌, ◌∙◌, ◌<◌, ◌++◌, ◌∷◌, [], ap, List, refl, subst, sym}
+use Rattle.std.proofs.Common.{◌≡◌, ◌∙◌, ◌<◌, ◌++◌, ◌∷◌, [], ap, List, refl, subst, sym, arith}
 use Rattle.fdp_base.specs.declared.config.Geometry.{Geometry}
 use Rattle.fdp_base.specs.declared.entry.BlockName.{BlockName}
 use Rattle.fdp_base.specs.declared.entry.Entry.{Entry}
@@ -17,6 +17,7 @@ use Rattle.fdp_passes.specs.GroupPasses.{GroupPasses}
 use Rattle.std.specs.Prelude.{slice_set}
 use Rattle.fdp_rules.specs.History.{point_of}
 use Rattle.fdp_rules.specs.Sites.{moved_blocks}
+use Rattle.fdp_book.proofs.Numbers.{numbers-logged, numbers-on}
 use Rattle.fdp_book.proofs.book.Book.move_pass.Goals as goal
 use Rattle.fdp_locations.specs.Held.{pages_held}
 
@@ -64,6 +65,8 @@ invariant_of-self c =
           (ap (λ (x : PageTables). record c.move_copies.new.tables { pages = x }) c.end_move.ensures));
       before_is = c.push.ensures.before_is ∙ ap (λ (x : Logged). x.before) c.take_list-names.ensures.kept ∙ c.self.invariant.before_is;
       names_are = c.push.ensures.names_are ∙ ap (λ (x : Logged). x.names) c.take_list-names.ensures.kept ∙ c.self.invariant.names_are;
+      numbers = numbers-logged old.tables.setting now.setting c.take_list-names.new.self c.push.new.self _ (ap (λ (t : Tables). t.setting) c.move_copies.ensures.tables.kept.rest) c.push.ensures
+          (numbers-on old.tables.setting.generation old.log c.take_list-names.new.self (ap (λ (x : Logged). x.spent) c.take_list-names.ensures.kept) (omega (arith, ap (λ (x : Logged). x.room) c.take_list-names.ensures.kept)) c.self.invariant.numbers);
     }
 
 pub returns : goal.returns

@@ -20,6 +20,7 @@ use Rattle.fdp_owners.specs.declared.owner.Owner.{Owner}
 use Rattle.fdp_pages.specs.Steps.{MayPut, PutsPage}
 use Rattle.fdp_rules.specs.PlainState.{Going}
 use Rattle.fdp_rules.specs.Step.{Follows}
+use Rattle.fdp_book.proofs.Numbers.{numbers-logged}
 use Rattle.fdp_book.proofs.book.Book.place.Goals as goal
 use Rattle.fdp_locations.specs.Held.{pages_held}
 
@@ -89,6 +90,7 @@ invariant_of-self c =
       held = subst (λ (es : List Entry). IsHeld old.config old.origin.found (pages_held old.config old.origin.cells) es now) (sym entry) held;
       before_is = c.push.ensures.before_is ∙ c.self.invariant.before_is;
       names_are = c.push.ensures.names_are ∙ c.self.invariant.names_are;
+      numbers = numbers-logged old.tables.setting now.setting old.log c.push.new.self _ refl c.push.ensures c.self.invariant.numbers;
     }
 
 pub returns : goal.returns

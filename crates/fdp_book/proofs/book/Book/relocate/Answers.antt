@@ -1,4 +1,4 @@
-use Rattle.std.proofs.Common.{◌<◌, ◌∙◌, ap, refl, subst, sym, List}
+use Rattle.std.proofs.Common.{◌<◌, ◌∙◌, ap, refl, subst, sym, List, arith}
 use Rattle.fdp_base.specs.declared.entry.Entry.{Entry}
 use Rattle.fdp_base.specs.Placement.{geometry_of}
 use Rattle.fdp_book.specs.declared.tables.Tables.{Tables}
@@ -9,13 +9,14 @@ use Rattle.fdp_book.specs.Relocating.{Relocates}
 use Rattle.fdp_book.proofs.Held.Relocated.{held-step}
 use Rattle.fdp_book.proofs.Relocating.Cells.{step-holds}
 use Rattle.fdp_book.proofs.Relocating.Steps.{step-follows}
-use Rattle.fdp_collector.specs.Ready.{KeepsLive}
+use Rattle.fdp_collector.specs.Leaving.{StepMayLeave}
 use Rattle.fdp_flash.specs.Runs.{Runs}
 use Rattle.fdp_locations.specs.Stored.{HoldsWritten}
 use Rattle.fdp_locations.specs.Written.{written_by}
 use Rattle.fdp_locations.proofs.Owned.{stored-before}
 use Rattle.fdp_locations.proofs.Others.{is-group}
 use Rattle.fdp_rules.specs.History.{point_of}
+use Rattle.fdp_book.proofs.Numbers.{numbers-on}
 use Rattle.fdp_book.proofs.book.Book.relocate.Goals as goal
 use Rattle.fdp_locations.specs.Held.{pages_held}
 
@@ -44,6 +45,7 @@ invariant_of-self g c =
           c.advance-step.ensures.step);
       before_is = ap (λ (x : Logged). x.before) c.tell.ensures.log_is ∙ c.self.invariant.before_is;
       names_are = ap (λ (x : Logged). x.names) c.tell.ensures.log_is ∙ c.self.invariant.names_are;
+      numbers = numbers-on old.tables.setting.generation old.log c.tell.new.log (ap (λ (x : Logged). x.spent) c.tell.ensures.log_is) (omega (arith, c.tell.ensures.room_is)) c.self.invariant.numbers;
     }
 
 pub returns-clause-step : goal.returns-clause-step
@@ -74,7 +76,7 @@ returns-clause-step g c =
 pub returns-clause-run : goal.returns-clause-run
 returns-clause-run g c =
     let flash = g.F.Flash.state c.args.flash.now in
-    subst (λ (x : BookSeen). Runs flash (g.F.Flash.state c.advance-step.new.flash) (λ m image. KeepsLive flash.geometry x.pages.owners flash.cells image)) c.self.view_is c.advance-step.ensures.run
+    subst (λ (x : BookSeen). Runs flash (g.F.Flash.state c.advance-step.new.flash) (λ m image. StepMayLeave c.args.may_erase flash.geometry x.pages.units x.pages.owners flash.cells image)) c.self.view_is c.advance-step.ensures.run
 
 pub returns-clause-stored : goal.returns-clause-stored
 returns-clause-stored g c = λ told.

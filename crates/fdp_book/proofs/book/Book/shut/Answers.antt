@@ -13,6 +13,7 @@ use Rattle.fdp_book.proofs.Shutting.{IsWaitingFor, still-going, waiting-for}
 use Rattle.fdp_history.specs.OrderlyState.{IsOrderlyState}
 use Rattle.fdp_pages.specs.Steps.{MayPut}
 use Rattle.fdp_rules.specs.Room.{handles_in_force}
+use Rattle.fdp_book.proofs.Numbers.{numbers-logged}
 use Rattle.fdp_book.proofs.book.Book.shut.Goals as goal
 use Rattle.fdp_locations.specs.Held.{pages_held}
 
@@ -52,6 +53,7 @@ invariant_of-self c =
           (fresh-page old.tables.pages c.args.rg c.args.ruh c.args.spot c.joined.ensures may) c.shut.ensures refl);
       before_is = c.push.ensures.before_is ∙ c.self.invariant.before_is;
       names_are = c.push.ensures.names_are ∙ c.self.invariant.names_are;
+      numbers = numbers-logged old.tables.setting now.setting old.log c.push.new.self _ refl c.push.ensures c.self.invariant.numbers;
     }
 
 pub returns : goal.returns

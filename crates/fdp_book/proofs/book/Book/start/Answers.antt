@@ -24,6 +24,7 @@ use Rattle.fdp_book.specs.Held.{flight_in}
 use Rattle.fdp_book.proofs.Forgetting.{may-forget, set-twice}
 use Rattle.fdp_rules.specs.Step.{IsQueue}
 use Rattle.std.specs.Vec.{with_item}
+use Rattle.fdp_book.proofs.Numbers.{numbers-logged}
 use Rattle.fdp_book.proofs.book.Book.start.Goals as goal
 use Rattle.fdp_locations.specs.Held.{pages_held}
 
@@ -115,6 +116,7 @@ invariant_of-self c =
           (c.push.ensures.entries_are ∙ ap (λ (e : Entry). old.log.entries ++ e ∷ []) (entry-is c));
       before_is = c.push.ensures.before_is ∙ c.self.invariant.before_is;
       names_are = c.push.ensures.names_are ∙ c.self.invariant.names_are;
+      numbers = numbers-logged old.tables.setting now.setting old.log c.push.new.self _ (ap (λ (t : Tables). t.setting) forgets.rest) c.push.ensures c.self.invariant.numbers;
     }
 
 pub returns-clause-step : goal.returns-clause-step

@@ -1,0 +1,49 @@
+-- The change of a command other than a write, in the tables.
+use Rattle.std.specs.Prelude.{◌≡◌, ℕ, ◌+◌, ◌<◌, ◌^◌, IsFalse, IsTrue, List, [], ◌∷◌, ◌++◌, None, Option}
+use Rattle.fdp_base.specs.declared.command.Command.{Command}
+use Rattle.fdp_base.specs.declared.config.DriveConfig.{DriveConfig}
+use Rattle.fdp_base.specs.declared.entry.Entry.{Entry}
+use Rattle.fdp_base.specs.declared.entry.Entry.TheVariants as entries
+use Rattle.fdp_base.specs.declared.entry.Spot.{Spot}
+use Rattle.fdp_base.specs.declared.status.TheConstants.Status as statuses
+use Rattle.fdp_base.specs.CommandKinds.{IsWellFormed, is_saved, is_write}
+use Rattle.fdp_book.specs.declared.tables.Tables.{Tables}
+use Rattle.fdp_book.specs.Commanded.{applied_reply}
+use Rattle.fdp_book.specs.Held.{IsHeld}
+use Rattle.fdp_locations.specs.Written.{Written}
+use Rattle.fdp_rules.specs.History.{Found, point_of}
+use Rattle.fdp_rules.specs.Refusal.{refusal_of}
+use Rattle.fdp_rules.specs.Step.{IsQueue}
+
+-- the entry of a command that succeeds, in a queue under a number, with a moment
+abbrev pub success_entry : DriveConfig → Found → List Entry → ℕ → ℕ → Command → ℕ → Entry
+success_entry c found es queue number command moment = entries.Host (record {
+  queue = queue;
+  number = number;
+  command = command;
+  reply = applied_reply (point_of c found es).state command statuses.SUCCESS;
+  moment = moment;
+})
+
+-- a history for which tables stand, and behind which a command may take effect; a namespace is born behind it then
+pub record IsBehind (c : DriveConfig) (found : Found) (first : Spot → Option Written) (es : List Entry) (t : Tables) (command : Command) (birth : ℕ) : Type 0 where
+  pub held : IsHeld c found first es t
+  pub formed : IsWellFormed c command
+  pub accepted : refusal_of c (point_of c found es) command ≡ None
+  pub birth_is : birth ≡ (point_of c found es).state.position + 1
+
+-- tables stand for such a history; the generation has a number for another setting
+pub record MayChange (c : DriveConfig) (t : Tables) (command : Command) (birth : ℕ) : Type 0 where
+  pub found : Found
+  pub first : Spot → Option Written
+  pub entries : List Entry
+  pub behind : IsBehind c found first entries t command birth
+  pub saved : IsTrue (is_saved command)
+  pub other : IsFalse (is_write command)
+  pub generation : t.setting.generation + 1 < 2 ^ 32
+
+-- tables stand for each such history with this command more, which succeeds
+abbrev pub StandBehind : DriveConfig → Command → ℕ → Tables → Tables → Type 0
+StandBehind c command birth old new =
+    (found : Found) (first : Spot → Option Written) (es : List Entry) (queue number moment : ℕ)
+    → IsBehind c found first es old command birth → IsQueue c queue → IsHeld c found first (es ++ success_entry c found es queue number command moment ∷ []) new

@@ -1,0 +1,17 @@
+ghost use Rattle.fdp_book.specs.Updating.{CanSet, SetsTables};
+
+use crate::tables::{Setting, Tables};
+use fdp_base::DriveConfig;
+
+/// Another placement setting comes into force. It takes a step for each handle of each group.
+pub(super) fn set_placement(tables: &mut Tables, config: &DriveConfig, enable: bool, index: u8)
+    requires { CanSet config.now tables.old index }
+    ensures { SetsTables config.now enable index tables.old tables.new }
+{
+    tables.pages.set_classes(config.classes(enable, index));
+    tables.setting = Setting {
+        enabled: enable,
+        index,
+        generation: tables.setting.generation + 1,
+    };
+}
