@@ -1,0 +1,8 @@
+pub mod Keeping
+pub mod Saying
+pub mod Paging
+pub mod Making
+pub mod MaskBits
+pub mod Places
+pub mod HandleLists
+pub mod Applying

@@ -1,0 +1,6 @@
+pub mod Fresh
+pub mod Kinds
+pub mod Events
+pub mod HandleLists
+pub mod Outline
+pub mod Pages

@@ -1,0 +1,21 @@
+//! The outline of a drive, as a checkpoint has it beside the pages of the blocks, with room for its events.
+#![tactic(auto)]
+
+mod event;
+mod fresh;
+mod keep;
+mod latest;
+mod laws;
+mod masks;
+mod moved_block;
+mod outline;
+mod spaces;
+#[cfg(test)]
+mod tests;
+
+pub use fresh::fresh_summary;
+pub use laws::{
+    an_outline_says_the_reading, an_outline_with_its_pages_has_room, events_keep_an_outline,
+};
+pub use moved_block::MovedBlock;
+pub use outline::Outline;
