@@ -1,0 +1,14 @@
+pub mod Given
+pub mod Parts
+pub mod Writing
+pub mod PageSets
+pub mod Copies
+pub mod Runs
+pub mod Numbers
+pub mod Moved
+pub mod Naming
+pub mod Marking
+pub mod KindBits
+pub mod Accepted
+pub mod Behind
+pub mod Begun

@@ -1,0 +1,167 @@
+-- A record can name the copies of blocks of a pass.
+use Rattle.std.proofs.lemmas.Bool.Decides.{eqb_tells}
+use Rattle.std.proofs.Common.{◌≡◌, ◌≢◌, ⊎_elim, ℕ, ◌+◌, ◌*◌, ◌/◌, ◌<◌, ◌≤◌, Bool, true, false, List, [], ◌∷◌, length, map, filter, flat_map, Option, Some, None, refl, ap, sym, ◌∙◌, subst, arith, get_or}
+use Rattle.std.specs.Prelude.{All, Contains, ◌==◌, is_some}
+use Rattle.std.specs.Option.{option_map_or}
+use Rattle.std.proofs.Math.Nat.{mul-le-mul_right}
+use Rattle.std.proofs.lemmas.List.Elements.{All-filter, filter-append}
+use Rattle.std.proofs.lemmas.Option.{slice_get-get_or}
+use Rattle.fdp_base.specs.declared.config.DriveConfig.{DriveConfig}
+use Rattle.fdp_base.specs.declared.entry.BlockName.{BlockName}
+use Rattle.fdp_base.specs.declared.entry.Copied.{Copied}
+use Rattle.fdp_base.specs.declared.entry.Entry.TheVariants as entries
+use Rattle.fdp_base.specs.declared.entry.Spot.{Spot}
+use Rattle.fdp_base.specs.declared.entry.Totals.{Totals}
+use Rattle.fdp_base.specs.declared.event.Event.{Event}
+use Rattle.fdp_base.specs.Config.{IsValidConfig}
+use Rattle.fdp_base.specs.Numbers.{numbers_below}
+use Rattle.fdp_history.specs.Orderly.{IsOrderly}
+use Rattle.fdp_history.specs.Standing.{IsStanding}
+use Rattle.fdp_keeper.specs.Moves.{CanBeNamed, IsMoveOf, moved_by_owner, moved_of}
+use Rattle.fdp_keeper.proofs.Moved.{ascending-old, filter-new, filter-old, handles-named, names-listed}
+use Rattle.fdp_locations.specs.Located.{AreLed, next_in}
+use Rattle.fdp_locations.specs.Written.{Written}
+use Rattle.fdp_outline.specs.declared.moved_block.MovedBlock.{MovedBlock}
+use Rattle.fdp_outline.specs.Events.{names_of_handle}
+use Rattle.fdp_owners.specs.declared.owner.Owner.{Owner}
+use Rattle.fdp_owners.specs.OwnerTable.{owner_at}
+use Rattle.fdp_pages.specs.Joined.{AreJoined}
+use Rattle.fdp_pages.specs.PageTables.{PageTables, copies_at, passes_at}
+use Rattle.fdp_pages.proofs.Places.{place-contains}
+use Rattle.fdp_passes.specs.Due.{copies_in}
+use Rattle.fdp_passes.specs.GroupPasses.{Pass}
+use Rattle.fdp_pointers.specs.Facts.{Page}
+use Rattle.fdp_pointers.specs.Pointers.{Behind}
+use Rattle.fdp_readings.specs.Changes.{MoveBlocks, NamesCopies, Saves, copies_of_blocks, known_handle}
+use Rattle.fdp_readings.proofs.Moving.{drawn-moved}
+use Rattle.fdp_readings.proofs.Passing.{copies-inside, copies-placed, pass-moves}
+use Rattle.fdp_records.specs.declared.change.Change.{Change}
+use Rattle.fdp_rules.specs.Events.{events_of_entry, is_of_handle, reallocated}
+use Rattle.fdp_rules.specs.Next.{totals_with}
+use Rattle.fdp_rules.specs.Point.{Point}
+use Rattle.fdp_rules.specs.Room.{handles_in_force}
+use Rattle.fdp_rules.specs.Sites.{moved_blocks}
+use Rattle.fdp_trails.specs.Moves.{name_at, names_of}
+use Rattle.fdp_trails.proofs.Listing.{pass-listed}
+use Rattle.fdp_units.specs.UnitTable.{Cut, IsGroup, cut_of}
+
+-- no more units than there may be
+few-units : (groups units : ℕ) → groups ≤ 16 → units ≤ 131072 → groups * units < 0xffff_ffff
+few-units groups units a b =
+    let one : groups * units ≤ 16 * units = mul-le-mul_right units a in
+    omega (arith, one, b)
+
+pub copies-are : (t : PageTables) (rg : ℕ) (pass : Pass) → (passes_at t rg).pass ≡ Some pass → copies_at t rg ≡ pass.copies
+copies-are t rg pass is = ap (λ (o : Option Pass). option_map_or (λ (x : Pass). x.copies) o []) is
+
+-- what holds of each copy of a pass
+each-copy : (P : Copied → Type 0) (xs : List Copied) → ((x : Copied) → Contains xs x → P x) → All P xs
+each-copy P xs each k d low = each (get_or xs k d) (place-contains xs k (get_or xs k d) (slice_get-get_or xs k d low))
+
+pub can-be-named : (c : DriveConfig) (t : PageTables) (rg : ℕ) (pass : Pass) → IsValidConfig c → cut_of t.units ≡ record { unit_pages = c.unit_pages; group_units = c.units; groups = c.groups } → AreJoined t → IsGroup t.units rg → (passes_at t rg).pass ≡ Some pass
+    → length (copies_of_blocks (owner_at t.owners) pass.copies) ≤ 256 → 0 < length (copies_of_blocks (owner_at t.owners) pass.copies) → CanBeNamed (copies_of_blocks (owner_at t.owners) pass.copies)
+can-be-named c t rg pass valid cut joined group is few some =
+    let h = (joined.groups rg group).copied pass is in
+    let test : Copied → Bool = λ x. is_some (name_at (owner_at t.owners) x.from) in
+    let pages : t.units.unit_pages ≤ 256 = omega (arith, ap (λ (x : Cut). x.unit_pages) cut, valid.ranges.unit_pages.1) in
+    let all : c.groups * c.units < 0xffff_ffff = few-units c.groups c.units valid.ranges.groups.1 valid.ranges.units.1 in
+    let f = h.filled in
+    record {
+      some = some;
+      few = few;
+      old = All-filter test (λ (x : Copied). x.from.page < 256) pass.copies (each-copy (λ (x : Copied). x.from.page < 256) pass.copies (λ x within. omega (arith, (h.lie x within).from_page, pages)));
+      new = All-filter test (λ (x : Copied). x.to.page < 256) pass.copies (each-copy (λ (x : Copied). x.to.page < 256) pass.copies (λ x within. omega (arith, (h.lie x within).used, (h.lie x within).within, pages)));
+      units = All-filter test (λ (x : Copied). x.to.unit < 0xffff_ffff) pass.copies (each-copy (λ (x : Copied). x.to.unit < 0xffff_ffff) pass.copies (λ x within.
+          let unit : x.to.unit < length t.units.groups * t.units.group_units = (h.lie x within).is_unit in
+          let same : length t.units.groups * t.units.group_units ≡ c.groups * c.units = ap (λ (k : Cut). k.groups * k.group_units) cut in
+          omega (arith, unit, same, all)));
+      runs = record {
+        first = filter test f.first;
+        last = filter test f.last;
+        first_unit = f.first_unit;
+        last_unit = f.last_unit;
+        split = ap (filter test) f.split ∙ filter-append test f.first f.last;
+        first_lie = filter-new test f.first_unit 0 f.first f.first_lie;
+        last_lie = filter-new test f.last_unit 0 f.last f.last_lie;
+      };
+      unit = pass.victim;
+      order = filter-old test pass.victim 0 pass.copies (ascending-old pass.victim 0 pass.copies (λ k a at. (h.lie a (place-contains pass.copies k a at)).victim) (λ a at. omega arith) h.ascend);
+    }
+
+-- ---- what the change of the move names
+
+known-ruhs : (owners : Spot → Option Owner) (xs : List Copied) → map (λ (x : MovedBlock). x.ruh) (map (moved_of owners) xs) ≡ map (λ (x : Copied). known_handle owners x.from) xs
+known-ruhs owners [] = refl
+known-ruhs owners (x ∷ xs) = ap (λ (n : ℕ). n ∷ map (λ (y : MovedBlock). y.ruh) (map (moved_of owners) xs)) (one (owners x.from)) ∙ ap (λ (ns : List ℕ). known_handle owners x.from ∷ ns) (known-ruhs owners xs) where
+  one : (o : Option Owner) → (moved_by_owner o).ruh ≡ option_map_or (λ (y : Owner). y.spare.ruh) o 0
+  one None = refl
+  one (Some y) = refl
+
+pub move-saved : (c : DriveConfig) (p : Point) (written : Spot → Option Written) (at : Behind Page) (t : PageTables) (rg : ℕ) (pass : Pass) (change : Change) → IsOrderly c p → IsStanding c p → AreLed c p written at t → rg < c.groups → cut_of t.units ≡ record { unit_pages = c.unit_pages; group_units = c.units; groups = c.groups } → AreJoined t → IsGroup t.units rg → (passes_at t rg).pass ≡ Some pass → (pass.copies ≡ [] → ⊥)
+    → CanBeNamed (copies_of_blocks (owner_at t.owners) pass.copies) → IsMoveOf (copies_of_blocks (owner_at t.owners) pass.copies) (map (λ (x : MovedBlock). x.ruh) (map (moved_of (owner_at t.owners)) (copies_of_blocks (owner_at t.owners) pass.copies))) change
+    → Saves c p change (entries.Moved (record { rg = rg; blocks = moved_blocks p rg }))
+move-saved c p written at t rg pass change orderly standing led low cut joined group is some can move =
+    let owners = owner_at t.owners in
+    let copies : List Copied = copies_of_blocks owners pass.copies in
+    let same : copies_in (passes_at t rg) ≡ pass.copies = copies-are t rg pass is in
+    let h = (joined.groups rg group).copied pass is in
+    let victim : move.victim.unit ≡ pass.victim = move.unit pass.victim (filter-old (λ (x : Copied). is_some (name_at owners x.from)) pass.victim 0 pass.copies (ascending-old pass.victim 0 pass.copies (λ k a e. (h.lie a (place-contains pass.copies k a e)).victim) (λ a e. omega arith) h.ascend)) in
+    let stands = (joined.groups rg group).ready.victim pass is in
+    let moves = subst (λ (xs : List Copied). MoveBlocks p rg (copies_of_blocks owners xs)) same (pass-moves c p rg (next_in t.units) at owners (passes_at t rg) orderly led.table led.owned (led.passes rg low) (λ none. some (sym same ∙ none))) in
+    let named : NamesCopies c p rg copies (λ (x : Copied). known_handle owners x.from) move.victim move.first move.second (map (λ (x : MovedBlock). x.ruh) (map (moved_of owners) copies)) = record {
+      old = move.old.numbers c;
+      new = move.new.numbers c;
+      handles_are = known-ruhs owners copies;
+      group = ap (λ (u : ℕ). u / c.units) victim ∙ ap (λ (k : Cut). pass.victim / k.group_units) (sym cut) ∙ stands.group;
+      inside = copies-inside c p written at t pass.copies standing led;
+      placed = copies-placed c p written at t pass.copies standing led;
+    } in
+    subst (λ (x : Change). Saves c p x (entries.Moved (record { rg = rg; blocks = moved_blocks p rg }))) (sym move.change_is)
+    (drawn-moved c p rg copies (λ (x : Copied). known_handle owners x.from) move.victim move.first move.second (map (λ (x : MovedBlock). x.ruh) (map (moved_of owners) copies)) orderly standing moves named)
+
+-- ---- the blocks that are moved
+
+pub blocks-moved : (c : DriveConfig) (p : Point) (written : Spot → Option Written) (at : Behind Page) (t : PageTables) (rg : ℕ) (pass : Pass) → IsOrderly c p → AreLed c p written at t → rg < c.groups → (passes_at t rg).pass ≡ Some pass → (pass.copies ≡ [] → ⊥) → moved_blocks p rg ≡ names_of (owner_at t.owners) pass.copies
+blocks-moved c p written at t rg pass orderly led low is some =
+    let same : copies_in (passes_at t rg) ≡ pass.copies = copies-are t rg pass is in
+    pass-listed c p rg (next_in t.units) at (owner_at t.owners) (passes_at t rg) orderly.state led.table led.owned (led.passes rg low) (λ none. some (sym same ∙ none)) ∙ ap (names_of (owner_at t.owners)) same
+
+pub none-moved : (owners : Spot → Option Owner) (xs : List Copied) → length (copies_of_blocks owners xs) ≡ 0 → names_of owners xs ≡ []
+none-moved owners xs none = names-listed owners xs ∙ ap (λ (ys : List Copied). map (λ (x : MovedBlock). x.name) (map (moved_of owners) ys)) (empty (copies_of_blocks owners xs) none) where
+  empty : (ys : List Copied) → length ys ≡ 0 → ys ≡ []
+  empty [] e = refl
+  empty (y ∷ ys) e = absurd (omega (arith, e))
+
+pub some-moved : (owners : Spot → Option Owner) (xs : List Copied) → 0 < length (copies_of_blocks owners xs) → names_of owners xs ≡ [] → ⊥
+some-moved owners xs some none = nothing (copies_of_blocks owners xs) some (sym (names-listed owners xs) ∙ none) where
+  nothing : (ys : List Copied) → 0 < length ys → map (λ (x : MovedBlock). x.name) (map (moved_of owners) ys) ≡ [] → ⊥
+  nothing [] low e = absurd (omega (arith, low))
+  nothing (y ∷ ys) low e = cc
+
+plus-none : (n : ℕ) → n ≡ n + 0
+plus-none n = omega arith
+
+pub totals-moved : (t : Totals) (rg : ℕ) (blocks : List BlockName) → record t { position = t.position + 1 } ≡ totals_with t (entries.Moved (record { rg = rg; blocks = blocks }))
+totals-moved t rg blocks =
+    ap (λ (n : ℕ). record t { position = t.position + 1; host_blocks = n }) (plus-none t.host_blocks)
+    ∙ ap (λ (n : ℕ). record { position = t.position + 1; host_blocks = t.host_blocks + 0; media_blocks = n; erases = t.erases }) (plus-none t.media_blocks)
+    ∙ ap (λ (n : ℕ). record { position = t.position + 1; host_blocks = t.host_blocks + 0; media_blocks = t.media_blocks + 0; erases = n }) (plus-none t.erases)
+
+-- the events that are kept are those of the entry
+pub events-moved : (c : DriveConfig) (p : Point) (written : Spot → Option Written) (at : Behind Page) (t : PageTables) (rg n : ℕ) (pass : Pass) (bs : List MovedBlock) → IsStanding c p → AreLed c p written at t → moved_blocks p rg ≡ names_of (owner_at t.owners) pass.copies → bs ≡ map (moved_of (owner_at t.owners)) (copies_of_blocks (owner_at t.owners) pass.copies) → n ≡ handles_in_force c p.state
+    → flat_map (λ ruh. reallocated p.state rg ruh (names_of_handle bs ruh)) (numbers_below n) ≡ events_of_entry c p.state (entries.Moved (record { rg = rg; blocks = moved_blocks p rg }))
+unfolding events_of_entry
+events-moved c p written at t rg n pass bs standing led names are count =
+    let each : (λ ruh. reallocated p.state rg ruh (names_of_handle bs ruh)) ≡ (λ ruh. reallocated p.state rg ruh (filter (is_of_handle p.state ruh) (moved_blocks p rg))) =
+    λ i. λ ruh. reallocated p.state rg ruh ((ap (λ (ys : List MovedBlock). names_of_handle ys ruh) are ∙ handles-named c p written at t standing led ruh pass.copies ∙ ap (filter (is_of_handle p.state ruh)) (sym names)) i) in
+    ap (λ (f : ℕ → List Event). flat_map f (numbers_below n)) each
+    ∙ ap (λ (k : ℕ). flat_map (λ ruh. reallocated p.state rg ruh (filter (is_of_handle p.state ruh) (moved_blocks p rg))) (numbers_below k)) count
+
+true-false : true ≡ false → ⊥
+true-false e = cc
+
+pub none-counted : (n : ℕ) → (n == 0) ≡ true → n ≡ 0
+none-counted n e = ⊎_elim (λ (h : (n == 0 ≡ true) × (n ≡ 0)). h.1) (λ (h : (n == 0 ≡ false) × (n ≢ 0)). absurd (true-false (sym e ∙ h.0))) (eqb_tells n 0)
+
+pub some-counted : (n : ℕ) → (n == 0) ≡ false → 0 < n
+some-counted n e = ⊎_elim (λ (h : (n == 0 ≡ true) × (n ≡ 0)). absurd (true-false (sym h.0 ∙ e))) (λ (h : (n == 0 ≡ false) × (n ≢ 0)). omega (arith, h.1)) (eqb_tells n 0)

@@ -1,0 +1,59 @@
+use Rattle.std.proofs.Common.{◌≡◌, ◌+◌, ◌∙◌, ap, arith, sym}
+use Rattle.fdp_base.specs.declared.entry.Entry.{Entry}
+use Rattle.fdp_base.specs.declared.entry.Totals.{Totals}
+use Rattle.fdp_book.specs.Book.{point_in}
+use Rattle.fdp_outline.specs.Outline.{IsOutlineOf}
+use Rattle.fdp_readings.specs.Changes.{Saves, completed}
+use Rattle.fdp_readings.specs.Drawn.{drawn}
+use Rattle.fdp_rules.specs.History.{point_of}
+use Rattle.fdp_rules.specs.Next.{totals_with}
+use Rattle.fdp_snapshot.specs.declared.state.Summary.{Summary}
+use Rattle.fdp_keeper.proofs.Behind.{can-be-kept, change-saves, generation-said, outline-behind, totals-other}
+use Rattle.fdp_keeper.proofs.Parts.{can-give, with-totals}
+use Rattle.fdp_keeper.proofs.command.save_command.Goals as goal
+
+pub change_of-change-requires-clause-generation : goal.change_of-change-requires-clause-generation
+change_of-change-requires-clause-generation g c =
+    let b = c.args.book.now in
+    let r = drawn b.config (point_in b) in
+    let was : IsOutlineOf b.config r c.set_totals.new.self = with-totals b.config r c.args.outline.now c.set_totals.new.self c.totals-totals.result c.set_totals.ensures c.requires.can.outline in
+    ap (λ (x : Summary). x.generation) c.summary.ensures.summary ∙ generation-said b.config r c.set_totals.new.self was
+
+pub change_of-change-requires-clause-next : goal.change_of-change-requires-clause-next
+change_of-change-requires-clause-next g c =
+    let b = c.args.book.now in
+    let r = drawn b.config (point_in b) in
+    let was : IsOutlineOf b.config r c.set_totals.new.self = with-totals b.config r c.args.outline.now c.set_totals.new.self c.totals-totals.result c.set_totals.ensures c.requires.can.outline in
+    let same : c.summary.result.now.generation ≡ (point_in b).state.generation = ap (λ (x : Summary). x.generation) c.summary.ensures.summary ∙ generation-said b.config r c.set_totals.new.self was in
+    omega (arith, same, c.numbered.ensures)
+
+pub save-saved-requires-clause-given : goal.save-saved-requires-clause-given
+unfolding point_of
+save-saved-requires-clause-given g c = can-give c.args.book.now c.args.saver.now c.args.outline.now c.set_totals.new.self (g.F.Flash.state c.args.flash.now) c.totals-totals.result c.requires.can c.set_totals.ensures c.totals-totals.ensures.totals
+
+pub keep_saved-requires-clause-kept : goal.keep_saved-requires-clause-kept
+keep_saved-requires-clause-kept g c =
+    let b = c.args.book.now in
+    let r = drawn b.config (point_in b) in
+    let was : IsOutlineOf b.config r c.set_totals.new.self = with-totals b.config r c.args.outline.now c.set_totals.new.self c.totals-totals.result c.set_totals.ensures c.requires.can.outline in
+    can-be-kept b c.set_totals.new.self c.args.command.now c.change_of-change.result c.known.ensures.config c.known.ensures.orderly was c.requires.may c.change_of-change.ensures.change
+
+pub returns-clause-saves : goal.returns-clause-saves
+unfolding point_of
+returns-clause-saves g c queue number reply moment applied =
+    let b = c.args.book.now in
+    let p = point_in b in
+    let command = c.args.command.now in
+    let e : Entry = completed queue number command reply moment in
+    let may = c.requires.may in
+    let change = c.change_of-change.result in
+    let saves : Saves b.config p change e = change-saves b.config p queue number command reply moment change c.known.ensures.orderly applied may.saved may.other c.change_of-change.ensures.change in
+    let before : c.totals-totals.result ≡ p.totals = c.totals-totals.ensures.totals in
+    let after : record c.totals-totals.result { position = c.totals-totals.result.position + 1 } ≡ totals_with p.totals e =
+    totals-other c.totals-totals.result queue number command reply moment may.other ∙ ap (λ (t : Totals). totals_with t e) before in
+    let was : IsOutlineOf b.config (drawn b.config p) c.set_totals.new.self = with-totals b.config (drawn b.config p) c.args.outline.now c.set_totals.new.self c.totals-totals.result c.set_totals.ensures c.requires.can.outline in
+    record {
+      saves = c.save-saved.ensures.saves e saves after;
+      outline = outline-behind b.config p e change c.set_totals.new.self c.keep_saved.new.outline c.save-saved.result saves was (c.keep_saved.ensures (totals_with p.totals e) (ap (λ (t : Totals). t.position + 1) (sym before)) was);
+      geometry = c.save-saved.ensures.geometry;
+    }

@@ -1,0 +1,59 @@
+use Rattle.std.proofs.Common.{◌≡◌, ◌∙◌, ap, subst, sym}
+use Rattle.fdp_book.specs.Book.{point_in}
+use Rattle.fdp_outline.specs.Outline.{IsOutlineOf}
+use Rattle.fdp_readings.specs.Drawn.{drawn}
+use Rattle.fdp_snapshot.specs.declared.state.Summary.{Summary}
+use Rattle.fdp_keeper.proofs.Given.{IsGiven, drawn-pages, given, room-for-record}
+use Rattle.fdp_base.specs.declared.entry.Totals.{Totals}
+use Rattle.fdp_checkpoint.specs.Writing.{with_pages}
+use Rattle.fdp_flash.specs.Runs.{Holds}
+use Rattle.fdp_saving.specs.Said.{ReadsAsOneOf}
+use Rattle.fdp_saving.specs.Saver.{needs_checkpoint}
+use Rattle.fdp_saving.specs.Saving.{IsOfDrive, SayAfterSaving, base_of, within_saved}
+use Rattle.fdp_keeper.proofs.saving.save.Goals as goal
+
+pub save-requires-clause-state : goal.save-requires-clause-state
+save-requires-clause-state g c =
+    let b = c.args.book.now in
+    let s = c.summary.result.now in
+    let lists = c.page_lists.result.now in
+    let outline : IsOutlineOf b.config (drawn b.config (point_in b)) s = subst (λ (x : Summary). IsOutlineOf b.config (drawn b.config (point_in b)) x) (sym c.summary.ensures.summary) c.requires.given.outline in
+    let totals : s.totals ≡ (point_in b).totals = ap (λ (x : Summary). x.totals) c.summary.ensures.summary ∙ c.requires.given.totals in
+    let pages = drawn-pages b.config (point_in b) lists c.known.ensures.config c.page_lists.ensures.rows c.page_lists.ensures.sizes c.page_lists.ensures.blocks c.page_lists.ensures.places in
+    let g_ : IsGiven b.config (point_in b) s lists = given b.config (point_in b) s lists c.known.ensures.config c.known.ensures.orderly c.known.ensures.listed outline totals c.summary.ensures.writable pages in
+    g_.state
+
+pub save-requires-clause-room : goal.save-requires-clause-room
+save-requires-clause-room g c =
+    let b = c.args.book.now in
+    let s = c.summary.result.now in
+    let lists = c.page_lists.result.now in
+    let outline : IsOutlineOf b.config (drawn b.config (point_in b)) s = subst (λ (x : Summary). IsOutlineOf b.config (drawn b.config (point_in b)) x) (sym c.summary.ensures.summary) c.requires.given.outline in
+    let totals : s.totals ≡ (point_in b).totals = ap (λ (x : Summary). x.totals) c.summary.ensures.summary ∙ c.requires.given.totals in
+    let pages = drawn-pages b.config (point_in b) lists c.known.ensures.config c.page_lists.ensures.rows c.page_lists.ensures.sizes c.page_lists.ensures.blocks c.page_lists.ensures.places in
+    let g_ : IsGiven b.config (point_in b) s lists = given b.config (point_in b) s lists c.known.ensures.config c.known.ensures.orderly c.known.ensures.listed outline totals c.summary.ensures.writable pages in
+    room-for-record b.config c.args.saver.now.geometry s c.requires.given.of_drive g_.room
+
+pub returns-clause-saves : goal.returns-clause-saves
+returns-clause-saves g c e saves same =
+    let b = c.args.book.now in
+    let s = c.summary.result.now in
+    let lists = c.page_lists.result.now in
+    let outline : IsOutlineOf b.config (drawn b.config (point_in b)) s = subst (λ (x : Summary). IsOutlineOf b.config (drawn b.config (point_in b)) x) (sym c.summary.ensures.summary) c.requires.given.outline in
+    let totals : s.totals ≡ (point_in b).totals = ap (λ (x : Summary). x.totals) c.summary.ensures.summary ∙ c.requires.given.totals in
+    let pages = drawn-pages b.config (point_in b) lists c.known.ensures.config c.page_lists.ensures.rows c.page_lists.ensures.sizes c.page_lists.ensures.blocks c.page_lists.ensures.places in
+    let g_ : IsGiven b.config (point_in b) s lists = given b.config (point_in b) s lists c.known.ensures.config c.known.ensures.orderly c.known.ensures.listed outline totals c.summary.ensures.writable pages in
+    let is_of : IsOfDrive b.config c.args.saver.now (with_pages s lists) = record { geometry = sym c.requires.given.of_drive; sizes = g_.sizes } in
+    record {
+      given = with_pages s lists;
+      change = c.args.change.now;
+      drive = g_.drive;
+      is_of = is_of;
+      saves = saves;
+      saver_is = c.save.ensures.saver;
+      stands = c.save.ensures.stands;
+      stops = λ own tried say. subst (λ (t : Totals). Holds (ReadsAsOneOf b.config (g.F.Flash.state c.args.flash.now).cells (within_saved b.config (needs_checkpoint c.args.saver.now) own tried (with_pages s lists) (c.args.change.now, t) c.save.result)) (g.F.Flash.state c.args.flash.now) (g.F.Flash.state c.save.new.flash)) same (c.save.ensures.stops b.config own tried is_of say);
+      said = λ own tried told say. subst (λ (t : Totals). SayAfterSaving b.config c.save.new.self (g.F.Flash.state c.save.new.flash).cells own tried (with_pages s lists) (base_of (needs_checkpoint c.args.saver.now) own (with_pages s lists)) (c.args.change.now, t) c.save.result) same (c.save.ensures.said b.config own tried is_of told say);
+      calls = c.save.ensures.calls;
+      ends = c.save.ensures.ends;
+    }

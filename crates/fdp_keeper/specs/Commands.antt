@@ -1,0 +1,126 @@
+-- What saves a command other than a write.
+use Rattle.std.specs.Prelude.{◌≡◌, ℕ, ◌+◌, ◌*◌, ◌<◌, ◌≤◌, ◌==◌, ◌&&◌, Bool, false, IsFalse, IsTrue, List, [], ◌∷◌, None, if◌then◌else◌, length, nat_lt, slice_index, slice_index_or, unwrap_or}
+use Rattle.std.specs.List.{list_any}
+use Rattle.fdp_base.specs.declared.command.Command.{Command}
+use Rattle.fdp_base.specs.declared.command.Command.TheVariants as commands
+use Rattle.fdp_base.specs.declared.command.HandleUpdate.{HandleUpdate}
+use Rattle.fdp_base.specs.declared.command.SetEvents.{SetEvents}
+use Rattle.fdp_base.specs.declared.config.DriveConfig.{DriveConfig}
+use Rattle.fdp_base.specs.declared.event.EventKind.{EventKind}
+use Rattle.fdp_base.specs.CommandKinds.{IsWellFormed, is_saved, is_write}
+use Rattle.fdp_base.specs.EventCodes.{kind_code}
+use Rattle.fdp_base.specs.Geometry.{IsWithin}
+use Rattle.fdp_book.specs.Book.{BookSeen, point_in}
+use Rattle.fdp_image.specs.Applied.{applied}
+use Rattle.fdp_image.specs.Checkpoint.{in_place}
+use Rattle.fdp_image.specs.CheckpointRows.{has_kind}
+use Rattle.fdp_image.specs.Reading.{Reading}
+use Rattle.fdp_base.specs.declared.entry.Totals.{Totals}
+use Rattle.fdp_keeper.specs.declared.change_lists.ChangeLists.{ChangeLists}
+use Rattle.fdp_keeper.specs.Lists.{AreOfEachLength, IsTaken}
+use Rattle.fdp_outline.specs.Outline.{IsOutlineOf}
+use Rattle.fdp_readings.specs.Changes.{TellsClosed}
+use Rattle.fdp_records.specs.declared.change.Change.{Change}
+use Rattle.fdp_records.specs.declared.change.Change.TheVariants as changes
+use Rattle.fdp_rules.specs.Effect.{References, chosen_handles, lowest_free, no_reference}
+use Rattle.fdp_rules.specs.PlainState.{PlainState}
+use Rattle.fdp_rules.specs.Refusal.{refusal_of}
+use Rattle.fdp_rules.specs.Room.{handles_of}
+use Rattle.fdp_saving.specs.declared.saved.Saved.{Saved}
+use Rattle.fdp_saving.specs.declared.saved.Saved.TheVariants as answers
+use Rattle.fdp_snapshot.specs.declared.state.Summary.{Summary}
+
+-- a command may take effect: it is not refused, and is one that is saved, other than a write
+pub record CanBeSaved (b : BookSeen) (command : Command) : Type 0 where
+  pub formed : IsWellFormed b.config command
+  pub accepted : refusal_of b.config (point_in b) command ≡ None
+  pub saved : IsTrue (is_saved command)
+  pub other : IsFalse (is_write command)
+
+-- the change is that of an update: it tells of each identifier whether it closes a unit
+pub record IsUpdateOf (c : DriveConfig) (s : PlainState) (u : HandleUpdate) (change : Change) : Type 0 where
+  pub closed : ℕ
+  pub tells : TellsClosed c s u.nsid closed 0 s.references u.pids
+  pub change_is : change ≡ changes.Update u.nsid closed u.pids
+
+-- the change is that of a setting of events: its mask has the kinds of the types
+pub record IsSettingOfEvents (s : PlainState) (x : SetEvents) (change : Change) : Type 0 where
+  pub mask : ℕ
+  pub kinds : (kind : EventKind) → has_kind mask kind ≡ list_any (λ code. code == kind_code kind) x.types
+  pub change_is : change ≡ changes.SetEvents (slice_index (handles_of s x.nsid) x.handle) x.enable mask
+
+-- the change that saves a command which takes effect in a state
+abbrev pub IsChangeOf : DriveConfig → PlainState → Command → Change → Type 0
+IsChangeOf c s (commands.Write w) change = Unit {0}
+IsChangeOf c s (commands.Read r) change = Unit {0}
+IsChangeOf c s (commands.Zero z) change = change ≡ changes.Clear z.nsid (record { slba = z.slba; length = z.count } ∷ [])
+IsChangeOf c s (commands.Dealloc d) change = change ≡ changes.Clear d.nsid d.ranges
+IsChangeOf c s (commands.Flush f) change = Unit {0}
+IsChangeOf c s (commands.Delete d) change = change ≡ changes.Delete d.nsid
+IsChangeOf c s (commands.Status status) change = Unit {0}
+IsChangeOf c s (commands.Update u) change = IsUpdateOf c s u change
+IsChangeOf c s (commands.Log l) change = Unit {0}
+IsChangeOf c s (commands.SetFdp set) change = change ≡ changes.SetFdp set.enable set.index (s.generation + 1)
+IsChangeOf c s (commands.GetFdp g) change = Unit {0}
+IsChangeOf c s (commands.SetEvents set) change = IsSettingOfEvents s set change
+IsChangeOf c s (commands.Create create) change =
+    change ≡ changes.Create (unwrap_or (lowest_free s) 0) create.size (create.given && nat_lt 0 (length create.list)) (chosen_handles create.list)
+IsChangeOf c s (commands.Other o) change = Unit {0}
+
+-- what these handles reference, of which those that are marked were closed since a state
+pub record AreMarked (c : DriveConfig) (s : PlainState) (marks : List Bool) (references : References) : Type 0 where
+  pub each : (rg ruh : ℕ) → ruh < 16 → references rg ruh ≡ (if slice_index_or marks (16 * rg + ruh) false then no_reference c else s.references rg ruh)
+
+-- no list is lent
+pub record AreWhole (lists : ChangeLists) : Type 0 where
+  pub ranges : AreOfEachLength 16 lists.ranges.items
+  pub pids : AreOfEachLength 64 lists.pids.items
+  pub handles : AreOfEachLength 256 lists.handles.items
+
+-- a list of ranges of this length is lent
+pub record LendsRanges (lists : ChangeLists) (count : ℕ) : Type 0 where
+  pub ranges : IsTaken 16 lists.ranges.items count
+  pub pids : AreOfEachLength 64 lists.pids.items
+  pub handles : AreOfEachLength 256 lists.handles.items
+
+-- one of identifiers
+pub record LendsPids (lists : ChangeLists) (count : ℕ) : Type 0 where
+  pub ranges : AreOfEachLength 16 lists.ranges.items
+  pub pids : IsTaken 64 lists.pids.items count
+  pub handles : AreOfEachLength 256 lists.handles.items
+
+-- one of handles
+pub record LendsHandles (lists : ChangeLists) (count : ℕ) : Type 0 where
+  pub ranges : AreOfEachLength 16 lists.ranges.items
+  pub pids : AreOfEachLength 64 lists.pids.items
+  pub handles : IsTaken 256 lists.handles.items count
+
+-- the list that a change of a command names is lent to it
+abbrev pub AreLent : ChangeLists → Change → Type 0
+AreLent lists (changes.Write nsid slba pid pid_invalid pages) = AreWhole lists
+AreLent lists (changes.Clear nsid ranges) = LendsRanges lists (length ranges)
+AreLent lists (changes.Update nsid closed pids) = LendsPids lists (length pids)
+AreLent lists (changes.Create nsid size given handles) = LendsHandles lists (length handles)
+AreLent lists (changes.Delete nsid) = AreWhole lists
+AreLent lists (changes.SetFdp enabled index generation) = AreWhole lists
+AreLent lists (changes.SetEvents ruh on mask) = AreWhole lists
+AreLent lists (changes.Moved victim first second handles) = AreWhole lists
+AreLent lists (changes.Shut rg ruh) = AreWhole lists
+
+-- a change can be kept in an outline: it is one of a command, and names what there may be
+abbrev pub CanBeKept : Summary → Change → Type 0
+CanBeKept s (changes.Write nsid slba pid pid_invalid pages) = ⊥
+CanBeKept s (changes.Clear nsid ranges) = Unit {0}
+CanBeKept s (changes.Update nsid closed pids) = length pids ≤ 64
+CanBeKept s (changes.Create nsid size given handles) = IsWithin 1 16 nsid × (in_place s.spaces nsid ≡ None) × (0 < size) × (length handles ≤ 16)
+CanBeKept s (changes.Delete nsid) = IsWithin 1 16 nsid
+CanBeKept s (changes.SetFdp enabled index generation) = Unit {0}
+CanBeKept s (changes.SetEvents ruh on mask) = ruh < 16
+CanBeKept s (changes.Moved victim first second handles) = ⊥
+CanBeKept s (changes.Shut rg ruh) = ⊥
+
+-- an outline is that behind a change, unless the answer is that it was not saved
+abbrev pub IsOutlineBehind : DriveConfig → Reading → Change × Totals → Summary → Summary → Saved → Type 0
+IsOutlineBehind c r x old new answers.Done = IsOutlineOf c (applied c r x) new
+IsOutlineBehind c r x old new (answers.Doubtful moment) = IsOutlineOf c (applied c r x) new
+IsOutlineBehind c r x old new (answers.Unsaved moment) = new ≡ old

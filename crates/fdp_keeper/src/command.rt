@@ -1,0 +1,48 @@
+//! The saving of a command other than a write.
+
+ghost use Rattle.std.specs.Prelude.{IsTrue, ℕ};
+ghost use Rattle.fdp_base.specs.declared.entry.Reply.{Reply};
+ghost use Rattle.fdp_keeper.specs.Commands.{AreWhole, CanBeSaved};
+ghost use Rattle.fdp_keeper.specs.Keeper.{CanKeep, KeepsWrite};
+ghost use Rattle.fdp_readings.specs.Changes.{completed};
+
+use crate::change_lists::{ChangeLists, give_back};
+use crate::command_change::change_of;
+use crate::kept_change::keep_saved;
+use crate::saving::save;
+use fdp_base::{Command, Totals};
+use fdp_book::Book;
+use fdp_flash::Flash;
+use fdp_outline::Outline;
+use fdp_saving::{Saved, Saver};
+
+/// Saves a command that may take effect. The outline goes on with its change, unless the answer is that it was not saved.
+pub fn save_command<F: Flash>(
+    saver: &mut Saver,
+    outline: &mut Outline,
+    lists: &mut ChangeLists,
+    flash: &mut F,
+    book: &Book,
+    command: &Command,
+) -> Saved
+    requires can { CanKeep book.now saver.old outline.old (F.state flash.old) }
+    requires may { CanBeSaved book.now command.now }
+    requires lists { AreWhole lists.old }
+    ensures saves { (queue number : ℕ) (reply : Reply) (moment : ℕ) → IsTrue reply.applied → KeepsWrite book.now (completed queue number command.now reply moment) saver.old saver.new outline.new (F.state flash.old) (F.state flash.new) result }
+    ensures lists { AreWhole lists.new }
+{
+    book.known();
+    book.counted();
+    book.numbered();
+    let totals = book.totals();
+    outline.set_totals(totals);
+    let change = change_of(lists, book, outline.summary().generation, command);
+    let after = Totals {
+        position: totals.position + 1,
+        ..totals
+    };
+    let saved = save(saver, outline, flash, book, &change, &after);
+    keep_saved(outline, book, &change, after.position, saved);
+    give_back(lists, change);
+    saved
+}

@@ -1,0 +1,23 @@
+//! What a drive keeps to save itself, and the calls that save a change or the drive.
+#![tactic(auto)]
+
+mod change_lists;
+mod command;
+mod command_change;
+mod created;
+mod firm;
+mod keeper;
+mod kept_change;
+mod kinds;
+mod lists;
+mod move_change;
+mod moves;
+mod page_set;
+mod saved_move;
+mod saving;
+mod shut;
+mod targets;
+mod updated;
+mod write;
+
+pub use keeper::Keeper;

@@ -1,0 +1,36 @@
+ghost use Rattle.fdp_base.specs.declared.entry.Entry.TheVariants as entries;
+ghost use Rattle.fdp_keeper.specs.Keeper.{CanKeep, KeepsParts};
+
+use crate::saving::save;
+use fdp_base::Totals;
+use fdp_book::Book;
+use fdp_flash::Flash;
+use fdp_outline::Outline;
+use fdp_records::Change;
+use fdp_saving::{Saved, Saver};
+
+/// Saves that a handle was left without a unit in a group. The outline goes on with its event, whatever the answer.
+pub fn save_shut<F: Flash>(
+    saver: &mut Saver,
+    outline: &mut Outline,
+    flash: &mut F,
+    book: &Book,
+    rg: u16,
+    ruh: u8,
+) -> Saved
+    requires { CanKeep book.now saver.old outline.old (F.state flash.old) }
+    ensures { KeepsParts book.now (entries.Shut (record { rg = rg; ruh = ruh })) saver.old saver.new outline.new (F.state flash.old) (F.state flash.new) result }
+{
+    book.known();
+    book.counted();
+    let totals = book.totals();
+    outline.set_totals(totals);
+    let change = Change::Shut { rg, ruh };
+    let after = Totals {
+        position: totals.position + 1,
+        ..totals
+    };
+    let saved = save(saver, outline, flash, book, &change, &after);
+    outline.keep_shut(after.position, rg, ruh);
+    saved
+}
