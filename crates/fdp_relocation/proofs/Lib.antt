@@ -2,3 +2,8 @@ pub mod Moving
 pub mod Toil
 pub mod Telling
 pub mod Keeping
+pub mod Resting
+pub mod Erasing
+pub mod Kept
+pub mod Storing
+pub mod Ends

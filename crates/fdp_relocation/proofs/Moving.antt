@@ -1,7 +1,6 @@
 -- A pass that is ready to be moved, and what the flash holds after the move.
 use Rattle.std.proofs.Common.{◌≡◌, ℕ, ◌*◌, ◌<◌, List, Option, sym, ◌∙◌, ap, subst}
 use Rattle.fdp_base.specs.declared.config.Geometry.{Geometry}
-use Rattle.fdp_base.specs.declared.config.DriveConfig.{DriveConfig}
 use Rattle.fdp_base.specs.declared.entry.Entry.{Entry}
 use Rattle.fdp_base.specs.declared.entry.Entry.TheVariants as entries
 use Rattle.fdp_base.specs.declared.entry.Spot.{Spot}
@@ -9,13 +8,11 @@ use Rattle.fdp_collector.specs.Ready.{IsBlankBehind}
 use Rattle.fdp_flash.specs.declared.cell.Cell.{Cell}
 use Rattle.fdp_flash.specs.Cells.{IsBlankFrom}
 use Rattle.fdp_locations.specs.Stored.{HoldsWritten}
-use Rattle.fdp_locations.specs.Written.{Written, written_by}
-use Rattle.fdp_locations.proofs.Histories.{written_by-push}
-use Rattle.fdp_book.specs.Book.{BookSeen, point_in, written_in, first_in}
+use Rattle.fdp_locations.specs.Written.{Written}
+use Rattle.fdp_book.specs.Book.{BookSeen, point_in, written_in}
 use Rattle.fdp_book.specs.Relocating.{MovesPass}
 use Rattle.fdp_owners.specs.OwnerTable.{OwnerTable}
 use Rattle.fdp_pages.specs.Steps.{Recounts}
-use Rattle.fdp_rules.specs.History.{Found}
 use Rattle.fdp_rules.specs.Sites.{moved_blocks}
 use Rattle.fdp_units.specs.declared.data_unit.DataUnit.{DataUnit}
 use Rattle.fdp_units.specs.DataUnits.{is_lost}

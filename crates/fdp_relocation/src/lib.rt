@@ -1,4 +1,4 @@
-//! Relocation in a group of a drive, step by step, over its book and its flash.
+//! Relocation in a group of a drive, step by step, over its book, its flash, and what saves the drive.
 #![tactic(auto)]
 
 mod advance;
