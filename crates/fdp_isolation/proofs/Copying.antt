@@ -96,7 +96,7 @@ module _ (c : DriveConfig) (s : PlainState) (run es : List Entry) (t : PageTable
         is_unit = unit.is_unit;
         group = unit.group;
         stands = inl unit.stands;
-        pages = each-weaker c to.unit cells _ _ (λ x both. (both.0.0, both.1.0, both.1.1)) (each-both c to.unit cells _ _ (laned.units to.unit (data-unit c s t to.unit units unit.is_unit)).group.pages (laned.targets rg to.unit lane h.target));
+        pages = each-weaker c to.unit cells _ _ (λ x both. (both.0.0, both.1.0, both.1.1)) (each-both c to.unit cells _ _ (laned.units to.unit (data-unit c s t to.unit units unit.is_unit)).group.pages (laned.targets rg to.unit lane (data-unit c s t to.unit units unit.is_unit) h.target));
         targets = λ way other e ne. ap (λ (p : GroupPasses). target_at p way) (sym h.passes) ∙ e;
       }
 
@@ -125,17 +125,17 @@ module _ (c : DriveConfig) (s : PlainState) (run es : List Entry) (t : PageTable
       slot-one way lane (after.targets.apart (slot_of way) (slot_of lane) to.unit e opened.stands)
 
   -- the spare of the copy names the group of the new unit
-  pub copy-group : owner.spare.rg ≡ group_of c to.unit
-  copy-group =
+  pub copy-group : owner.spare.rg ≡ group_of c from.unit → owner.spare.rg ≡ group_of c to.unit
+  copy-group named =
       let old = emptied-unit (relocation_at t rg) t.owners t.handles.classes rg from.unit ready is_due.0 in
-      (laned.live from owner owned).1 ∙ group-same c s t from.unit units ∙ old.group ∙ sym is-opened.group ∙ sym (group-same c s t to.unit units)
+      named ∙ group-same c s t from.unit units ∙ old.group ∙ sym is-opened.group ∙ sym (group-same c s t to.unit units)
 
   -- its pages after the program
-  pub copied-pages : (now : List Cell) (bytes : List ℕ) → c.groups < 2 ^ 16 → generation < 2 ^ 32 → to.page < c.unit_pages → ProgramMayLeave (geometry_of c) cells to (data_spare owner.spare) bytes now → GoesWay c generation t.handles.classes now to.unit lane
-  copied-pages now bytes few low inside left =
+  pub copied-pages : (now : List Cell) (bytes : List ℕ) → (owner.spare.generation ≡ generation) × (owner.spare.rg ≡ group_of c from.unit) → c.groups < 2 ^ 16 → generation < 2 ^ 32 → to.page < c.unit_pages → ProgramMayLeave (geometry_of c) cells to (data_spare owner.spare) bytes now → GoesWay c generation t.handles.classes now to.unit lane
+  copied-pages now bytes named few low inside left =
       let below = group-below c to.unit (data-unit c s t to.unit units is-opened.is_unit) in
-      let group = copy-group in
-      let force : owner.spare.generation ≡ generation = (laned.live from owner owned).0 in
+      let group = copy-group named.1 in
+      let force : owner.spare.generation ≡ generation = named.0 in
       let says : Says (data_spare owner.spare) owner.spare = spare-says owner.spare (omega (arith, group, below, few)) (omega (arith, force, low)) in
       each-got c to.unit cells now _ (data_spare owner.spare) says.said (program-own c cells now to (data_spare owner.spare) bytes left inside) says.is (says.rg ∙ group, says.generation ∙ force, ap (λ (ruh : ℕ). lane_by t.handles.classes (record owner.spare { ruh = ruh })) says.ruh) is-opened.pages
 

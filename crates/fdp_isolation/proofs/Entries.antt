@@ -1,26 +1,24 @@
 -- What further entries leave of the generation in force, and what they tell of units.
-use Rattle.std.proofs.Common.{◌≡◌, ◌⊎◌, ℕ, Bool, true, false, ◌&&◌, ◌||◌, List, [], ◌∷◌, ◌++◌, refl, sym, ◌∙◌, ap, subst, inl, inr}
-use Rattle.std.specs.Prelude.{IsTrue, if◌then◌else◌}
+use Rattle.std.proofs.Common.{◌≡◌, ◌⊎◌, ℕ, Bool, true, false, ◌||◌, List, [], ◌∷◌, ◌++◌, refl, sym, ◌∙◌, ap, subst, inl, inr}
+use Rattle.std.specs.Prelude.{◌&&◌, IsTrue, if◌then◌else◌}
 use Rattle.std.specs.List.{list_any}
 use Rattle.std.proofs.lemmas.List.Folds.{list_any-append}
 use Rattle.fdp_base.specs.declared.command.Command.{Command}
-use Rattle.fdp_base.specs.declared.command.Command.TheVariants as commands
 use Rattle.fdp_base.specs.declared.config.DriveConfig.{DriveConfig}
 use Rattle.fdp_base.specs.declared.entry.Entry.{Entry}
 use Rattle.fdp_base.specs.declared.entry.Entry.TheVariants as entries
 use Rattle.fdp_base.specs.declared.entry.Reply.{Reply}
-use Rattle.fdp_base.specs.CommandKinds.{is_setting, is_write}
+use Rattle.fdp_base.specs.CommandKinds.{is_write}
 use Rattle.fdp_book.specs.Book.{BookSeen, IsLonger, point_in, state_in}
 use Rattle.fdp_base.specs.EntryKinds.{empties, puts_into}
 use Rattle.fdp_history.specs.Orderly.{IsOrderly}
 use Rattle.fdp_history.proofs.Effects.{fewer-going}
 use Rattle.fdp_isolation.specs.Isolated.{before_erase, sets_placement, since_setting}
+use Rattle.fdp_locations.proofs.Grouped.{generation-next}
 use Rattle.fdp_pointers.specs.Facts.{HasOnlyPlaced}
 use Rattle.fdp_pointers.proofs.Unplaced.{only-placed-next}
 use Rattle.fdp_rules.specs.Change.{after, changed_by}
-use Rattle.fdp_rules.specs.Effect.{effect_of}
 use Rattle.fdp_rules.specs.Next.{next}
-use Rattle.fdp_rules.specs.PlainState.{PlainState}
 use Rattle.fdp_rules.specs.Point.{Point}
 use Rattle.fdp_rules.specs.Sites.{traced_by}
 use Rattle.fdp_rules.specs.Step.{Follows}
@@ -28,6 +26,10 @@ use Rattle.fdp_book.proofs.Longer.{point-none, point-one}
 
 pub no : true ≡ false → ⊥
 no e = cc
+
+pub and-false : (b : Bool) → (b && false) ≡ false
+and-false true = refl
+and-false false = refl
 
 -- ---- the entries since another configuration came in force
 
@@ -56,45 +58,18 @@ since-more (e ∷ es) more quiet =
       cases rest true = rest
       cases rest false = refl
 
--- ---- the generation in force
+or-true : (a b : Bool) → b ≡ true → (a || b) ≡ true
+or-true true b e = refl
+or-true false b e = e
 
-effect-generation : (c : DriveConfig) (s : PlainState) (queue : ℕ) (command : Command) → is_setting command ≡ false → (effect_of c s queue command).generation ≡ s.generation
-unfolding effect_of
-effect-generation c s queue (commands.Write w) other = refl
-effect-generation c s queue (commands.Read r) other = refl
-effect-generation c s queue (commands.Zero z) other = refl
-effect-generation c s queue (commands.Dealloc d) other = refl
-effect-generation c s queue (commands.Flush f) other = refl
-effect-generation c s queue (commands.Delete d) other = refl
-effect-generation c s queue (commands.Status status) other = refl
-effect-generation c s queue (commands.Update u) other = refl
-effect-generation c s queue (commands.Log l) other = refl
-effect-generation c s queue (commands.SetFdp set) other = absurd (no other)
-effect-generation c s queue (commands.GetFdp g) other = refl
-effect-generation c s queue (commands.SetEvents set) other = refl
-effect-generation c s queue (commands.Create create) other = refl
-effect-generation c s queue (commands.Other o) other = refl
-
-made-generation : (c : DriveConfig) (s : PlainState) (queue : ℕ) (command : Command) (made : Bool) → (is_setting command && made) ≡ false → (if made then effect_of c s queue command else s).generation ≡ s.generation
-made-generation c s queue command false other = refl
-made-generation c s queue command true other = effect-generation c s queue command (first (is_setting command) other) where
-  first : (b : Bool) → (b && true) ≡ false → b ≡ false
-  first true e = absurd (no e)
-  first false e = refl
-
-pub generation-next : (c : DriveConfig) (p : Point) (e : Entry) → sets_placement e ≡ false → (next c p e).state.generation ≡ p.state.generation
-unfolding next after changed_by
-generation-next c p (entries.Host h) other = made-generation c p.state h.queue h.command h.reply.applied other
-generation-next c p (entries.Started s) other = refl
-generation-next c p (entries.Placed placed) other = refl
-generation-next c p (entries.Copied copied) other = refl
-generation-next c p (entries.Moved m) other = refl
-generation-next c p (entries.Erased e) other = refl
-generation-next c p (entries.Retired r) other = refl
-generation-next c p (entries.Aside a) other = refl
-generation-next c p (entries.Shut s) other = refl
-generation-next c p (entries.Worn w) other = refl
-generation-next c p entries.Reopened other = refl
+-- behind an entry that puts one in force there are none
+pub since-set : (es : List Entry) (e : Entry) → sets_placement e ≡ true → since_setting (es ++ e ∷ []) ≡ []
+unfolding since_setting
+since-set [] e set = ap (λ (b : Bool). if b || false then [] else e ∷ []) set
+since-set (x ∷ xs) e set =
+    let some : list_any sets_placement ((x ∷ xs) ++ e ∷ []) ≡ true =
+    list_any-append sets_placement (x ∷ xs) (e ∷ []) ∙ or-true (list_any sets_placement (x ∷ xs)) (list_any sets_placement (e ∷ [])) (ap (λ (b : Bool). b || false) set) in
+    ap (λ (b : Bool). if b then since_setting (xs ++ e ∷ []) else x ∷ xs ++ e ∷ []) some ∙ since-set xs e set
 
 -- ---- a book with further entries
 

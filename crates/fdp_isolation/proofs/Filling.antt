@@ -68,7 +68,7 @@ handle-pages c s generation run es t cells rg ruh spot units joined blank kept i
   cases (Some unit) e h =
       let own : unit_of t rg ruh ≡ Some spot.unit = e ∙ ap (λ (u : ℕ). Some u) (sym h.0) in
       let group = (laned.units spot.unit (data-unit c s t spot.unit units is)).group in
-      each-weaker c spot.unit cells _ _ (λ x both. (both.0.0, both.1.0, both.1.1)) (each-both c spot.unit cells _ _ group.pages (laned.filled rg ruh spot.unit own))
+      each-weaker c spot.unit cells _ _ (λ x both. (both.0.0, both.1.0, both.1.1)) (each-both c spot.unit cells _ _ group.pages (laned.filled rg ruh spot.unit (data-unit c s t spot.unit units is) own))
 
 -- after it
 pub filled-pages : (c : DriveConfig) (generation : ℕ) (cells now : List Cell) (spot : Spot) (x : DataSpare) (bytes : List ℕ) → x.rg ≡ group_of c spot.unit → x.rg < 2 ^ 16 → x.generation ≡ generation → generation < 2 ^ 32 → spot.page < c.unit_pages

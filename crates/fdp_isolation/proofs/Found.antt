@@ -1,6 +1,6 @@
 -- What is kept apart when an image was opened whose data stands apart.
-use Rattle.std.proofs.Common.{◌≡◌, ℕ, zero, suc, Bool, true, false, List, [], ◌∷◌, Option, Some, None, refl, sym, ◌∙◌, ap, subst, arith, inl, inr, ⊎_elim, slice_get, eq-eqb}
-use Rattle.std.specs.Prelude.{◌==◌, IsTrue, not, slice_index_or}
+use Rattle.std.proofs.Common.{◌≡◌, ℕ, zero, suc, Bool, true, false, List, [], ◌∷◌, Option, Some, None, find, refl, sym, ◌∙◌, ap, subst, arith, inl, inr, ⊎_elim, slice_get, eq-eqb}
+use Rattle.std.specs.Prelude.{◌==◌, Contains, IsTrue, if◌then◌else◌, not, option_map, slice_index_or}
 use Rattle.std.specs.List.{list_any}
 use Rattle.std.specs.Option.{option_map_or}
 use Rattle.fdp_base.specs.declared.config.Class.{Class}
@@ -15,39 +15,51 @@ use Rattle.fdp_base.specs.EntryKinds.{puts_into}
 use Rattle.fdp_base.specs.Numbers.{numbers_below}
 use Rattle.fdp_base.specs.Placement.{classes_of, geometry_of}
 use Rattle.fdp_book.specs.Book.{BookSeen}
+use Rattle.fdp_book.specs.Reopened.{IsReopened}
 use Rattle.fdp_flash.specs.declared.cell.Cell.{Cell}
 use Rattle.fdp_flash.specs.Layout.{page_number}
-use Rattle.fdp_found.specs.Finding.{found_in}
+use Rattle.fdp_found.specs.Finding.{block_found, found_blocks, found_in}
+use Rattle.fdp_found.proofs.Blocks.{blocks-find, blocks-stand, found-read}
+use Rattle.fdp_found.proofs.Leading.{stands-on}
 use Rattle.fdp_found.specs.Opened.{AreOpened, owner_found}
-use Rattle.fdp_found.proofs.Paging.{IsHeld, all-numbers, any-number, held-of, spot-back}
+use Rattle.fdp_found.proofs.Paging.{IsHeld, all-numbers, any-number, held-of, number-back, spot-back}
 use Rattle.fdp_found.proofs.Pointing.{IsOwnerOf, owner-names, owner-of}
-use Rattle.fdp_found.proofs.Reading.{Names}
+use Rattle.fdp_found.proofs.Reading.{Names, page-lies}
 use Rattle.fdp_found.proofs.Stating.{lie-within}
 use Rattle.fdp_image.specs.CheckpointFields.{is_persistent}
-use Rattle.fdp_image.specs.Isolation.{EachPage, IsIsolated, IsIsolatedImage, keeps_apart}
+use Rattle.fdp_image.specs.Isolation.{EachPage, IsGrouped, IsIsolated, IsIsolatedImage, keeps_apart}
 use Rattle.fdp_image.specs.Outline.{state_with}
-use Rattle.fdp_image.specs.Reading.{Reading, has_page, size_in}
+use Rattle.fdp_image.specs.Reading.{Reading, has_page, size_in, spot_of}
 use Rattle.fdp_image.specs.Roomy.{holds_block, is_blank_unit, is_unused, page_in}
+use Rattle.fdp_image.specs.Saving.{SameDataPages}
 use Rattle.fdp_image.specs.Valid.{IsValid, state_in}
 use Rattle.fdp_isolation.specs.Alone.{AreLeftAlone, gets_none}
-use Rattle.fdp_isolation.specs.Begun.{HasBegun, IsOpening}
+use Rattle.fdp_isolation.specs.Begun.{OpenedApart}
 use Rattle.fdp_isolation.specs.Isolated.{before_erase, since_setting}
 use Rattle.fdp_isolation.specs.Laned.{AreLaned, GoOneWay, IsKeptApart, IsLaned, IsTaken, lane_by}
 use Rattle.fdp_isolation.proofs.Alike.{laned-by}
 use Rattle.fdp_isolation.proofs.Entries.{put-whole}
+use Rattle.fdp_isolation.proofs.Saved.{alone-saved, laned-saved}
 use Rattle.fdp_owners.specs.declared.owner.Owner.{Owner}
 use Rattle.fdp_owners.specs.OwnerTable.{owner_at}
 use Rattle.fdp_pages.specs.PageTables.{PageTables}
 use Rattle.fdp_passes.specs.GroupPasses.{lane_of}
 use Rattle.fdp_pointers.specs.Facts.{HasOnlyPlaced}
 use Rattle.fdp_pointers.proofs.Rows.{not-true}
-use Rattle.fdp_pointers.proofs.Unplaced.{only-placed-first}
 use Rattle.fdp_rules.specs.Change.{after, changed_by}
-use Rattle.fdp_rules.specs.History.{first_state, point_of, state_of}
-use Rattle.fdp_rules.specs.PlainState.{Reference}
+use Rattle.fdp_rules.specs.History.{Found, FoundBlock, first_state, found_block, point_of, state_of}
+use Rattle.fdp_rules.specs.PlainState.{Block, PageName, Reference}
 use Rattle.fdp_rules.specs.Room.{namespace_ids}
 use Rattle.fdp_rules.specs.Sites.{group_of}
-use Rattle.fdp_rules.specs.Step.{IsDataUnit}
+use Rattle.fdp_rules.specs.Step.{IsDataUnit, IsPage}
+
+-- what a search finds is among what it searches
+find-contains : {X : Type 0} (test : X → Bool) (xs : List X) (x : X) → find test xs ≡ Some x → Contains xs x
+find-contains test [] x e = absurd cc
+find-contains {X} test (y ∷ ys) x e = of (test y) (find-contains test ys x) e where
+  of : (b : Bool) → (find test ys ≡ Some x → Contains ys x) → (if b then Some y else find test ys) ≡ Some x → Contains (y ∷ ys) x
+  of true more same = (zero, omega arith, cc)
+  of false more rest = let has = more rest in (suc has.0, omega (arith, has.1), has.2)
 
 -- ---- handles and their ways
 
@@ -85,28 +97,77 @@ module _ (c : DriveConfig) (cells : List Cell) (r : Reading) (config : IsValidCo
   owned-group : (spot : Spot) (x : Owner) → IsOwned spot x → x.spare.rg ≡ group_of c spot.unit
   owned-group spot x o = o.names.group ∙ ap (λ (s : Spot). group_of c s.unit) (spot-back c spot o.held.page.1)
 
-  -- it holds a block, so its unit is used
-  holds-owned : (spot : Spot) (x : Owner) → (o : IsOwned spot x) → holds_block c r spot ≡ true
+  -- a page where a block stands holds one, so its unit is used
+  holds-at : (nsid lba page : ℕ) → r.pages nsid lba ≡ Some page → holds_block c r (spot_of c page) ≡ true
   unfolding namespace_ids
-  holds-owned spot x o =
-      let n : ℕ = page_number (geometry_of c) spot in
-      let s : DataSpare = o.of.page.spare in
+  holds-at nsid lba page there =
+      let n : ℕ = page_number (geometry_of c) (spot_of c page) in
       let within = lie-within c cells r valid in
-      let id = within.ids s.nsid s.lba n o.of.there in
-      let has : has_page r n s.nsid s.lba ≡ true = ap (λ (p : Option ℕ). option_map_or (λ k. k == n) p false) o.of.there ∙ eq-eqb n n refl in
-      any-number (λ nsid. list_any (has_page r n nsid) (numbers_below (size_in r nsid))) 1 16 s.nsid id.0 (omega (arith, id.1))
-      (any-number (has_page r n s.nsid) 0 (size_in r s.nsid) s.lba (omega arith) (omega (arith, within.addresses s.nsid s.lba n o.of.there)) has)
+      let id = within.ids nsid lba page there in
+      let has : has_page r n nsid lba ≡ true = ap (λ (p : Option ℕ). option_map_or (λ k. k == n) p false) there ∙ eq-eqb page n (sym (number-back c page)) in
+      any-number (λ m. list_any (has_page r n m) (numbers_below (size_in r m))) 1 16 nsid id.0 (omega (arith, id.1))
+      (any-number (has_page r n nsid) 0 (size_in r nsid) lba (omega arith) (omega (arith, within.addresses nsid lba page there)) has)
 
-  used-owned : (spot : Spot) (x : Owner) → IsOwned spot x → is_unused c r spot.unit ≡ false
-  used-owned spot x o = not-true (is_unused c r spot.unit) (λ unused.
-      let none = all-numbers (λ page. not (holds_block c r (page_in spot.unit page))) 0 c.unit_pages unused spot.page (omega arith) (omega (arith, o.held.page.1)) in
-      no (ap not (sym (holds-owned spot x o)) ∙ none)) where
+  data-page : (nsid lba page : ℕ) → r.pages nsid lba ≡ Some page → IsPage c (spot_of c page)
+  data-page nsid lba page there = page-lies c page config (valid.blocks nsid lba page there).data_page
+
+  pub used-at : (nsid lba page : ℕ) → r.pages nsid lba ≡ Some page → is_unused c r (spot_of c page).unit ≡ false
+  used-at nsid lba page there = not-true (is_unused c r (spot_of c page).unit) (λ unused.
+      let none = all-numbers (λ k. not (holds_block c r (page_in (spot_of c page).unit k))) 0 c.unit_pages unused (spot_of c page).page (omega arith) (omega (arith, (data-page nsid lba page there).1)) in
+      no (ap not (sym (holds-at nsid lba page there)) ∙ none)) where
         no : false ≡ true → ⊥
         no e = cc
 
+  -- the unit of each block is isolated
+  abbrev IsolatesBlocks : Type 0
+  IsolatesBlocks = (nsid lba page : ℕ) → r.pages nsid lba ≡ Some page → IsIsolated c (state_in c cells r) cells (spot_of c page).unit
+
+  isolated-blocks : IsIsolatedImage c cells r → IsolatesBlocks
+  isolated-blocks image nsid lba page there = image.apart (spot_of c page).unit (data-page nsid lba page there).0 (used-at nsid lba page there)
+
+  -- ---- what was found keeps data apart
+
+  as-found : (unit : ℕ) → IsIsolated c (state_in c cells r) cells unit → IsIsolated c (first_state c (found_in c cells r)) cells unit
+  unfolding first_state state_in state_with
+  as-found unit h = record { generation = h.generation; alone = h.alone }
+
+  as-read : (unit : ℕ) → IsIsolated c (first_state c (found_in c cells r)) cells unit → IsIsolated c (state_in c cells r) cells unit
+  unfolding first_state state_in state_with
+  as-read unit h = record { generation = h.generation; alone = h.alone }
+
+  page-of : (o : Option ℕ) (spot : Spot) → option_map (spot_of c) o ≡ Some spot → (page : ℕ) × (o ≡ Some page) × (spot_of c page ≡ spot)
+  page-of None spot e = absurd cc
+  page-of (Some page) spot e = (page, refl, cc)
+
+  pub image-apart : IsIsolatedImage c cells r → OpenedApart c (found_in c cells r) cells
+  image-apart image = record {
+    grouped = image.grouped;
+    apart = λ unit is x among same.
+        let stands : option_map (spot_of c) (r.pages x.nsid x.lba) ≡ Some x.spot = subst (λ (y : FoundBlock). option_map (spot_of c) (r.pages y.nsid y.lba) ≡ Some y.spot) among.2 (blocks-stand c cells r among.0 _ among.1) in
+        let at = page-of (r.pages x.nsid x.lba) x.spot stands in
+        as-found unit (subst (IsIsolated c (state_in c cells r) cells) (ap (λ (y : Spot). y.unit) at.2 ∙ same) (isolated-blocks image x.nsid x.lba at.0 at.1));
+  }
+
+  found-there : (o : Option FoundBlock) (b : Block) → option_map found_block o ≡ Some b → (x : FoundBlock) × (o ≡ Some x) × (found_block x ≡ b)
+  found-there None b e = absurd cc
+  found-there (Some x) b e = (x, refl, cc)
+
+  same-spot : (x : FoundBlock) (b : Block) (spot : Spot) → found_block x ≡ b → b.page ≡ PageName.found spot → x.spot ≡ spot
+  same-spot x b spot e page = let both : PageName.found x.spot ≡ PageName.found spot = ap (λ (y : Block). y.page) e ∙ page in cc
+
+  pub found-isolates : OpenedApart c (found_in c cells r) cells → IsolatesBlocks
+  found-isolates apart nsid lba page there =
+      let on = stands-on c cells r valid nsid lba page there in
+      let block = found-there (block_found c cells r nsid lba) _ (found-read c cells r nsid lba ∙ on.read) in
+      let spot : block.0.spot ≡ spot_of c page = same-spot block.0 _ (spot_of c page) block.2 refl in
+      as-read (spot_of c page).unit
+      (apart.apart (spot_of c page).unit (data-page nsid lba page there).0 block.0
+      (find-contains _ (found_blocks c cells r) block.0 (blocks-find c cells r (lie-within c cells r valid) nsid lba ∙ block.1))
+      (ap (λ (y : Spot). y.unit) spot))
+
   -- ---- each unit is kept apart
 
-  module _ (es : List Entry) (none : (unit : ℕ) → list_any (puts_into unit) es ≡ false) (t : PageTables) (opened : AreOpened c cells r t) (image : IsIsolatedImage c cells r) where
+  module _ (es : List Entry) (none : (unit : ℕ) → list_any (puts_into unit) es ≡ false) (t : PageTables) (opened : AreOpened c cells r t) (grouped : IsGrouped c cells) (isolates : IsolatesBlocks) where
     owner-in : (spot : Spot) (x : Owner) → owner_at t.owners spot ≡ Some x → IsOwned spot x
     owner-in spot x e = owned-of spot x (sym (opened.owners spot) ∙ e)
 
@@ -116,7 +177,7 @@ module _ (c : DriveConfig) (cells : List Cell) (r : Reading) (config : IsValidCo
       no e = cc
 
     isolated-at : (unit : ℕ) → IsDataUnit c unit → (spot : Spot) (x : Owner) → IsOwned spot x → spot.unit ≡ unit → IsIsolated c (state_in c cells r) cells unit
-    isolated-at unit is spot x o same = image.apart unit is (ap (is_unused c r) (sym same) ∙ used-owned spot x o)
+    isolated-at unit is spot x o same = subst (IsIsolated c (state_in c cells r) cells) (ap (λ (y : Spot). y.unit) (spot-back c spot o.held.page.1) ∙ same) (isolates o.of.page.spare.nsid o.of.page.spare.lba (page_number (geometry_of c) spot) o.of.there)
 
     -- the page of an owner among those of its unit
     own-page : (unit : ℕ) (Fact : DataSpare → Type 0) → EachPage c cells unit Fact → (spot : Spot) (x : Owner) → IsOwned spot x → spot.unit ≡ unit → Fact x.spare
@@ -127,11 +188,11 @@ module _ (c : DriveConfig) (cells : List Cell) (r : Reading) (config : IsValidCo
           one : {a b : DataSpare} → Some a ≡ Some b → a ≡ b
           one e = cc
 
-    group-force : (unit : ℕ) (is : IsDataUnit c unit) → IsTaken t es unit → (image.grouped unit is).generation ≡ r.generation
+    group-force : (unit : ℕ) (is : IsDataUnit c unit) → IsTaken t es unit → (grouped unit is).generation ≡ r.generation
     group-force unit is (inr put) = absurd (never-put unit put)
     group-force unit is (inl owned) =
         let o = owner-in owned.0 owned.1 owned.2 in
-        sym (own-page unit _ (image.grouped unit is).pages owned.0 owned.1 o owned.3).1 ∙ o.names.generation
+        sym (own-page unit _ (grouped unit is).pages owned.0 owned.1 o owned.3).1 ∙ o.names.generation
 
     goes-way : (unit : ℕ) → IsDataUnit c unit → IsTaken t es unit → GoOneWay c t.handles.classes cells unit
     unfolding state_in state_with
@@ -164,7 +225,7 @@ module _ (c : DriveConfig) (cells : List Cell) (r : Reading) (config : IsValidCo
 
     apart-opened : (unit : ℕ) → IsDataUnit c unit → IsKeptApart c r.generation t.handles.classes cells unit (IsTaken t es unit)
     apart-opened unit is = record {
-      group = image.grouped unit is;
+      group = grouped unit is;
       past = λ taken. let same = group-force unit is taken in omega (arith, same);
       way = λ taken force. goes-way unit is taken;
     }
@@ -172,10 +233,9 @@ module _ (c : DriveConfig) (cells : List Cell) (r : Reading) (config : IsValidCo
     laned-opened : IsLaned c r.generation es (since_setting es) t cells
     laned-opened = record {
       units = apart-opened;
-      filled = λ rg ruh unit e. absurd (never (sym (ap (λ (x : Reference). x.unit) (opened.handles.references rg ruh)) ∙ e));
-      targets = λ rg unit lane e. absurd (never (sym ((opened.passes rg).targets lane) ∙ e));
-      put = λ unit put. absurd (never-put unit (put-whole unit es put));
-      live = λ spot x e. let o = owner-in spot x e in (o.names.generation, owned-group spot x o);
+      filled = λ rg ruh unit is e. absurd (never (sym (ap (λ (x : Reference). x.unit) (opened.handles.references rg ruh)) ∙ e));
+      targets = λ rg unit lane is e. absurd (never (sym ((opened.passes rg).targets lane) ∙ e));
+      put = λ unit is put. absurd (never-put unit (put-whole unit es put));
     } where
       never : {X : Type 0} {x : X} → None ≡ Some x → ⊥
       never e = cc
@@ -183,10 +243,6 @@ module _ (c : DriveConfig) (cells : List Cell) (r : Reading) (config : IsValidCo
 -- ---- books
 
 module _ (c : DriveConfig) (cells : List Cell) (r : Reading) where
-  generation-first : (point_of c (found_in c cells r) []).state.generation ≡ r.generation
-  unfolding point_of state_of first_state
-  generation-first = refl
-
   generation-opened : (point_of c (found_in c cells r) (entries.Reopened ∷ [])).state.generation ≡ r.generation
   unfolding point_of state_of first_state after changed_by
   generation-opened = refl
@@ -195,34 +251,29 @@ module _ (c : DriveConfig) (cells : List Cell) (r : Reading) where
   unfolding point_of state_of first_state after changed_by
   placed-opened queue index g spot going site = absurd cc
 
-pub laned-found : (c : DriveConfig) (cells : List Cell) (r : Reading) (b : BookSeen) → IsValidConfig c → IsValid c cells r → IsIsolatedImage c cells r → HasBegun c cells r b → AreLaned b cells
-laned-found c cells r b config valid image begun = of begun.entries_are where
-  by : (es : List Entry) → b.entries ≡ es → ((unit : ℕ) → list_any (puts_into unit) es ≡ false) → (point_of c (found_in c cells r) es).state.generation ≡ r.generation → HasOnlyPlaced (point_of c (found_in c cells r) es) → AreLaned b cells
-  by es is none generation placed = laned-by b cells c (found_in c cells r) es begun.config_is begun.found_is is (record {
-    laned = subst (λ (g : ℕ). IsLaned c g es (since_setting es) b.pages cells) (sym generation) (laned-opened c cells r config valid es none b.pages begun.pages_are image);
-    placed = placed;
-  })
-
-  of : IsOpening b.entries → AreLaned b cells
-  of (inl is) = by [] is (λ unit. refl) (generation-first c cells r) (only-placed-first c (found_in c cells r))
-  of (inr is) = by (entries.Reopened ∷ []) is (λ unit. refl) (generation-opened c cells r) (placed-opened c cells r)
+-- and cells whose data pages are those that were opened
+pub laned-found : (c : DriveConfig) (opened : List Cell) (r : Reading) (b : BookSeen) (cells : List Cell) → IsValidConfig c → IsValid c opened r → IsReopened c opened r b → OpenedApart c b.found opened → SameDataPages c opened cells → AreLaned b cells
+laned-found c opened r b cells config valid begun apart same =
+    let es : List Entry = entries.Reopened ∷ [] in
+    let was : OpenedApart c (found_in c opened r) opened = subst (λ (f : Found). OpenedApart c f opened) begun.found_is apart in
+    laned-saved b opened cells (subst (λ (d : DriveConfig). SameDataPages d opened cells) (sym begun.config_is) same)
+    (laned-by b opened c (found_in c opened r) es begun.config_is begun.found_is begun.entries_are
+    (record {
+      laned = subst (λ (g : ℕ). IsLaned c g es (since_setting es) b.pages opened) (sym (generation-opened c opened r))
+          (laned-opened c opened r config valid es (λ unit. refl) b.pages begun.pages_are was.grouped (found-isolates c opened r config valid was));
+      placed = placed-opened c opened r;
+    }))
 
 -- ---- units that had been used
 
-since-opening : (b : BookSeen) → IsOpening b.entries → IsOpening (since_setting b.entries)
-unfolding since_setting
-since-opening b (inl is) = inl (ap since_setting is)
-since-opening b (inr is) = inr (ap since_setting is)
+none-put : (unit : ℕ) → list_any (puts_into unit) (before_erase unit (since_setting (entries.Reopened ∷ []))) ≡ false
+unfolding before_erase since_setting
+none-put unit = refl
 
-none-put : (unit : ℕ) (es : List Entry) → IsOpening es → list_any (puts_into unit) (before_erase unit es) ≡ false
-unfolding before_erase
-none-put unit es (inl is) = ap (λ (xs : List Entry). list_any (puts_into unit) (before_erase unit xs)) is
-none-put unit es (inr is) = ap (λ (xs : List Entry). list_any (puts_into unit) (before_erase unit xs)) is
-
-pub alone-found : (c : DriveConfig) (cells : List Cell) (r : Reading) (b : BookSeen) → HasBegun c cells r b → AreLeftAlone cells b cells
-alone-found c cells r b begun unit is used = record {
+alone-first : (c : DriveConfig) (cells : List Cell) (r : Reading) (b : BookSeen) → IsReopened c cells r b → AreLeftAlone cells b cells
+alone-first c cells r b begun unit is used = record {
   none = record {
-    none_put = none-put unit (since_setting b.entries) (since-opening b begun.entries_are);
+    none_put = ap (λ (es : List Entry). list_any (puts_into unit) (before_erase unit (since_setting es))) begun.entries_are ∙ none-put unit;
     none_programmed = λ kept page low. inl refl;
   };
   stands = λ kept. ⊎_elim
@@ -232,3 +283,6 @@ alone-found c cells r b begun unit is used = record {
 } where
   no : true ≡ false → ⊥
   no e = cc
+
+pub alone-found : (c : DriveConfig) (opened : List Cell) (r : Reading) (b : BookSeen) (cells : List Cell) → IsReopened c opened r b → SameDataPages c opened cells → AreLeftAlone opened b cells
+alone-found c opened r b cells begun same = alone-saved b opened cells (subst (λ (d : DriveConfig). SameDataPages d opened cells) (sym begun.config_is) same) opened (alone-first c opened r b begun)

@@ -1,5 +1,5 @@
 -- What a step keeps apart, by what it does to the tables and to the cells.
-use Rattle.std.proofs.Common.{◌≡◌, ◌≢◌, ◌⊎◌, ℕ, false, List, ◌++◌, Option, Some, sym, ◌∙◌, ap, arith, inl, inr, subst, ⊎_elim}
+use Rattle.std.proofs.Common.{◌≡◌, ◌≢◌, ◌⊎◌, ℕ, ◌+◌, false, List, [], ◌++◌, Some, None, sym, ◌∙◌, ap, arith, inl, inr, subst, ⊎_elim}
 use Rattle.std.specs.Prelude.{IsTrue, slice_index_or}
 use Rattle.std.specs.List.{list_any}
 use Rattle.std.proofs.lemmas.Bool.{cases_eq}
@@ -10,23 +10,24 @@ use Rattle.fdp_base.specs.declared.entry.Spot.{Spot}
 use Rattle.fdp_base.specs.EntryKinds.{puts_into}
 use Rattle.fdp_book.specs.Book.{BookSeen, IsLonger, state_in}
 use Rattle.fdp_flash.specs.declared.cell.Cell.{Cell}
-use Rattle.fdp_handles.specs.HandleTable.{HandleTable, reference_at}
+use Rattle.fdp_handles.specs.HandleTable.{HandleTable, blank, reference_at}
 use Rattle.fdp_image.specs.Isolation.{EachPage}
 use Rattle.fdp_isolation.specs.Isolated.{since_setting}
 use Rattle.fdp_isolation.specs.Laned.{AreLaned, IsKeptApart, IsLaned, IsTaken, lane_by}
-use Rattle.fdp_isolation.proofs.Entries.{IsQuietStep, put-before, since-longer}
+use Rattle.fdp_isolation.proofs.Entries.{IsQuietStep, no, put-before, since-longer}
 use Rattle.fdp_isolation.proofs.Pages.{KeepsPages, each-both, each-kept}
 use Rattle.fdp_owners.specs.declared.owner.Owner.{Owner}
 use Rattle.fdp_owners.specs.OwnerTable.{owner_at}
 use Rattle.fdp_pages.specs.PageTables.{PageTables, no_passes, passes_at, unit_of}
-use Rattle.fdp_pages.specs.Steps.{ChangesOwners}
+use Rattle.fdp_pages.specs.Steps.{ChangesOwners, LeavesUnits, SetsClasses}
 use Rattle.fdp_passes.specs.declared.lane.Lane.{Lane}
 use Rattle.fdp_passes.specs.GroupPasses.{GroupPasses, target_at}
+use Rattle.fdp_rules.specs.PlainState.{Reference}
 use Rattle.fdp_rules.specs.Sites.{group_of}
+use Rattle.fdp_rules.specs.Step.{IsDataUnit}
 
--- each owner knows the generation in force, and the group of its page
-abbrev pub AreInForce : DriveConfig → ℕ → (Spot → Option Owner) → Type 0
-AreInForce c generation owners = (spot : Spot) (x : Owner) → owners spot ≡ Some x → (x.spare.generation ≡ generation) × (x.spare.rg ≡ group_of c spot.unit)
+pub nothing : (unit : ℕ) → None ≡ Some unit → ⊥
+nothing unit e = cc
 
 -- no further unit is filled by a handle, or gets copies
 pub record FillsNoMore (t now : PageTables) : Type 0 where
@@ -41,6 +42,29 @@ owners-fill t now h = record {
   filled = λ rg ruh unit e. ap (λ (x : HandleTable). (reference_at x rg ruh).unit) (sym h.handles) ∙ e;
   targets = λ rg unit lane e. ap (λ (xs : List GroupPasses). target_at (slice_index_or xs rg no_passes) lane) (sym h.passes) ∙ e;
 }
+
+-- where units are left, and the classes stay
+pub left-fill : (t now : PageTables) → LeavesUnits t now → now.handles.classes ≡ t.handles.classes → FillsNoMore t now
+left-fill t now h classes = record {
+  classes = classes;
+  filled = λ rg ruh unit e. ⊎_elim
+      (λ (same : reference_at now.handles rg ruh ≡ reference_at t.handles rg ruh). ap (λ (x : Reference). x.unit) (sym same) ∙ e)
+      (λ (none : reference_at now.handles rg ruh ≡ blank t.units.unit_pages). absurd (nothing unit (ap (λ (x : Reference). x.unit) (sym none) ∙ e)))
+      (h.handles rg ruh);
+  targets = λ rg unit lane e. ⊎_elim
+      (λ (same : target_at (passes_at now rg) lane ≡ target_at (passes_at t rg) lane). sym same ∙ e)
+      (λ (none : target_at (passes_at now rg) lane ≡ None). absurd (nothing unit (sym none ∙ e)))
+      (h.targets rg lane);
+}
+
+-- no unit is filled by a handle, or gets copies
+pub record FillsNone (t : PageTables) : Type 0 where
+  pub filled : (rg ruh : ℕ) → unit_of t rg ruh ≡ None
+  pub targets : (rg : ℕ) (lane : Lane) → target_at (passes_at t rg) lane ≡ None
+
+-- so it is where handles of other classes come in force
+pub set-none : (t now : PageTables) (classes : List Class) → SetsClasses t now classes → FillsNone now
+set-none t now classes h = record { filled = λ rg ruh. ap (λ (x : Reference). x.unit) (h.references rg ruh); targets = h.targets }
 
 -- no further unit is taken
 abbrev pub TakesNoMore : PageTables → PageTables → List Entry → List Entry → Type 0
@@ -57,18 +81,34 @@ apart-kept c generation classes old new unit was is keeps taken h = record {
 module _ (c : DriveConfig) (generation : ℕ) (run later es more : List Entry) (t now : PageTables) (old new : List Cell) where
   -- ---- no page is put
 
-  pub laned-kept : FillsNoMore t now → TakesNoMore t now run later → ((unit : ℕ) → KeepsPages c old new unit) → ((unit : ℕ) → IsTrue (list_any (puts_into unit) more) → IsTrue (list_any (puts_into unit) es)) → AreInForce c generation (owner_at now.owners)
+  pub laned-kept : FillsNoMore t now → TakesNoMore t now run later → ((unit : ℕ) → IsDataUnit c unit → KeepsPages c old new unit) → ((unit : ℕ) → IsTrue (list_any (puts_into unit) more) → IsTrue (list_any (puts_into unit) es))
       → IsLaned c generation run es t old → IsLaned c generation later more now new
-  laned-kept fills taken keeps puts live h = record {
+  laned-kept fills taken keeps puts h = record {
     units = λ unit is.
         subst (λ (classes : List Class). IsKeptApart c generation classes new unit (IsTaken now later unit)) (sym fills.classes)
-        (apart-kept c generation t.handles.classes old new unit (IsTaken t run unit) (IsTaken now later unit) (keeps unit) (taken unit) (h.units unit is));
-    filled = λ rg ruh unit e. each-kept c unit old new _ (keeps unit) (h.filled rg ruh unit (fills.filled rg ruh unit e));
-    targets = λ rg unit lane e.
-        each-kept c unit old new _ (keeps unit) (subst (λ (classes : List Class). EachPage c old unit (λ x. (x.generation ≡ generation) × (lane_by classes x ≡ lane))) (sym fills.classes) (h.targets rg unit lane (fills.targets rg unit lane e)));
-    put = λ unit put. each-kept c unit old new _ (keeps unit) (h.put unit (puts unit put));
-    live = live;
+        (apart-kept c generation t.handles.classes old new unit (IsTaken t run unit) (IsTaken now later unit) (keeps unit is) (taken unit) (h.units unit is));
+    filled = λ rg ruh unit is e. each-kept c unit old new _ (keeps unit is) (h.filled rg ruh unit is (fills.filled rg ruh unit e));
+    targets = λ rg unit lane is e.
+        each-kept c unit old new _ (keeps unit is) (subst (λ (classes : List Class). EachPage c old unit (λ x. (x.generation ≡ generation) × (lane_by classes x ≡ lane))) (sym fills.classes) (h.targets rg unit lane is (fills.targets rg unit lane e)));
+    put = λ unit is put. each-kept c unit old new _ (keeps unit is) (h.put unit is (puts unit put));
   }
+
+-- ---- another configuration comes in force
+
+-- the next generation comes in force where nothing is filled: what a unit had names one before
+pub laned-renewed : (c : DriveConfig) (generation : ℕ) (run later es : List Entry) (t now : PageTables) (cells : List Cell) → FillsNone now → TakesNoMore t now run later → IsLaned c generation run es t cells → IsLaned c (generation + 1) later [] now cells
+laned-renewed c generation run later es t now cells none taken h = record {
+  units = λ unit is.
+      let was = h.units unit is in
+      record {
+        group = was.group;
+        past = λ yes. let low = was.past (taken unit yes) in omega (arith, low);
+        way = λ yes force. let low = was.past (taken unit yes) in absurd (omega (arith, low, force));
+      };
+  filled = λ rg ruh unit is e. absurd (nothing unit (sym (none.filled rg ruh) ∙ e));
+  targets = λ rg unit lane is e. absurd (nothing unit (sym (none.targets rg lane) ∙ e));
+  put = λ unit is put. absurd (no (sym put));
+}
 
 -- ---- a page is put into a unit at most
 
@@ -87,29 +127,28 @@ pub record FillsUnit (c : DriveConfig) (t now : PageTables) (cells : List Cell) 
 
 module _ (c : DriveConfig) (generation : ℕ) (run later es more : List Entry) (t now : PageTables) (old new : List Cell) (unit : ℕ) (lane : Lane) where
   pub laned-got : FillsUnit c t now new unit lane → ((other : ℕ) → other ≢ unit → IsTaken now later other → IsTaken t run other) → ((other : ℕ) → other ≢ unit → KeepsPages c old new other) → GoesWay c generation t.handles.classes new unit lane
-      → ((other : ℕ) → IsTrue (list_any (puts_into other) more) → IsTrue (list_any (puts_into other) es) ⊎ (other ≡ unit)) → AreInForce c generation (owner_at now.owners)
+      → ((other : ℕ) → IsTrue (list_any (puts_into other) more) → IsTrue (list_any (puts_into other) es) ⊎ (other ≡ unit))
       → IsLaned c generation run es t old → IsLaned c generation later more now new
-  laned-got fills taken keeps way puts live h = record {
+  laned-got fills taken keeps way puts h = record {
     units = λ other is. subst (λ (classes : List Class). IsKeptApart c generation classes new other (IsTaken now later other)) (sym fills.classes) (⊎_elim
         (λ (same : other ≡ unit). subst (λ (u : ℕ). IsKeptApart c generation t.handles.classes new u (IsTaken now later u)) (sym same) here)
         (λ (ne : other ≢ unit). apart-kept c generation t.handles.classes old new other (IsTaken t run other) (IsTaken now later other) (keeps other ne) (taken other ne) (h.units other is))
         (cases_eq other unit));
-    filled = λ rg ruh other e. ⊎_elim
+    filled = λ rg ruh other is e. ⊎_elim
         (λ (same : other ≡ unit). subst (λ (u : ℕ). EachPage c new u (λ x. (x.generation ≡ generation) × (x.ruh ≡ ruh))) (sym same)
         (each-both c unit new _ _ in-force (fills.filled_here rg ruh (e ∙ ap (λ (u : ℕ). Some u) same))))
-        (λ (ne : other ≢ unit). each-kept c other old new _ (keeps other ne) (h.filled rg ruh other (fills.filled rg ruh other e ne)))
+        (λ (ne : other ≢ unit). each-kept c other old new _ (keeps other ne) (h.filled rg ruh other is (fills.filled rg ruh other e ne)))
         (cases_eq other unit);
-    targets = λ rg other own e. subst (λ (classes : List Class). EachPage c new other (λ x. (x.generation ≡ generation) × (lane_by classes x ≡ own))) (sym fills.classes) (⊎_elim
+    targets = λ rg other own is e. subst (λ (classes : List Class). EachPage c new other (λ x. (x.generation ≡ generation) × (lane_by classes x ≡ own))) (sym fills.classes) (⊎_elim
         (λ (same : other ≡ unit). subst (λ (u : ℕ). EachPage c new u (λ x. (x.generation ≡ generation) × (lane_by t.handles.classes x ≡ own))) (sym same)
         (subst (λ (l : Lane). EachPage c new unit (λ x. (x.generation ≡ generation) × (lane_by t.handles.classes x ≡ l))) (sym (fills.targets_here rg own (e ∙ ap (λ (u : ℕ). Some u) same)))
         (λ page spare bytes low e. let x = way page spare bytes low e in (x.0, x.1, (x.2.1, x.2.2)))))
-        (λ (ne : other ≢ unit). each-kept c other old new _ (keeps other ne) (h.targets rg other own (fills.targets rg other own e ne)))
+        (λ (ne : other ≢ unit). each-kept c other old new _ (keeps other ne) (h.targets rg other own is (fills.targets rg other own e ne)))
         (cases_eq other unit));
-    put = λ other put. ⊎_elim
+    put = λ other is put. ⊎_elim
         (λ (same : other ≡ unit). subst (λ (u : ℕ). EachPage c new u (λ x. x.generation ≡ generation)) (sym same) in-force)
-        (λ (ne : other ≢ unit). each-kept c other old new _ (keeps other ne) (h.put other (⊎_elim (λ was. was) (λ (same : other ≡ unit). absurd (ne same)) (puts other put))))
+        (λ (ne : other ≢ unit). each-kept c other old new _ (keeps other ne) (h.put other is (⊎_elim (λ was. was) (λ (same : other ≡ unit). absurd (ne same)) (puts other put))))
         (cases_eq other unit);
-    live = live;
   } where
     here : IsKeptApart c generation t.handles.classes new unit (IsTaken now later unit)
     here = record {
@@ -138,10 +177,10 @@ laned-longer old new es cells step laned = record {
   placed = step.placed;
 }
 
--- and where no page is put, no unit is taken, and the owners are in force
-pub laned-still : (old new : BookSeen) (es : List Entry) (cells now : List Cell) → IsQuietStep old new es → FillsNoMore old.pages new.pages → TakesNoMore old.pages new.pages old.entries new.entries → ((unit : ℕ) → KeepsPages old.config cells now unit) → ((unit : ℕ) → list_any (puts_into unit) es ≡ false)
-    → AreInForce old.config (state_in old).generation (owner_at new.pages.owners) → AreLaned old cells → AreLaned new now
-laned-still old new es cells now step fills taken keeps none live was =
+-- and where no page is put, and no unit is taken
+pub laned-still : (old new : BookSeen) (es : List Entry) (cells now : List Cell) → IsQuietStep old new es → FillsNoMore old.pages new.pages → TakesNoMore old.pages new.pages old.entries new.entries → ((unit : ℕ) → IsDataUnit old.config unit → KeepsPages old.config cells now unit) → ((unit : ℕ) → list_any (puts_into unit) es ≡ false)
+    → AreLaned old cells → AreLaned new now
+laned-still old new es cells now step fills taken keeps none was =
     laned-longer old new es now step
     (laned-kept old.config (state_in old).generation old.entries new.entries (since_setting old.entries) (since_setting old.entries ++ es) old.pages new.pages cells now fills taken keeps
-    (λ unit put. put-before unit (since_setting old.entries) es (none unit) put) live was.laned)
+    (λ unit put. put-before unit (since_setting old.entries) es (none unit) put) was.laned)

@@ -1,21 +1,19 @@
 -- Units that had been used are left alone: by what a step does to the units that get no page.
-use Rattle.std.proofs.Common.{◌≡◌, ℕ, zero, suc, ◌+◌, ◌*◌, ◌<◌, ◌≤◌, Bool, true, false, List, [], ◌∷◌, ◌++◌, Option, refl, sym, ◌∙◌, ap, subst, arith, inl, inr, ⊎_elim}
+use Rattle.std.proofs.Common.{◌≡◌, ℕ, ◌*◌, ◌<◌, Bool, true, false, List, [], ◌∷◌, ◌++◌, refl, sym, ◌∙◌, ap, subst, arith, inl, inr, ⊎_elim}
 use mathlib.Core.List.{append-nil}
-use Rattle.std.specs.Prelude.{◌&&◌, ◌||◌, IsFalse, IsTrue, if◌then◌else◌}
-use Rattle.std.specs.List.{list_all, list_any}
-use Rattle.std.specs.Option.{option_map_or}
+use Rattle.std.specs.Prelude.{◌||◌, IsFalse, IsTrue, if◌then◌else◌}
+use Rattle.std.specs.List.{list_any}
 use Rattle.std.proofs.lemmas.List.Folds.{list_any-append}
 use Rattle.fdp_base.specs.declared.config.DriveConfig.{DriveConfig}
 use Rattle.fdp_base.specs.declared.config.Geometry.{Geometry}
 use Rattle.fdp_base.specs.declared.entry.Entry.{Entry}
-use Rattle.fdp_base.specs.Numbers.{numbers_from}
 use Rattle.fdp_base.specs.Placement.{geometry_of}
 use Rattle.fdp_base.specs.EntryKinds.{empties, puts_into}
 use Rattle.fdp_book.specs.Book.{BookSeen, IsFirst, IsLonger}
 use Rattle.fdp_flash.specs.declared.cell.Cell.{Cell}
 use Rattle.fdp_flash.specs.Cells.{IsBlankUnit}
-use Rattle.fdp_image.specs.Reads.{is_blank}
-use Rattle.fdp_image.specs.Roomy.{is_blank_at, is_blank_unit, page_in}
+use Rattle.fdp_found.proofs.Paging.{blank-tested}
+use Rattle.fdp_image.specs.Roomy.{is_blank_unit}
 use Rattle.fdp_isolation.specs.Alone.{AreLeftAlone, IsLeftAlone, gets_none}
 use Rattle.fdp_isolation.specs.Isolated.{IsWornDown, LeavesUsed, before_erase, since_setting}
 use Rattle.fdp_isolation.specs.Laned.{StandsOver}
@@ -103,18 +101,6 @@ pub leaves-used : (first : List Cell) (b : BookSeen) (cells : List Cell) → Are
 leaves-used first b cells h unit is used = (h unit is used).none
 
 -- ---- the moment from which on they are left alone
-
--- pages that are blank are so by the test
-blank-each : (test : ℕ → Bool) (from count : ℕ) → ((page : ℕ) → from ≤ page → page < from + count → test page ≡ true) → list_all test (numbers_from from count) ≡ true
-unfolding numbers_from
-blank-each test from zero h = refl
-blank-each test from (suc count) h =
-    ap (λ (b : Bool). b && list_all test (numbers_from (from + 1) count)) (h from (omega arith) (omega arith))
-    ∙ blank-each test (from + 1) count (λ page low high. h page (omega (arith, low)) (omega (arith, high)))
-
-pub blank-tested : (g : Geometry) (cells : List Cell) (unit : ℕ) → IsBlankUnit g cells unit → is_blank_unit g cells unit ≡ true
-unfolding is_blank_unit
-blank-tested g cells unit blank = blank-each (λ page. is_blank_at g cells (page_in unit page)) 0 g.unit_pages (λ page low high. ap (λ (o : Option Cell). option_map_or is_blank o false) (blank.blank page (omega (arith, high))))
 
 -- where no entry came since, and no unit is filled by a handle or gets copies: each that is not blank is full
 pub alone-first : (first : List Cell) (b : BookSeen) → StandsOver b first → since_setting b.entries ≡ [] → ((unit : ℕ) → IsDataUnit b.config unit → IsFalse (is_open (state_at b.pages.units unit))) → AreLeftAlone first b first

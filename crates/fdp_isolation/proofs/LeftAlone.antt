@@ -1,6 +1,6 @@
 -- Each step of a host, and the move of a pass, leaves alone what had been used.
-use Rattle.std.proofs.Common.{◌≡◌, ◌≢◌, ℕ, Bool, false, List, [], ◌∷◌, refl, sym, ◌∙◌, ap, inl, ne_eqb}
-use Rattle.std.specs.Prelude.{◌||◌, IsTrue}
+use Rattle.std.proofs.Common.{◌≡◌, ◌≢◌, ℕ, ◌*◌, ◌<◌, Bool, true, false, List, [], ◌∷◌, refl, sym, ◌∙◌, ap, subst, inl, ne_eqb, ⊎_elim}
+use Rattle.std.specs.Prelude.{◌&&◌, ◌||◌, IsTrue}
 use Rattle.std.specs.List.{list_any}
 use Rattle.fdp_base.specs.declared.command.Command.{Command}
 use Rattle.fdp_base.specs.declared.command.Write.{Write}
@@ -19,30 +19,46 @@ use Rattle.fdp_book.specs.declared.ticket.Ticket.{Ticket}
 use Rattle.fdp_book.specs.Book.{BookSeen, state_in}
 use Rattle.fdp_book.specs.Relocating.{MovesPass}
 use Rattle.fdp_book.specs.Shutting.{ShutsAndEnds}
-use Rattle.fdp_book.specs.Steps.{Completes, IsServed, Places, Starts}
+use Rattle.fdp_book.specs.Steps.{Completes, Places, Starts}
 use Rattle.fdp_book.specs.Tickets.{IsNextSpot, IsTicketOf}
 use Rattle.fdp_collector.proofs.Kept.{changed-other}
 use Rattle.fdp_flash.specs.declared.cell.Cell.{Cell}
 use Rattle.fdp_flash.specs.Cells.{ProgramMayLeave}
 use Rattle.fdp_flash.proofs.Pages.{program_other_unit}
 use Rattle.fdp_isolation.specs.Alone.{AreLeftAlone, gets_none}
-use Rattle.fdp_isolation.specs.Isolated.{IsWornDown}
-use Rattle.fdp_isolation.specs.Laned.{IsKnown}
-use Rattle.fdp_isolation.proofs.Answered.{served-quiet}
-use Rattle.fdp_isolation.proofs.Entries.{no}
-use Rattle.fdp_isolation.proofs.Leaving.{LeavesUnit, alone-step}
-use Rattle.fdp_isolation.proofs.Placed.{and-false, next-write}
+use Rattle.fdp_isolation.specs.Isolated.{IsWornDown, since_setting}
+use Rattle.fdp_isolation.specs.Laned.{IsKnown, StandsOver}
+use Rattle.fdp_isolation.proofs.Answered.{IsUnset}
+use Rattle.fdp_isolation.proofs.Entries.{and-false, no, since-set}
+use Rattle.fdp_isolation.proofs.Keeping.{FillsNone, nothing}
+use Rattle.fdp_isolation.proofs.Leaving.{LeavesUnit, alone-first, alone-step}
+use Rattle.fdp_isolation.proofs.Placed.{next-write}
 use Rattle.fdp_locations.specs.Written.{next_spare}
 use Rattle.fdp_owners.specs.OwnerTable.{OwnerTable}
+use Rattle.fdp_pages.specs.Joined.{AreJoined}
 use Rattle.fdp_pages.specs.PageTables.{PageTables}
-use Rattle.fdp_pages.specs.Steps.{ChangesOwners, Recounts}
+use Rattle.fdp_pages.specs.Steps.{ChangesOwners, LeavesUnits, Recounts}
 use Rattle.fdp_pages.proofs.Next.{next-page}
 use Rattle.fdp_rules.specs.PlainState.{Going}
 use Rattle.fdp_units.specs.declared.data_unit.DataUnit.{DataUnit}
 use Rattle.fdp_units.specs.declared.state.UnitState.{UnitState}
 use Rattle.fdp_units.specs.declared.state.UnitState.TheVariants.{Free, Referenced, Target, Closed, Retired, Aside}
-use Rattle.fdp_units.specs.DataUnits.{is_free, is_referenced}
-use Rattle.fdp_units.specs.UnitTable.{Changes, UnitTable, state_at}
+use Rattle.fdp_units.specs.DataUnits.{is_free, is_open, is_referenced}
+use Rattle.fdp_units.specs.UnitTable.{Changes, Cut, IsUnit, UnitTable, group_in, state_at, unit_at}
+use Rattle.fdp_units.proofs.Tables.{group-there}
+
+-- where no unit is filled by a handle, or gets copies, none is open
+unopened : (t : PageTables) → AreJoined t → FillsNone t → (unit : ℕ) → IsUnit t.units unit → is_open (state_at t.units unit) ≡ false
+unopened t joined none unit there = by (state_at t.units unit) refl where
+  by : (state : UnitState) → state_at t.units unit ≡ state → is_open state ≡ false
+  by Free is = refl
+  by Referenced is = let filled = joined.filled.filled unit there is in absurd (nothing unit (sym (none.filled (group_in t.units unit) filled.0) ∙ filled.2))
+  by Target is =
+      let target = (joined.groups (group_in t.units unit) (group-there t.units unit there)).targeted.targeted unit (record { is_unit = there; group = refl; stands = is }) in
+      absurd (nothing unit (sym (none.targets (group_in t.units unit) target.0) ∙ target.1))
+  by Closed is = refl
+  by Retired is = refl
+  by Aside is = refl
 
 -- ---- no page is put
 
@@ -53,11 +69,34 @@ recounted t now o unit h full = ap (λ (x : DataUnit). gets_none x.state) (h.kep
 owners-leave : (c : DriveConfig) (t now : PageTables) (es : List Entry) (cells : List Cell) (unit : ℕ) → Recounts t.units now.units now.owners → list_any (puts_into unit) es ≡ false → IsTrue (gets_none (state_at t.units unit)) → LeavesUnit c t now es cells cells unit
 owners-leave c t now es cells unit recounts none full = record { none = none; stands = λ kept. recounted t.units now.units now.owners unit recounts full; worn = λ kept page low. inl refl }
 
-pub alone-answered : (first : List Cell) (old new : BookSeen) (queue number : ℕ) (command : Command) (reply : Reply) (moment : ℕ) (done : Done) (cells : List Cell) → Completes old new [] queue number command reply moment done → ChangesOwners old.pages new.pages → IsServed command
-    → AreLeftAlone first old cells → AreLeftAlone first new cells
-alone-answered first old new queue number command reply moment done cells completes changes served h =
+-- a command ended that put no other configuration in force, and each unit that gets no page gets none still
+alone-ended : (first : List Cell) (old new : BookSeen) (queue number : ℕ) (command : Command) (reply : Reply) (moment : ℕ) (done : Done) (cells : List Cell) → Completes old new [] queue number command reply moment done
+    → ((unit : ℕ) → IsTrue (gets_none (state_at old.pages.units unit)) → IsTrue (gets_none (state_at new.pages.units unit))) → IsUnset command reply → AreLeftAlone first old cells → AreLeftAlone first new cells
+alone-ended first old new queue number command reply moment done cells completes stays unset h =
     let e : Entry = entries.Host (record { queue = queue; number = number; command = command; reply = reply; moment = moment }) in
-    alone-step first old new (e ∷ []) cells cells completes.step (served-quiet command reply.applied served) (λ unit full. owners-leave old.config old.pages new.pages (e ∷ []) cells unit changes.units refl full) h
+    alone-step first old new (e ∷ []) cells cells completes.step (ap (λ (b : Bool). b || false) unset) (λ unit full. record { none = refl; stands = λ kept. stays unit full; worn = λ kept page low. inl refl }) h
+
+pub alone-answered : (first : List Cell) (old new : BookSeen) (queue number : ℕ) (command : Command) (reply : Reply) (moment : ℕ) (done : Done) (cells : List Cell) → Completes old new [] queue number command reply moment done → ChangesOwners old.pages new.pages → IsUnset command reply
+    → AreLeftAlone first old cells → AreLeftAlone first new cells
+alone-answered first old new queue number command reply moment done cells completes changes =
+    alone-ended first old new queue number command reply moment done cells completes (λ unit full. recounted old.pages.units new.pages.units new.pages.owners unit changes.units full)
+
+-- units were left, and closed
+pub alone-left : (first : List Cell) (old new : BookSeen) (queue number : ℕ) (command : Command) (reply : Reply) (moment : ℕ) (done : Done) (cells : List Cell) → Completes old new [] queue number command reply moment done → LeavesUnits old.pages new.pages → IsUnset command reply
+    → AreLeftAlone first old cells → AreLeftAlone first new cells
+alone-left first old new queue number command reply moment done cells completes leaves =
+    alone-ended first old new queue number command reply moment done cells completes (λ unit full. ⊎_elim
+    (λ (same : unit_at new.pages.units unit ≡ unit_at old.pages.units unit). ap (λ (x : DataUnit). gets_none x.state) same ∙ full)
+    (λ closed. ap (λ (x : DataUnit). gets_none x.state) closed.1)
+    (leaves.units unit))
+
+-- where another configuration came in force they are left alone from then on
+pub alone-set : (old new : BookSeen) (queue number : ℕ) (command : Command) (reply : Reply) (moment : ℕ) (done : Done) (cells : List Cell) → Completes old new [] queue number command reply moment done → FillsNone new.pages → is_setting command ≡ true → reply.applied ≡ true
+    → StandsOver new cells → AreLeftAlone cells new cells
+alone-set old new queue number command reply moment done cells completes none sets made stands =
+    let e : Entry = entries.Host (record { queue = queue; number = number; command = command; reply = reply; moment = moment }) in
+    alone-first cells new stands (ap since_setting completes.step.entries_are ∙ since-set old.entries e (ap (λ (b : Bool). b && reply.applied) sets ∙ made))
+    (λ unit is. unopened new.pages stands.known.joined none unit (subst (λ (k : Cut). unit < k.groups * k.group_units) (sym stands.known.units.cut) is))
 
 pub alone-started : (first : List Cell) (old new : BookSeen) (queue number : ℕ) (command : Command) (ticket : Ticket) (cells : List Cell) → Starts old new queue number command ticket → ChangesOwners old.pages new.pages
     → AreLeftAlone first old cells → AreLeftAlone first new cells

@@ -3,11 +3,13 @@ pub mod Entries
 pub mod Keeping
 pub mod Owning
 pub mod Filling
+pub mod Setting
 pub mod Answered
 pub mod Started
 pub mod Placed
 pub mod Copying
 pub mod Relocated
+pub mod Saved
 pub mod Trailed
 pub mod Moved
 pub mod Promised

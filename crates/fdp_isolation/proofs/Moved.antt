@@ -1,5 +1,5 @@
 -- A pass that was moved keeps apart what was: each copy has the spare of its old page.
-use Rattle.std.proofs.Common.{◌≡◌, ◌≢◌, ◌⊎◌, ℕ, zero, suc, ◌<◌, Bool, true, List, [], ◌∷◌, ◌++◌, Option, Some, None, map, slice_get, refl, sym, ◌∙◌, ap, subst, arith, inl, inr, ⊎_elim}
+use Rattle.std.proofs.Common.{◌≡◌, ◌≢◌, ◌⊎◌, ℕ, zero, suc, ◌<◌, Bool, true, List, [], ◌∷◌, ◌++◌, Option, Some, None, map, refl, sym, ◌∙◌, ap, subst, arith, inl, inr, ⊎_elim}
 use Rattle.std.specs.Prelude.{All, Contains, IfSome, IsTrue, slice_index_or, slice_set}
 use Rattle.std.specs.List.{list_any}
 use Rattle.std.specs.Option.{option_map_or}
@@ -12,22 +12,19 @@ use Rattle.fdp_base.specs.declared.entry.Entry.TheVariants as entries
 use Rattle.fdp_base.specs.declared.entry.Moved.{Moved}
 use Rattle.fdp_base.specs.declared.entry.Spot.{Spot}
 use Rattle.fdp_base.specs.EntryKinds.{puts_into}
-use Rattle.fdp_book.specs.Book.{BookSeen, IsLonger, point_in, state_in}
+use Rattle.fdp_book.specs.Book.{BookSeen, IsLonger, point_in}
 use Rattle.fdp_book.specs.Relocating.{MovesPass}
 use Rattle.fdp_flash.specs.declared.cell.Cell.{Cell}
 use Rattle.fdp_handles.specs.HandleTable.{HandleTable, reference_at}
 use Rattle.fdp_history.proofs.Trails.{all-last_run}
 use Rattle.fdp_isolation.specs.Laned.{AreLaned, IsKnown}
 use Rattle.fdp_isolation.proofs.Entries.{put-before, quiet-one}
-use Rattle.fdp_isolation.proofs.Keeping.{AreInForce, TakesNoMore, laned-still}
+use Rattle.fdp_isolation.proofs.Keeping.{TakesNoMore, laned-still}
 use Rattle.fdp_isolation.proofs.Trailed.{WasPut, copies-put}
-use Rattle.fdp_locations.proofs.Others.{group-same}
 use Rattle.fdp_owners.specs.declared.owner.Owner.{Owner}
 use Rattle.fdp_owners.specs.OwnerTable.{owner_at, with_owner}
-use Rattle.fdp_pages.specs.Joined.{IsRelocating}
-use Rattle.fdp_pages.specs.PageTables.{PageTables, copies_at, no_passes, passes_at, relocation_at}
+use Rattle.fdp_pages.specs.PageTables.{copies_at, no_passes, passes_at}
 use Rattle.fdp_pages.specs.Steps.{ended_move}
-use Rattle.fdp_pages.proofs.Places.{place-contains}
 use Rattle.fdp_pages.proofs.Regrouped.{group-low, passes-here, passes-there}
 use Rattle.fdp_passes.specs.declared.lane.Lane.{Lane}
 use Rattle.fdp_passes.specs.GroupPasses.{GroupPasses, Pass, target_at}
@@ -36,12 +33,12 @@ use Rattle.fdp_pointers.specs.Facts.{Page}
 use Rattle.fdp_pointers.specs.Pointers.{Behind}
 use Rattle.fdp_rules.specs.History.{Found, point_of}
 use Rattle.fdp_rules.specs.Point.{Copy, Point}
-use Rattle.fdp_rules.specs.Sites.{group_of, moved_blocks, pass_in, trail_of}
+use Rattle.fdp_rules.specs.Sites.{moved_blocks, pass_in, trail_of}
 use Rattle.fdp_rules.specs.Step.{Follows}
 use Rattle.fdp_trails.specs.Followed.{IsFollowed, IsPassOf, copy_of}
 use Rattle.fdp_trails.specs.Moves.{owners_moved, with_moved}
 use Rattle.fdp_trails.proofs.Moving.{cases_owner, cases_spot, moved-none, moved-some, owner-here, owner-there}
-use Rattle.fdp_units.specs.UnitTable.{Cut, IsGroup, group_in}
+use Rattle.fdp_units.specs.UnitTable.{Cut, IsGroup}
 
 -- ---- the owners
 
@@ -50,30 +47,6 @@ one e = cc
 
 never : {X : Type 0} {x : X} → None ≡ Some x → ⊥
 never e = cc
-
--- the owner of the old page of a copy knows the group of the new one
-force-one : (c : DriveConfig) (generation : ℕ) (owners : Spot → Option Owner) (copy : Copied) → group_of c copy.from.unit ≡ group_of c copy.to.unit → AreInForce c generation owners → AreInForce c generation (with_moved owners copy)
-force-one c generation owners copy group h spot x e = ⊎_elim
-    (λ (none : owners copy.from ≡ None). h spot x (sym (ap (λ (f : Spot → Option Owner). f spot) (moved-none owners copy none)) ∙ e))
-    (λ (some : (w : Owner) × (owners copy.from ≡ Some w)).
-    let now : with_owner (with_owner owners copy.from None) copy.to (Some some.0) spot ≡ Some x = sym (ap (λ (f : Spot → Option Owner). f spot) (moved-some owners copy some.0 some.1)) ∙ e in
-    ⊎_elim
-    (λ (to : spot ≡ copy.to).
-    let same : some.0 ≡ x = one (sym (owner-here (with_owner owners copy.from None) copy.to (Some some.0)) ∙ ap (with_owner (with_owner owners copy.from None) copy.to (Some some.0)) (sym to) ∙ now) in
-    let was = h copy.from x (some.1 ∙ ap (λ (w : Owner). Some w) same) in
-    (was.0, was.1 ∙ group ∙ ap (λ (s : Spot). group_of c s.unit) (sym to)))
-    (λ (ne : spot ≢ copy.to).
-    let left : with_owner owners copy.from None spot ≡ Some x = sym (owner-there (with_owner owners copy.from None) copy.to (Some some.0) spot ne) ∙ now in
-    ⊎_elim
-    (λ (from : spot ≡ copy.from). absurd (never (sym (owner-here owners copy.from None) ∙ ap (with_owner owners copy.from None) (sym from) ∙ left)))
-    (λ (other : spot ≢ copy.from). h spot x (sym (owner-there owners copy.from None spot other) ∙ left))
-    (cases_spot spot copy.from))
-    (cases_spot spot copy.to))
-    (cases_owner (owners copy.from))
-
-force-moved : (c : DriveConfig) (generation : ℕ) (copies : List Copied) (owners : Spot → Option Owner) → ((i : ℕ) (copy : Copied) → slice_get copies i ≡ Some copy → group_of c copy.from.unit ≡ group_of c copy.to.unit) → AreInForce c generation owners → AreInForce c generation (owners_moved owners copies)
-force-moved c generation [] owners groups h = h
-force-moved c generation (copy ∷ copies) owners groups h = force-moved c generation copies (with_moved owners copy) (λ i x e. groups (suc i) x e) (force-one c generation owners copy (groups zero copy refl) h)
 
 -- a page that gets an owner is the new page of a copy
 owned-one : (owners : Spot → Option Owner) (copy : Copied) (spot : Spot) (x : Owner) → with_moved owners copy spot ≡ Some x → ((y : Owner) × (owners spot ≡ Some y)) ⊎ (spot ≡ copy.to)
@@ -100,12 +73,6 @@ owned-moved (copy ∷ copies) owners spot x e = ⊎_elim
     (owned-moved copies (with_moved owners copy) spot x e)
 
 -- ---- the copies of a group
-
-copy-groups : (t : PageTables) (rg : ℕ) (copy : Copied) → IsRelocating (relocation_at t rg) t.owners t.handles.classes rg → Contains (copies_at t rg) copy → (group_in t.units copy.from.unit ≡ rg) × (group_in t.units copy.to.unit ≡ rg)
-copy-groups t rg copy r among = cases (passes_at t rg).pass refl among where
-  cases : (o : Option Pass) → (passes_at t rg).pass ≡ o → Contains (option_map_or (λ (pass : Pass). pass.copies) o []) copy → (group_in t.units copy.from.unit ≡ rg) × (group_in t.units copy.to.unit ≡ rg)
-  cases None e has = absurd (omega (arith, has.1))
-  cases (Some pass) e has = let lie = (r.copied pass e).lie copy has in (ap (group_in t.units) lie.victim ∙ (r.ready.victim pass e).group, lie.group)
 
 contains-mapped : (copies : List Copied) (x : Copied) → Contains copies x → Contains (map copy_of copies) (copy_of x)
 contains-mapped [] x has = absurd (omega (arith, has.1))
@@ -148,11 +115,6 @@ laned-moved old new rg cells known moves h =
     let longer : IsLonger old new (e ∷ []) = moves.longer in
     let low : rg < old.config.groups = moved-group true old.config (point_in old) m (moves.follows true) in
     let there : IsGroup old.pages.units rg = subst (λ (k : Cut). rg < k.groups) (sym known.units.cut) low in
-    let groups : (i : ℕ) (copy : Copied) → slice_get (copies_at old.pages rg) i ≡ Some copy → group_of old.config copy.from.unit ≡ group_of old.config copy.to.unit = λ i copy is.
-    let both = copy-groups old.pages rg copy (known.joined.groups rg there) (place-contains (copies_at old.pages rg) i copy is) in
-    group-same old.config (state_in old) old.pages copy.from.unit known.units ∙ both.0 ∙ sym both.1 ∙ sym (group-same old.config (state_in old) old.pages copy.to.unit known.units) in
-    let live : AreInForce old.config (state_in old).generation (owner_at new.pages.owners) =
-    subst (AreInForce old.config (state_in old).generation) (sym moves.owners) (force-moved old.config (state_in old).generation (copies_at old.pages rg) (owner_at old.pages.owners) groups h.laned.live) in
     let passes : (k : ℕ) (lane : Lane) → target_at (passes_at new.pages k) lane ≡ target_at (passes_at old.pages k) lane = λ k lane.
     ap (λ (xs : List GroupPasses). target_at (slice_index_or xs k no_passes) lane) moves.passes ∙ ⊎_elim
     (λ (same : k ≡ rg). ap (λ (j : ℕ). target_at (slice_index_or (slice_set old.pages.passes rg (ended_move (passes_at old.pages rg))) j no_passes) lane) same ∙ ap (λ (p : GroupPasses). target_at p lane) (passes-here old.pages rg (ended_move (passes_at old.pages rg)) (group-low old.pages rg known.joined there)) ∙ ap (λ (j : ℕ). target_at (passes_at old.pages j) lane) (sym same))
@@ -173,6 +135,6 @@ laned-moved old new rg cells known moves h =
       targets = λ k unit lane target. sym (passes k lane) ∙ target;
     })
     taken
-    (λ unit page spare bytes below is. is)
+    (λ unit lies page spare bytes below is. is)
     (λ unit. refl)
-    live h
+    h

@@ -1,6 +1,6 @@
 -- Owners that a page had before, with the same spare.
-use Rattle.std.proofs.Common.{◌≡◌, ◌⊎◌, ℕ, Bool, false, ◌∷◌, List, Option, Some, None, refl, sym, ◌∙◌, ap, subst, ⊎_elim}
-use Rattle.std.specs.Prelude.{IsFalse, if◌then◌else◌, option_map}
+use Rattle.std.proofs.Common.{◌≡◌, ℕ, true, false, ◌∷◌, List, Option, Some, None, refl, sym, ◌∙◌, ap, subst}
+use Rattle.std.specs.Prelude.{if◌then◌else◌, option_map}
 use Rattle.fdp_base.specs.declared.command.Command.{Command}
 use Rattle.fdp_base.specs.declared.config.DriveConfig.{DriveConfig}
 use Rattle.fdp_base.specs.declared.entry.Entry.TheVariants as entries
@@ -9,39 +9,34 @@ use Rattle.fdp_base.specs.declared.entry.Shut.{Shut}
 use Rattle.fdp_base.specs.declared.entry.Started.{Started}
 use Rattle.fdp_base.specs.declared.entry.Spot.{Spot}
 use Rattle.fdp_base.specs.declared.spare.DataSpare.{DataSpare}
+use Rattle.fdp_base.specs.declared.status.Status.{Status}
+use Rattle.fdp_base.specs.CommandKinds.{is_write}
 use Rattle.fdp_book.specs.Book.{BookSeen, IsLed, point_in, state_in, written_in}
 use Rattle.fdp_history.specs.OrderlyState.{IsOrderlyState}
 use Rattle.fdp_isolation.proofs.Entries.{no}
-use Rattle.fdp_isolation.proofs.Keeping.{AreInForce}
 use Rattle.fdp_locations.specs.Located.{AreLed, next_in}
 use Rattle.fdp_locations.specs.Written.{IsWritten, Written}
 use Rattle.fdp_owners.specs.declared.owner.Owner.{Owner}
 use Rattle.fdp_owners.specs.Owned.{IsOwned, page_of}
 use Rattle.fdp_owners.specs.OwnerTable.{owner_at, pointer_of}
 use Rattle.fdp_pages.specs.PageTables.{PageTables}
-use Rattle.fdp_pointers.specs.Contents.{PageContent, content_at, ended_by, renamed_by}
+use Rattle.fdp_pointers.specs.Contents.{PageContent, content_at, ended_by}
 use Rattle.fdp_pointers.specs.Facts.{Page}
 use Rattle.fdp_pointers.specs.Pointers.{Behind, Pointer, renamed}
-use Rattle.fdp_pointers.proofs.Changes.{content-ended, everywhere}
+use Rattle.fdp_pointers.proofs.Changes.{IsMade, content-ended, everywhere}
 use Rattle.fdp_pointers.proofs.Renaming.{behind-renamed}
-use Rattle.fdp_pointers.proofs.Steps.{contents-renamed}
 use Rattle.fdp_pointers.proofs.Tables.{site-at}
 use Rattle.fdp_rules.specs.Change.{after, changed_by, is_media_error}
 use Rattle.fdp_rules.specs.Next.{next}
-use Rattle.fdp_rules.specs.PlainState.{PageName}
+use Rattle.fdp_rules.specs.Answer.{bare}
+use Rattle.fdp_rules.specs.PlainState.{Going, PageName}
 use Rattle.fdp_rules.specs.Point.{Point}
 use Rattle.fdp_rules.specs.Sites.{traced_by}
-use Rattle.fdp_rules.specs.Step.{Follows}
+use Rattle.fdp_rules.specs.Step.{MaySucceed}
 
 -- each page that has an owner had one before, with the same spare
 abbrev pub KeepsOwners : (Spot → Option Owner) → (Spot → Option Owner) → Type 0
 KeepsOwners old new = (spot : Spot) (x : Owner) → new spot ≡ Some x → (y : Owner) × (old spot ≡ Some y) × (y.spare ≡ x.spare)
-
-pub force-kept : (c : DriveConfig) (generation : ℕ) (old new : Spot → Option Owner) → KeepsOwners old new → AreInForce c generation old → AreInForce c generation new
-force-kept c generation old new keeps h spot x e =
-    let was = keeps spot x e in
-    let y = h spot was.0 was.1 in
-    (ap (λ (s : DataSpare). s.generation) (sym was.2) ∙ y.0, ap (λ (s : DataSpare). s.rg) (sym was.2) ∙ y.1)
 
 -- ---- pointers that get what stood behind others
 
@@ -87,24 +82,30 @@ module _ (c : DriveConfig) (p q : Point) (written : Spot → Option Written) (at
 
 -- ---- the end of a command
 
--- a command ends so: its change is not made, or it may be
-abbrev pub MayEnd : DriveConfig → Point → ℕ → ℕ → Command → Reply → ℕ → Type 0
-MayEnd c p queue number command reply moment =
-    IsFalse reply.applied
-    ⊎ ((told : Bool) × Follows told c p (entries.Host (record { queue = queue; number = number; command = command; reply = reply; moment = moment })))
-
--- one whose change is not made leaves the contents of other writes
-unmade-content : (c : DriveConfig) (p : Point) (queue number : ℕ) (command : Command) (reply : Reply) (moment : ℕ) → IsOrderlyState c p.state → reply.applied ≡ false
+-- the end of a command leaves the contents of other writes; one whose change is made was whole
+ended-content : (c : DriveConfig) (p : Point) (queue number : ℕ) (command : Command) (reply : Reply) (moment : ℕ) → IsOrderlyState c p.state → IsMade p.state queue reply.applied command
     → content_at c (next c p (entries.Host (record { queue = queue; number = number; command = command; reply = reply; moment = moment }))).state ≡ renamed (ended_by p.state queue reply.applied command) (content_at c p.state)
 unfolding next after changed_by
-unmade-content c p queue number command reply moment orderly unmade = everywhere _ _ (content-ended c p.state queue command reply.applied (if is_media_error reply.status then moment ∷ p.state.media else p.state.media) orderly (λ made. absurd (no (sym made ∙ unmade))))
+ended-content c p queue number command reply moment orderly made = everywhere _ _ (content-ended c p.state queue command reply.applied (if is_media_error reply.status then moment ∷ p.state.media else p.state.media) orderly made)
 
-pub stood-host : (c : DriveConfig) (p : Point) (queue number : ℕ) (command : Command) (reply : Reply) (moment : ℕ) → IsOrderlyState c p.state → MayEnd c p queue number command reply moment
+stood-made : (c : DriveConfig) (p : Point) (queue number : ℕ) (command : Command) (reply : Reply) (moment : ℕ) → IsOrderlyState c p.state → IsMade p.state queue reply.applied command
     → StoodBehind (content_at c p.state) (content_at c (next c p (entries.Host (record { queue = queue; number = number; command = command; reply = reply; moment = moment }))).state)
-stood-host c p queue number command reply moment orderly may = ⊎_elim
-    (λ (unmade : IsFalse reply.applied). stood-renamed (ended_by p.state queue reply.applied command) _ _ (unmade-content c p queue number command reply moment orderly unmade))
-    (λ made. stood-renamed (renamed_by p.state (entries.Host (record { queue = queue; number = number; command = command; reply = reply; moment = moment }))) _ _ (contents-renamed made.0 c p (entries.Host (record { queue = queue; number = number; command = command; reply = reply; moment = moment })) orderly made.1 refl))
-    may
+stood-made c p queue number command reply moment orderly made = stood-renamed (ended_by p.state queue reply.applied command) _ _ (ended-content c p queue number command reply moment orderly made)
+
+-- a change that is not made
+pub stood-unmade : (c : DriveConfig) (p : Point) (queue number : ℕ) (command : Command) (reply : Reply) (moment : ℕ) → IsOrderlyState c p.state → reply.applied ≡ false
+    → StoodBehind (content_at c p.state) (content_at c (next c p (entries.Host (record { queue = queue; number = number; command = command; reply = reply; moment = moment }))).state)
+stood-unmade c p queue number command reply moment orderly unmade = stood-made c p queue number command reply moment orderly (λ made. absurd (no (sym made ∙ unmade)))
+
+-- a command other than a write puts nothing behind a pointer
+pub stood-other : (c : DriveConfig) (p : Point) (queue number : ℕ) (command : Command) (reply : Reply) (moment : ℕ) → IsOrderlyState c p.state → is_write command ≡ false
+    → StoodBehind (content_at c p.state) (content_at c (next c p (entries.Host (record { queue = queue; number = number; command = command; reply = reply; moment = moment }))).state)
+stood-other c p queue number command reply moment orderly other = stood-made c p queue number command reply moment orderly (λ made write. absurd (no (sym write ∙ other)))
+
+-- a write that may succeed is whole, whatever the status with which it is answered
+pub stood-written : (c : DriveConfig) (p : Point) (queue : ℕ) (g : Going) (status : Status) (moment : ℕ) → IsOrderlyState c p.state → p.state.going queue ≡ Some g → MaySucceed c p g
+    → StoodBehind (content_at c p.state) (content_at c (next c p (entries.Host (record { queue = queue; number = g.number; command = g.command; reply = bare status true; moment = moment }))).state)
+stood-written c p queue g status moment orderly going may = stood-made c p queue g.number g.command (bare status true) moment orderly (λ made write. record { g = g; going = going; same = refl; there = may.there; placed = may.placed })
 
 -- ---- books
 

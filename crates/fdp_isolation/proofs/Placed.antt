@@ -1,6 +1,6 @@
 -- A page that was placed, and one whose program failed, keep apart what was.
 use Rattle.std.proofs.Common.{◌≡◌, ◌≢◌, ◌⊎◌, ℕ, ◌^◌, ◌-◌, ◌<◌, Bool, true, false, List, [], ◌∷◌, ◌++◌, Option, Some, None, refl, sym, ◌∙◌, ap, subst, arith, inl, inr, ⊎_elim, eqb-true}
-use Rattle.std.specs.Prelude.{◌&&◌, ◌||◌, ◌==◌, IsTrue, if◌then◌else◌, nat_lt, option_and_then, option_map, slice_index_or}
+use Rattle.std.specs.Prelude.{◌||◌, ◌==◌, IsTrue, if◌then◌else◌, nat_lt, slice_index_or}
 use Rattle.std.specs.List.{list_any}
 use Rattle.fdp_base.specs.declared.config.Class.TheVariants.{Initial}
 use Rattle.fdp_base.specs.declared.command.Write.{Write}
@@ -11,7 +11,6 @@ use Rattle.fdp_base.specs.declared.entry.Placed.{Placed}
 use Rattle.fdp_base.specs.declared.entry.Reply.{Reply}
 use Rattle.fdp_base.specs.declared.entry.Shut.{Shut}
 use Rattle.fdp_base.specs.declared.entry.Spot.{Spot}
-use Rattle.fdp_base.specs.declared.spare.DataSpare.{DataSpare}
 use Rattle.fdp_base.specs.declared.status.Status.{Status}
 use Rattle.fdp_base.specs.CommandKinds.{is_setting, write_of}
 use Rattle.fdp_base.specs.Placement.{geometry_of}
@@ -19,25 +18,23 @@ use Rattle.fdp_base.specs.Spare.{data_spare}
 use Rattle.fdp_base.specs.EntryKinds.{puts_into}
 use Rattle.fdp_book.specs.declared.ticket.Done.{Done}
 use Rattle.fdp_book.specs.declared.ticket.Ticket.{Ticket}
-use Rattle.fdp_book.specs.Book.{BookSeen, IsLed, IsLonger, point_in, state_in, written_in}
+use Rattle.fdp_book.specs.Book.{BookSeen, IsLed, IsLonger, point_in, state_in}
 use Rattle.fdp_book.specs.Shutting.{ShutsAndEnds}
 use Rattle.fdp_book.specs.Steps.{Places}
 use Rattle.fdp_book.specs.Tickets.{IsNextSpot, IsTicketOf}
 use Rattle.fdp_flash.specs.declared.cell.Cell.{Cell}
 use Rattle.fdp_flash.specs.Cells.{ProgramMayLeave}
 use Rattle.fdp_handles.specs.HandleTable.{HandleTable, reference_at}
-use Rattle.fdp_history.proofs.Placing.{going_with-is}
 use Rattle.fdp_history.proofs.Points.{orderly-next}
 use Rattle.fdp_isolation.specs.Isolated.{sets_placement, since_setting}
 use Rattle.fdp_isolation.specs.Laned.{AreLaned, StandsOver, IsKnown, IsLaned, IsTaken}
-use Rattle.fdp_isolation.proofs.Entries.{AreQuiet, generation-next, only-placed-host, put-before, put-cases, quiet-one}
+use Rattle.fdp_isolation.proofs.Entries.{AreQuiet, and-false, only-placed-host, put-before, put-cases, quiet-one}
 use Rattle.fdp_isolation.proofs.Filling.{NamesHandle, fills-unit, filled-by, filled-pages, handle-pages, handle-way}
-use Rattle.fdp_isolation.proofs.Keeping.{AreInForce, laned-got, laned-longer, taken-kept}
-use Rattle.fdp_isolation.proofs.Owning.{KeepsOwners, StoodBehind, book-owners, force-kept, host-site, shut-content, shut-site, stood-host}
+use Rattle.fdp_isolation.proofs.Keeping.{laned-got, laned-longer, taken-kept}
+use Rattle.fdp_isolation.proofs.Owning.{KeepsOwners, StoodBehind, book-owners, host-site, shut-content, shut-site, stood-unmade}
 use Rattle.fdp_isolation.proofs.Pages.{program-others}
-use Rattle.fdp_locations.specs.Written.{Written, next_page, next_spare, page_of_ticket}
-use Rattle.fdp_locations.proofs.Owned.{owned-written}
-use Rattle.fdp_locations.proofs.Placed.{written-same}
+use Rattle.fdp_locations.specs.Written.{next_spare}
+use Rattle.fdp_locations.proofs.Grouped.{generation-next}
 use Rattle.fdp_owners.specs.declared.owner.Owner.{Owner}
 use Rattle.fdp_owners.specs.OwnerTable.{owner_at}
 use Rattle.fdp_pages.specs.PageTables.{PageTables}
@@ -48,16 +45,16 @@ use Rattle.fdp_pointers.specs.Contents.{PageContent, content_at}
 use Rattle.fdp_pointers.specs.Facts.{HasOnlyPlaced}
 use Rattle.fdp_pointers.specs.Pointers.{Behind}
 use Rattle.fdp_pointers.proofs.Unplaced.{only-placed-next}
-use Rattle.fdp_rules.specs.Change.{going_with, one_less}
+use Rattle.fdp_rules.specs.Change.{one_less}
 use Rattle.fdp_rules.specs.Effect.{no_reference, with_reference}
 use Rattle.fdp_rules.specs.Answer.{bare}
 use Rattle.fdp_rules.specs.Next.{next as after_entry}
 use Rattle.fdp_rules.specs.PlainState.{Going, PlainState, Reference}
 use Rattle.fdp_rules.specs.Point.{Point}
 use Rattle.fdp_rules.specs.Sites.{group_of}
-use Rattle.fdp_trails.proofs.Moving.{cases_spot, owner-there}
+use Rattle.fdp_trails.proofs.Moving.{owner-there}
 use Rattle.fdp_rules.specs.Step.{Follows, IsPlaced}
-use Rattle.fdp_book.proofs.Longer.{point-two, written-one, written-two}
+use Rattle.fdp_book.proofs.Longer.{point-two, written-two}
 
 -- ---- the next page of a write
 
@@ -86,17 +83,6 @@ next-write old ticket g w spot known is next =
       one : {a b : Going} → Some a ≡ Some b → a ≡ b
       one e = cc
 
--- the write with its ticket
-ticket-going : (old : BookSeen) (ticket : Ticket) (g : Going) → IsKnown old → IsTicketOf (state_in old) ticket g → going_with old.config (state_in old) ticket.position ≡ Some g
-ticket-going old ticket g known is =
-    let queue = (known.orderly.state.writes ticket.queue g is.going_is).queue_is in
-    going_with-is old.config (state_in old) ticket.queue ticket.position g known.orderly.state queue.0 queue.1 is.going_is is.position_is
-
-page-of : (old : BookSeen) (ticket : Ticket) (g : Going) (w : Write) → IsKnown old → IsTicketOf (state_in old) ticket g → write_of g.command ≡ Some w → page_of_ticket old.config (state_in old) ticket.position ≡ Some (next_page old.config (state_in old) g w)
-page-of old ticket g w known is write =
-    ap (option_and_then (λ (x : Going). option_map (next_page old.config (state_in old) x) (write_of x.command))) (ticket-going old ticket g known is)
-    ∙ ap (option_map (next_page old.config (state_in old) g)) write
-
 -- ---- both ends of the program
 
 module _ (old : BookSeen) (ticket : Ticket) (g : Going) (w : Write) (spot : Spot) (bytes : List ℕ) (cells now : List Cell) (kept : StandsOver old cells) (is : IsTicketOf (state_in old) ticket g) (next : IsNextSpot old ticket g spot) (left : ProgramMayLeave (geometry_of old.config) cells spot (data_spare (next_spare (state_in old) g w)) bytes now) (h : AreLaned old cells) where
@@ -119,28 +105,14 @@ module _ (old : BookSeen) (ticket : Ticket) (g : Going) (w : Write) (spot : Spot
   -- what is kept apart after it, with one reference changed
   pub program-laned : (later more : List Entry) (t : PageTables) (r : Reference) → t.handles.classes ≡ old.pages.handles.classes → t.passes ≡ old.pages.passes → reference_at t.handles ≡ with_reference (reference_at old.pages.handles) g.rg g.ruh r → ((u : ℕ) → r.unit ≡ Some u → u ≡ spot.unit)
       → ((other : ℕ) → other ≢ spot.unit → IsTaken t later other → IsTaken old.pages old.entries other)
-      → ((other : ℕ) → IsTrue (list_any (puts_into other) more) → IsTrue (list_any (puts_into other) (since_setting old.entries)) ⊎ (other ≡ spot.unit)) → AreInForce old.config generation (owner_at t.owners) → IsLaned old.config generation later more t now
-  program-laned later more t r classes passes references own taken puts live =
+      → ((other : ℕ) → IsTrue (list_any (puts_into other) more) → IsTrue (list_any (puts_into other) (since_setting old.entries)) ⊎ (other ≡ spot.unit)) → IsLaned old.config generation later more t now
+  program-laned later more t r classes passes references own taken puts =
       laned-got old.config generation old.entries later (since_setting old.entries) more old.pages t cells now spot.unit way
       (fills-unit old.config generation old.pages t now g.rg g.ruh spot kept.known.joined is-next classes passes (filled-by old.config old.pages t g.rg g.ruh spot r kept.known.joined is-next references own) pages)
       taken
       (program-others old.config cells now spot (data_spare (next_spare (state_in old) g w)) bytes left is-write.inside)
       (handle-way old.config generation old.pages.handles.classes now spot.unit g.ruh pages)
-      puts live h.laned
-
-  -- the owner of the page in a book where it was placed
-  pub placed-owner : (new : BookSeen) (x : Owner) → IsLed new → IsLonger old new (entries.Placed (record { ticket = ticket.position; index = g.placed; unit = spot.unit; page = spot.page }) ∷ []) → write_of g.command ≡ Some w → owner_at new.pages.owners spot ≡ Some x → (x.spare.generation ≡ generation) × (x.spare.rg ≡ group_of old.config spot.unit)
-  placed-owner new x led longer write e =
-      let held = owned-written new.config (point_in new) (written_in new) led.at new.pages led.led spot x e in
-      let put : written_in new spot ≡ Some (next_page old.config (state_in old) g w) =
-      ap (λ (f : Spot → Option Written). f spot) (written-one old new (entries.Placed (record { ticket = ticket.position; index = g.placed; unit = spot.unit; page = spot.page })) longer)
-      ∙ written-same (written_in old) spot (page_of_ticket old.config (state_in old) ticket.position)
-      ∙ page-of old ticket g w kept.known is write in
-      let page : held.page ≡ next_page old.config (state_in old) g w = one (sym held.is ∙ put) in
-      let spare : x.spare ≡ next_spare (state_in old) g w = sym held.spare ∙ ap (λ (y : Written). y.spare) page in
-      (ap (λ (y : DataSpare). y.generation) spare, ap (λ (y : DataSpare). y.rg) spare ∙ is-write.group) where
-        one : {a b : Written} → Some a ≡ Some b → a ≡ b
-        one e = cc
+      puts h.laned
 
 -- ---- the page was placed
 
@@ -169,24 +141,13 @@ laned-placed old new ticket g w spot last bytes cells now kept led is write next
     (λ (here : IsTrue (spot.unit == other)). absurd (ne (sym (eqb-true spot.unit other here))))
     (put-cases other old.entries e (subst (λ (xs : List Entry). IsTrue (list_any (puts_into other) xs)) longer.entries_are put)))
     t in
-    let live : AreInForce old.config (state_in old).generation (owner_at new.pages.owners) = λ at x owned. ⊎_elim
-    (λ (same : at ≡ spot).
-    let named = placed-owner old ticket g w spot bytes cells now kept is next left h new x led longer write (ap (owner_at new.pages.owners) (sym same) ∙ owned) in
-    (named.0, named.1 ∙ ap (λ (s : Spot). group_of old.config s.unit) (sym same)))
-    (λ (ne : at ≢ spot). h.laned.live at x (before at x ne owned))
-    (cases_spot at spot) in
     laned-longer old new (e ∷ []) now (quiet-one true old new e longer refl kept.known.orderly (next.follows true) h.placed)
     (program-laned old ticket g w spot bytes cells now kept is next left h new.entries (since_setting old.entries ++ e ∷ []) new.pages (one_less old.config spot.unit (reference_at old.pages.handles g.rg g.ruh))
     (ap (λ (x : HandleTable). x.classes) handles.rest) places.puts.passes (handles.references old.config kept.known.units.unit_pages) (λ u. one-less-unit old.config spot.unit u (reference_at old.pages.handles g.rg g.ruh))
     taken
-    (λ other put. ⊎_elim inl (λ (here : IsTrue (spot.unit == other)). inr (sym (eqb-true spot.unit other here))) (put-cases other (since_setting old.entries) e put))
-    live)
+    (λ other put. ⊎_elim inl (λ (here : IsTrue (spot.unit == other)). inr (sym (eqb-true spot.unit other here))) (put-cases other (since_setting old.entries) e put)))
 
 -- ---- its program failed
-
-pub and-false : (b : Bool) → (b && false) ≡ false
-and-false true = refl
-and-false false = refl
 
 pub laned-shut : (old new : BookSeen) (ticket : Ticket) (g : Going) (w : Write) (spot : Spot) (status : Status) (moment : ℕ) (done : Done) (bytes : List ℕ) (cells now : List Cell) → StandsOver old cells → IsLed new
     → IsTicketOf (state_in old) ticket g → write_of g.command ≡ Some w → IsNextSpot old ticket g spot → ShutsAndEnds old new ticket g spot status moment done
@@ -210,7 +171,7 @@ laned-shut old new ticket g w spot status moment done bytes cells now kept led i
     let orderly = orderly-next true c (point_in old) a kept.known.config kept.known.orderly (shuts.follows true) in
     let stood : StoodBehind (content_at c (state_in old)) (content_at c (state_in new)) =
     subst (λ (p : Point). StoodBehind (content_at c (state_in old)) (content_at c p.state)) (sym point)
-    (subst (λ (k : Behind PageContent). StoodBehind k (content_at c (after_entry c middle b).state)) (shut-content c (point_in old) s) (stood-host c middle ticket.queue g.number g.command reply moment orderly.state (inl refl))) in
+    (subst (λ (k : Behind PageContent). StoodBehind k (content_at c (after_entry c middle b).state)) (shut-content c (point_in old) s) (stood-unmade c middle ticket.queue g.number g.command reply moment orderly.state refl)) in
     let keeps : KeepsOwners (owner_at old.pages.owners) (owner_at new.pages.owners) = book-owners old new kept.known.led led longer.config_is (written-two old new a b longer) sites stood in
     let handles = shuts.shut.handles in
     laned-longer old new (a ∷ b ∷ []) now (record { longer = longer; quiet = quiet; generation = generation; placed = placed })
@@ -220,7 +181,6 @@ laned-shut old new ticket g w spot status moment done bytes cells now kept led i
     (ap (λ (x : HandleTable). reference_at x) shuts.left.handles ∙ handles.references c kept.known.units.unit_pages)
     (λ u none. absurd (never u none))
     (λ other ne t. taken-kept old new (a ∷ b ∷ []) longer (λ at x owned. let was = keeps at x owned in (was.0, was.1)) (λ unit. refl) other t)
-    (λ other put. inl (put-before other (since_setting old.entries) (a ∷ b ∷ []) refl put))
-    (force-kept c (state_in old).generation (owner_at old.pages.owners) (owner_at new.pages.owners) keeps h.laned.live)) where
+    (λ other put. inl (put-before other (since_setting old.entries) (a ∷ b ∷ []) refl put))) where
       never : (u : ℕ) → None ≡ Some u → ⊥
       never u e = cc

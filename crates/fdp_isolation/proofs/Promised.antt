@@ -22,11 +22,10 @@ use Rattle.fdp_image.specs.Roomy.{page_in}
 use Rattle.fdp_isolation.specs.Isolated.{IsIsolatedDrive, has_live, is_in_use, since_setting}
 use Rattle.fdp_isolation.specs.Laned.{AreLaned, IsKeptApart, IsKnown, IsTaken, StandsOver}
 use Rattle.fdp_isolation.proofs.Entries.{put-whole}
-use Rattle.fdp_isolation.proofs.Filling.{data-unit, target-unit}
 use Rattle.fdp_isolation.proofs.Pages.{HasNoPage, blank-unit-none, each-both, each-none, each-weaker}
 use Rattle.fdp_image.proofs.Spares.{Says, spare-says}
 use Rattle.fdp_locations.specs.Located.{next_in}
-use Rattle.fdp_locations.proofs.Owned.{owned-written}
+use Rattle.fdp_locations.proofs.Owned.{owned-units, owned-written}
 use Rattle.fdp_owners.specs.declared.owner.Owner.{Owner}
 use Rattle.fdp_owners.specs.OwnerTable.{owner_at}
 use Rattle.fdp_passes.specs.declared.lane.Lane.TheVariants.{Own, Shared}
@@ -54,10 +53,9 @@ laned-fresh c b cells known first blank = record {
       past = λ taken. omega arith;
       way = λ taken force. (Shared, each-none b.config unit cells _ (none unit is));
     };
-    filled = λ rg ruh unit e. each-none b.config unit cells _ (none unit (data-unit b.config (state_in b) b.pages unit known.units (known.joined.filled.fills rg ruh unit e).stands.is_unit));
-    targets = λ rg unit lane e. each-none b.config unit cells _ (none unit (data-unit b.config (state_in b) b.pages unit known.units (target-unit b.pages rg unit lane known.joined e).is_unit));
-    put = λ unit put. absurd (false-true (sym (ap (list_any (puts_into unit)) (ap since_setting first.entries_are ∙ no-entries)) ∙ put));
-    live = λ spot x e. absurd (never x (sym (first.unused.owners spot) ∙ e));
+    filled = λ rg ruh unit is e. each-none b.config unit cells _ (none unit is);
+    targets = λ rg unit lane is e. each-none b.config unit cells _ (none unit is);
+    put = λ unit is put. absurd (false-true (sym (ap (list_any (puts_into unit)) (ap since_setting first.entries_are ∙ no-entries)) ∙ put));
   };
   placed = subst (λ (es : List Entry). HasOnlyPlaced (point_of b.config b.found es)) (sym first.entries_are) (only-placed-first b.config b.found);
 } where
@@ -106,7 +104,7 @@ module _ (b : BookSeen) (cells : List Cell) (kept : StandsOver b cells) (h : Are
   -- a unit with a page that has an owner goes one way in the generation in force
   owned-own : (spot : Spot) (x : Owner) → owner_at b.pages.owners spot ≡ Some x → (is : IsDataUnit b.config spot.unit) → (h.laned.units spot.unit is).group.generation ≡ (state_in b).generation
   owned-own spot x e is =
-      let force = h.laned.live spot x e in
+      let force = owned-units b.config (point_in b) (written_in b) kept.known.led.at b.pages kept.known.led.led spot x e in
       let held = owned-written b.config (point_in b) (written_in b) kept.known.led.at b.pages kept.known.led.led spot x e in
       let group : held.page.spare.rg ≡ group_of b.config spot.unit = ap (λ (y : DataSpare). y.rg) held.spare ∙ force.1 in
       let below = group-below b.config spot.unit is in
@@ -176,5 +174,5 @@ pub isolated : (b : BookSeen) (cells : List Cell) → StandsOver b cells → Are
 isolated b cells kept h = record {
   grouped = λ unit is. (h.laned.units unit is).group;
   apart = λ unit is used. force-isolated b cells kept h unit is (used-taken b cells kept h unit is used)
-      (⊎_elim (live-force b cells kept h unit is) (h.laned.put unit) (or-cases (has_live b.config (point_in b) unit) (list_any (puts_into unit) (since_setting b.entries)) used));
+      (⊎_elim (live-force b cells kept h unit is) (h.laned.put unit is) (or-cases (has_live b.config (point_in b) unit) (list_any (puts_into unit) (since_setting b.entries)) used));
 }

@@ -9,7 +9,7 @@ use Rattle.fdp_base.specs.declared.entry.Entry.TheVariants as entries
 use Rattle.fdp_base.specs.declared.entry.Spot.{Spot}
 use Rattle.fdp_base.specs.Placement.{geometry_of}
 use Rattle.fdp_base.specs.Spare.{data_spare}
-use Rattle.fdp_book.specs.Book.{BookSeen, IsLonger, point_in, state_in}
+use Rattle.fdp_book.specs.Book.{BookSeen, IsLonger, point_in, state_in, written_in}
 use Rattle.fdp_book.specs.Relocating.{Relocates}
 use Rattle.fdp_collector.specs.declared.step.Lost.TheVariants as lost
 use Rattle.fdp_collector.specs.declared.step.Step.{Step}
@@ -31,9 +31,10 @@ use Rattle.fdp_isolation.specs.Isolated.{sets_placement, since_setting}
 use Rattle.fdp_isolation.specs.Laned.{AreLaned, StandsOver}
 use Rattle.fdp_isolation.proofs.Copying.{KeepsTargets, copied-fills, copied-pages, same-targets, used-targets, went-targets}
 use Rattle.fdp_isolation.proofs.Entries.{IsQuietStep, put-before, put-cases, quiet-none, quiet-one}
-use Rattle.fdp_isolation.proofs.Keeping.{AreInForce, FillsNoMore, laned-got, laned-longer, laned-still, taken-kept}
+use Rattle.fdp_isolation.proofs.Keeping.{FillsNoMore, laned-got, laned-longer, laned-still, taken-kept}
 use Rattle.fdp_isolation.proofs.Pages.{KeepsPages, erase-keeps, program-others}
 use Rattle.fdp_locations.proofs.Others.{ChangesPasses, passes-other}
+use Rattle.fdp_locations.proofs.Owned.{owned-units}
 use Rattle.fdp_owners.specs.declared.owner.Owner.{Owner}
 use Rattle.fdp_owners.specs.OwnerTable.{OwnerTable, owner_at}
 use Rattle.fdp_pages.specs.PageTables.{PageTables, passes_at, relocation_at}
@@ -60,9 +61,6 @@ module _ (old new : BookSeen) (before after : FlashState) (rg : ℕ) (may_erase 
     passes = ap (λ (t : PageTables). t.passes) relocates.rest;
   }
 
-  live : Stays → AreInForce old.config (state_in old).generation (owner_at new.pages.owners)
-  live same spot x e = h.laned.live spot x (ap (λ (o : OwnerTable). owner_at o spot) (sym same.owners) ∙ e)
-
   fills : Stays → KeepsTargets (passes_at old.pages rg) (passes_at new.pages rg) → FillsNoMore old.pages new.pages
   fills same keeps = record {
     classes = ap (λ (x : HandleTable). x.classes) same.handles;
@@ -82,7 +80,7 @@ module _ (old new : BookSeen) (before after : FlashState) (rg : ℕ) (may_erase 
   -- ---- no page is put
 
   still : (es : List Entry) → IsQuietStep old new es → Stays → ((unit : ℕ) → list_any (puts_into unit) es ≡ false) → KeepsTargets (passes_at old.pages rg) (passes_at new.pages rg) → ((unit : ℕ) → KeepsPages old.config before.cells after.cells unit) → AreLaned new after.cells
-  still es step same none keeps cells = laned-still old new es before.cells after.cells step (fills same keeps) (taken-kept old new es step.longer (λ spot x e. (x, before-owner same spot x e)) none) cells none (live same) h
+  still es step same none keeps cells = laned-still old new es before.cells after.cells step (fills same keeps) (taken-kept old new es step.longer (λ spot x e. (x, before-owner same spot x e)) none) (λ unit lies. cells unit) none h
 
   same-cells : after.cells ≡ before.cells → (unit : ℕ) → KeepsPages old.config before.cells after.cells unit
   same-cells same = subst (λ (cells : List Cell). (unit : ℕ) → KeepsPages old.config before.cells cells unit) (sym same) (λ unit page spare bytes low is. is)
@@ -127,8 +125,9 @@ module _ (old new : BookSeen) (before after : FlashState) (rg : ℕ) (may_erase 
         (λ put. ⊎_elim (λ was. inr was) (λ (here : other ≡ is.to.unit). absurd (ne here)) (puts old.entries other (subst (λ (xs : List Entry). IsTrue (list_any (puts_into other) xs)) quiet.longer.entries_are put)))
         taken)
         (program-others old.config before.cells after.cells is.to (data_spare is.owner.spare) left.0 left.1 inside)
-        (copied-pages old.config (state_in old) old.entries (since_setting old.entries) old.pages before.cells rg (state_in old).generation kept.known.units kept.known.joined kept.holds.blank there h.laned is.from is.to is.owner is.middle is.due is.owned is.opened after.cells left.0 (omega (arith, groups.1)) kept.known.generation inside left.1)
-        (puts (since_setting old.entries)) (live same) h.laned)
+        (copied-pages old.config (state_in old) old.entries (since_setting old.entries) old.pages before.cells rg (state_in old).generation kept.known.units kept.known.joined kept.holds.blank there h.laned is.from is.to is.owner is.middle is.due is.owned is.opened after.cells left.0
+        (owned-units old.config (point_in old) (written_in old) kept.known.led.at old.pages kept.known.led.led is.from is.owner is.owned) (omega (arith, groups.1)) kept.known.generation inside left.1)
+        (puts (since_setting old.entries)) h.laned)
 
   -- the targets after it
   added-targets : (middle : Relocation) (lane : Lane) (copy : Copied) → AddsCopy middle (relocation_at new.pages rg) lane copy → KeepsTargets middle.passes (passes_at new.pages rg)

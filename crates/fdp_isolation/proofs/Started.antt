@@ -11,7 +11,7 @@ use Rattle.fdp_flash.specs.declared.cell.Cell.{Cell}
 use Rattle.fdp_isolation.specs.Laned.{AreLaned, IsKnown}
 use Rattle.fdp_isolation.proofs.Entries.{quiet-one}
 use Rattle.fdp_isolation.proofs.Keeping.{laned-still, owners-fill, taken-kept}
-use Rattle.fdp_isolation.proofs.Owning.{KeepsOwners, StoodBehind, book-owners, force-kept, started-site, stood-renamed}
+use Rattle.fdp_isolation.proofs.Owning.{KeepsOwners, StoodBehind, book-owners, started-site, stood-renamed}
 use Rattle.fdp_owners.specs.OwnerTable.{owner_at}
 use Rattle.fdp_pages.specs.Steps.{ChangesOwners}
 use Rattle.fdp_pointers.specs.Contents.{content_at, renamed_by}
@@ -36,7 +36,6 @@ laned-started old new queue number command ticket cells known led starts changes
     laned-still old new (e ∷ []) cells cells (quiet-one true old new e longer refl known.orderly (starts.follows true) h.placed)
     (owners-fill old.pages new.pages changes)
     (taken-kept old new (e ∷ []) longer (λ spot x owned. let was = keeps spot x owned in (was.0, was.1)) (λ unit. refl))
-    (λ unit page spare bytes low is. is)
+    (λ unit lies page spare bytes low is. is)
     (λ unit. refl)
-    (force-kept old.config (state_in old).generation (owner_at old.pages.owners) (owner_at new.pages.owners) keeps h.laned.live)
     h

@@ -24,7 +24,6 @@ use Rattle.fdp_pages.specs.PageTables.{PageTables, passes_at, unit_of}
 use Rattle.fdp_passes.specs.declared.lane.Lane.{Lane}
 use Rattle.fdp_passes.specs.GroupPasses.{lane_of, target_at}
 use Rattle.fdp_pointers.specs.Facts.{HasOnlyPlaced}
-use Rattle.fdp_rules.specs.Sites.{group_of}
 use Rattle.fdp_rules.specs.Step.{IsDataUnit}
 
 -- ---- what is known of a book beside its cells
@@ -64,15 +63,14 @@ pub record IsKeptApart (c : DriveConfig) (generation : ℕ) (classes : List Clas
   pub past : taken → group.generation ≤ generation
   pub way : taken → group.generation ≡ generation → GoOneWay c classes cells unit
 
--- What is kept apart, where this generation is in force, by the entries of the run, and those since it came in force: each unit is kept
+-- What is kept apart, where this generation is in force, by the entries of the run, and those since it came in force: each data unit is kept
 -- apart; the whole pages of one that a handle fills name the handle, those of a target go the way of its lane, and both name the generation
--- in force; so do those of a unit into which an entry since put a page, and the spare that the owner of a live page knows.
+-- in force; so do those of a unit into which an entry since put a page.
 pub record IsLaned (c : DriveConfig) (generation : ℕ) (run es : List Entry) (t : PageTables) (cells : List Cell) : Type 0 where
   pub units : (unit : ℕ) → IsDataUnit c unit → IsKeptApart c generation t.handles.classes cells unit (IsTaken t run unit)
-  pub filled : (rg ruh unit : ℕ) → unit_of t rg ruh ≡ Some unit → EachPage c cells unit (λ x. (x.generation ≡ generation) × (x.ruh ≡ ruh))
-  pub targets : (rg unit : ℕ) (lane : Lane) → target_at (passes_at t rg) lane ≡ Some unit → EachPage c cells unit (λ x. (x.generation ≡ generation) × (lane_by t.handles.classes x ≡ lane))
-  pub put : (unit : ℕ) → IsTrue (list_any (puts_into unit) es) → EachPage c cells unit (λ x. x.generation ≡ generation)
-  pub live : (spot : Spot) (x : Owner) → owner_at t.owners spot ≡ Some x → (x.spare.generation ≡ generation) × (x.spare.rg ≡ group_of c spot.unit)
+  pub filled : (rg ruh unit : ℕ) → IsDataUnit c unit → unit_of t rg ruh ≡ Some unit → EachPage c cells unit (λ x. (x.generation ≡ generation) × (x.ruh ≡ ruh))
+  pub targets : (rg unit : ℕ) (lane : Lane) → IsDataUnit c unit → target_at (passes_at t rg) lane ≡ Some unit → EachPage c cells unit (λ x. (x.generation ≡ generation) × (lane_by t.handles.classes x ≡ lane))
+  pub put : (unit : ℕ) → IsDataUnit c unit → IsTrue (list_any (puts_into unit) es) → EachPage c cells unit (λ x. x.generation ≡ generation)
 
 -- a book and its cells; each page of a going write that stands somewhere was placed
 pub record AreLaned (b : BookSeen) (cells : List Cell) : Type 0 where

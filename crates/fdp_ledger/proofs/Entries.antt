@@ -6,20 +6,20 @@ use Rattle.std.proofs.lemmas.List.{append-nil}
 use Rattle.std.proofs.lemmas.List.Sums.{fold-append, sum_by-append}
 use Rattle.fdp_base.specs.declared.entry.Entry.{Entry}
 use Rattle.fdp_base.specs.EntryKinds.{empties, is_unit, unit_erased, unit_filled}
-use Rattle.fdp_ledger.specs.Uses.{idle_after, idle_erases, idle_of, no_units, used_after, used_by}
+use Rattle.fdp_ledger.specs.Uses.{RunStart, idle_after, idle_erases, idle_of, used_after, used_by}
 
-pub used-push : (es : List Entry) (e : Entry) → used_by (es ++ e ∷ []) ≡ used_after (used_by es) e
+pub used-push : (start : RunStart) (es : List Entry) (e : Entry) → used_by start (es ++ e ∷ []) ≡ used_after (used_by start es) e
 unfolding used_by
-used-push es e = fold-append used_after no_units es (e ∷ [])
+used-push start es e = fold-append used_after start.had es (e ∷ [])
 
 idle-after : (used : ℕ → Bool) (es : List Entry) (e : Entry) → idle_after used (es ++ e ∷ []) ≡ idle_after used es + idle_of (fold used_after used es) e
 unfolding idle_after
 idle-after used [] e = omega arith
 idle-after used (x ∷ xs) e = omega (arith, idle-after (used_after used x) xs e)
 
-pub idle-push : (es : List Entry) (e : Entry) → idle_erases (es ++ e ∷ []) ≡ idle_erases es + idle_of (used_by es) e
+pub idle-push : (start : RunStart) (es : List Entry) (e : Entry) → idle_erases start (es ++ e ∷ []) ≡ idle_erases start es + idle_of (used_by start es) e
 unfolding used_by
-idle-push es e = idle-after no_units es e
+idle-push start es e = idle-after start.had es e
 
 pub count-push : (p : Entry → Bool) (es xs : List Entry) → count_by p (es ++ xs) ≡ count_by p es + count_by p xs
 count-push p es xs = sum_by-append (λ e. if p e then 1 else 0) es xs
@@ -41,27 +41,27 @@ pub quiet-idle : (used : ℕ → Bool) (e : Entry) → IsQuiet e → idle_of use
 quiet-idle used e h = ap (λ (o : Option ℕ). option_map_or (λ unit. if used unit then 0 else 1) o 0) h.erased
 
 -- after quiet entries the same units got pages, and as many erases were idle
-pub record SaysNothing (es xs : List Entry) : Type 0 where
-  pub used : (unit : ℕ) → used_by (es ++ xs) unit ≡ used_by es unit
-  pub idle : idle_erases (es ++ xs) ≡ idle_erases es
+pub record SaysNothing (start : RunStart) (es xs : List Entry) : Type 0 where
+  pub used : (unit : ℕ) → used_by start (es ++ xs) unit ≡ used_by start es unit
+  pub idle : idle_erases start (es ++ xs) ≡ idle_erases start es
 
-pub quiet-none : (es : List Entry) → SaysNothing es []
-quiet-none es = record { used = λ unit. ap (λ (xs : List Entry). used_by xs unit) (append-nil es); idle = ap idle_erases (append-nil es) }
+pub quiet-none : (start : RunStart) (es : List Entry) → SaysNothing start es []
+quiet-none start es = record { used = λ unit. ap (λ (xs : List Entry). used_by start xs unit) (append-nil es); idle = ap (idle_erases start) (append-nil es) }
 
-pub quiet-one : (es : List Entry) (e : Entry) → IsQuiet e → SaysNothing es (e ∷ [])
-quiet-one es e h = record {
-  used = λ unit. ap (λ (f : ℕ → Bool). f unit) (used-push es e) ∙ quiet-used (used_by es) e h unit;
-  idle = omega (arith, idle-push es e, quiet-idle (used_by es) e h);
+pub quiet-one : (start : RunStart) (es : List Entry) (e : Entry) → IsQuiet e → SaysNothing start es (e ∷ [])
+quiet-one start es e h = record {
+  used = λ unit. ap (λ (f : ℕ → Bool). f unit) (used-push start es e) ∙ quiet-used (used_by start es) e h unit;
+  idle = omega (arith, idle-push start es e, quiet-idle (used_by start es) e h);
 }
 
-pub quiet-two : (es : List Entry) (a b : Entry) → IsQuiet a → IsQuiet b → SaysNothing es (a ∷ b ∷ [])
-quiet-two es a b first second =
-    let one = quiet-one es a first in
-    let two = quiet-one (es ++ a ∷ []) b second in
+pub quiet-two : (start : RunStart) (es : List Entry) (a b : Entry) → IsQuiet a → IsQuiet b → SaysNothing start es (a ∷ b ∷ [])
+quiet-two start es a b first second =
+    let one = quiet-one start es a first in
+    let two = quiet-one start (es ++ a ∷ []) b second in
     let cut : es ++ a ∷ b ∷ [] ≡ (es ++ a ∷ []) ++ b ∷ [] = sym (append_assoc es (a ∷ []) (b ∷ [])) in
     record {
-      used = λ unit. ap (λ (xs : List Entry). used_by xs unit) cut ∙ two.used unit ∙ one.used unit;
-      idle = ap idle_erases cut ∙ two.idle ∙ one.idle;
+      used = λ unit. ap (λ (xs : List Entry). used_by start xs unit) cut ∙ two.used unit ∙ one.used unit;
+      idle = ap (idle_erases start) cut ∙ two.idle ∙ one.idle;
     }
 
 -- an entry of a page: its unit got one, and no other; no erase is told

@@ -1,27 +1,33 @@
 -- A ledger after a step, from what stands of its parts.
-use Rattle.std.proofs.Common.{◌≡◌, ℕ, ◌+◌, ◌*◌, ◌^◌, ◌<◌, ◌≤◌, Bool, true, false, cond, ◌||◌, List, ◌++◌, length, length-append, refl, sym, ◌∙◌, ap, subst, arith}
+use Rattle.std.proofs.Common.{◌≡◌, ℕ, ◌+◌, ◌*◌, ◌^◌, ◌<◌, ◌≤◌, Bool, true, false, cond, not, ◌||◌, List, ◌++◌, length, length-append, refl, sym, ◌∙◌, ap, subst, arith}
 use Rattle.std.specs.Prelude.{IsTrue, count_by}
 use Rattle.std.specs.List.{list_any}
 use Rattle.std.proofs.lemmas.List.Folds.{list_any-append}
 use Rattle.std.proofs.lemmas.List.Sums.{sum_by-append}
+use Rattle.fdp_base.specs.declared.config.DriveConfig.{DriveConfig}
 use Rattle.fdp_base.specs.declared.entry.Entry.{Entry}
 use Rattle.fdp_base.specs.Counts.{Rose}
 use Rattle.fdp_base.specs.Numbers.{count_below}
+use Rattle.fdp_base.specs.Placement.{geometry_of}
 use Rattle.fdp_base.specs.EntryKinds.{is_shut, loses_unit, wears_group}
 use Rattle.fdp_book.specs.Book.{BookSeen, IsLonger, state_in}
 use Rattle.fdp_calls.specs.Calls.{counted_more}
 use Rattle.fdp_calls.proofs.Made.{counted_more-add, counted_more-none}
+use Rattle.fdp_flash.specs.declared.cell.Cell.{Cell}
 use Rattle.fdp_flash.specs.Cells.{IsBlankUnit}
 use Rattle.fdp_flash.specs.FlashState.{Call, FlashState}
 use Rattle.fdp_pages.specs.PageTables.{PageTables, passes_at}
 use Rattle.fdp_passes.specs.Place.{has_taken}
+use Rattle.fdp_rules.specs.History.{Found}
 use Rattle.fdp_rules.specs.Totals.{media_blocks, media_blocks_of}
 use Rattle.fdp_units.specs.UnitTable.{IsGroup, UnitTable, cut_of}
 use Rattle.fdp_ledger.specs.declared.counts.Counts.{Counts}
 use Rattle.fdp_ledger.specs.Counted.{CountedSince}
 use Rattle.fdp_ledger.specs.Ledger.{AreAccounted, HasFreeUnits, IsLedger, is_vain}
 use Rattle.fdp_ledger.specs.Told.{is_media_reply}
-use Rattle.fdp_ledger.specs.Uses.{idle_erases}
+use Rattle.fdp_ledger.specs.Start.{KnowsUnits, start_of}
+use Rattle.fdp_ledger.specs.Uses.{RunStart, idle_erases}
+use Rattle.fdp_image.specs.Roomy.{is_blank_unit}
 use Rattle.fdp_ledger.proofs.Accounted.{accounted-kept}
 use Rattle.fdp_ledger.proofs.Called.{ErasesNone, IsAfter}
 use Rattle.fdp_ledger.proofs.Counting.{one-more_bound, still-bound}
@@ -60,9 +66,9 @@ still-worn h a b es xs up none was wears =
       first false y e h = sym e ∙ h
 
 -- each idle erase has a fault of its own
-pub idle-bound : (handed : Counts) (t : UnitTable) (es : List Entry) (now : FlashState) → handed.faults < 2 ^ 64 → AreAccounted handed t es now → counted_more handed.faults (idle_erases es) ≤ now.faults
-idle-bound handed t es now small units =
-    still-bound handed.faults (idle_erases es + count_below (length t.groups * t.group_units) (is_vain t es)) (idle_erases es) now.faults now.faults small (omega arith) (omega arith) units.vain
+pub idle-bound : (handed : Counts) (start : RunStart) (t : UnitTable) (es : List Entry) (now : FlashState) → handed.faults < 2 ^ 64 → AreAccounted handed start t es now → KnowsUnits now.told start → counted_more handed.faults (idle_erases start es) ≤ now.faults
+idle-bound handed start t es now small units knows =
+    still-bound handed.faults (idle_erases start es + count_below (length t.groups * t.group_units) (is_vain start t es)) (idle_erases start es) now.faults now.faults small (omega arith) (omega arith) (units.vain knows)
 
 -- ---- the parts together
 
@@ -72,26 +78,36 @@ pub record HasParts (handed : Counts) (b new : BookSeen) (now : FlashState) (xs 
   pub media_replies : counted_more handed.faults (count_by is_media_reply (b.entries ++ xs)) ≤ now.faults
   pub shut : counted_more handed.faults (count_by is_shut (b.entries ++ xs)) ≤ now.faults
   pub lost : counted_more handed.faults (count_by loses_unit (b.entries ++ xs)) ≤ now.faults
-  pub worn : IsTrue (list_any wears_group (b.entries ++ xs)) → Rose handed.faults now.faults
-  pub units : AreAccounted handed new.pages.units (b.entries ++ xs) now
-  pub free : (Rose handed.faults now.faults → ⊥) → (rg : ℕ) → IsGroup new.pages.units rg → HasFreeUnits new.pages rg
+  pub worn : IsTrue (start_of b).fresh → IsTrue (list_any wears_group (b.entries ++ xs)) → Rose handed.faults now.faults
+  pub units : AreAccounted handed (start_of b) new.pages.units (b.entries ++ xs) now
+  pub free : IsTrue (start_of b).fresh → (Rose handed.faults now.faults → ⊥) → (rg : ℕ) → IsGroup new.pages.units rg → HasFreeUnits new.pages rg
   pub moments : HavePassed (state_in new).media now.moment
+
+-- a run goes on as it began
+pub same-start : (b new : BookSeen) (xs : List Entry) → IsLonger b new xs → start_of new ≡ start_of b
+same-start b new xs longer =
+    ap (λ (c : DriveConfig). begun c new.found new.opened) longer.config_is
+    ∙ ap (λ (f : Found). begun b.config f new.opened) longer.found_is
+    ∙ ap (begun b.config b.found) longer.opened_is where
+      begun : DriveConfig → Found → List Cell → RunStart
+      begun c f cells = record { fresh = not f.is_image; had = λ unit. not (is_blank_unit (geometry_of c) cells unit) }
 
 pub ledger-of : (handed : Counts) (b new : BookSeen) (old now : FlashState) (calls : List Call) (xs : List Entry) → IsLonger b new xs → IsAfter old now calls → HasParts handed b new now xs → IsLedger handed b old → IsLedger handed new now
 ledger-of handed b new old now calls xs longer after parts was = record {
   handed_is = was.handed_is;
-  counted = subst (CountedSince handed now) (sym longer.entries_are) (record {
+  counted = subst (λ (start : RunStart). CountedSince handed now start new.entries) (sym (same-start b new xs longer)) (subst (CountedSince handed now (start_of b)) (sym longer.entries_are) (record {
     moment = let early = was.counted.moment in omega (arith, early, after.moment);
     programs = parts.programs;
     media_replies = parts.media_replies;
     shut = parts.shut;
     lost = parts.lost;
-    idle = idle-bound handed new.pages.units (b.entries ++ xs) now was.handed_is parts.units;
+    idle = λ knows. idle-bound handed (start_of b) new.pages.units (b.entries ++ xs) now was.handed_is parts.units knows;
     worn = parts.worn;
-  });
+  }));
   listed = λ tells. let low = was.listed (after.tells tells) in omega (arith, low, ap length (after.listed tells), length-append old.calls calls);
-  units = subst (λ (es : List Entry). AreAccounted handed new.pages.units es now) (sym longer.entries_are) parts.units;
-  free = parts.free;
+  units = subst (λ (start : RunStart). AreAccounted handed start new.pages.units new.entries now) (sym (same-start b new xs longer))
+      (subst (λ (es : List Entry). AreAccounted handed (start_of b) new.pages.units es now) (sym longer.entries_are) parts.units);
+  free = λ fresh. parts.free (ap (λ (start : RunStart). start.fresh) (sym (same-start b new xs longer)) ∙ fresh);
   moments = parts.moments;
 }
 
@@ -102,12 +118,12 @@ no-rose h a b up none rose = none (omega (arith, rose, up))
 -- ---- a step that leaves the units as they are
 
 -- entries that tell of no page, no erase, no handle that was shut, no unit that was lost and no group that was worn
-pub record AreStill (es xs : List Entry) : Type 0 where
+pub record AreStill (start : RunStart) (es xs : List Entry) : Type 0 where
   pub pages : media_blocks xs ≡ 0
   pub shut : count_by is_shut xs ≡ 0
   pub lost : count_by loses_unit xs ≡ 0
   pub worn : list_any wears_group xs ≡ false
-  pub says : SaysNothing es xs
+  pub says : SaysNothing start es xs
 
 -- the same units are free, and the same passes took one
 pub record KeepsFree (old new : PageTables) : Type 0 where
@@ -117,7 +133,7 @@ pub record KeepsFree (old new : PageTables) : Type 0 where
 pub group-was : (t now : UnitTable) (rg : ℕ) → cut_of now ≡ cut_of t → IsGroup now rg → IsGroup t rg
 group-was t now rg cut is = omega (arith, is, ap (λ k. k.groups) cut)
 
-pub still-ledger : (handed : Counts) (b new : BookSeen) (old now : FlashState) (calls : List Call) (xs : List Entry) → IsLonger b new xs → IsAfter old now calls → ErasesNone calls → now.programs ≡ old.programs → (IsTrue old.told → now.cells ≡ old.cells) → AreStill b.entries xs → KeepsFree b.pages new.pages
+pub still-ledger : (handed : Counts) (b new : BookSeen) (old now : FlashState) (calls : List Call) (xs : List Entry) → IsLonger b new xs → IsAfter old now calls → ErasesNone calls → now.programs ≡ old.programs → (IsTrue old.told → now.cells ≡ old.cells) → AreStill (start_of b) b.entries xs → KeepsFree b.pages new.pages
     → counted_more handed.faults (count_by is_media_reply (b.entries ++ xs)) ≤ now.faults → HavePassed (state_in new).media now.moment → IsLedger handed b old → IsLedger handed new now
 still-ledger handed b new old now calls xs longer after none programs cells still keeps media moments was =
     ledger-of handed b new old now calls xs longer after (record {
@@ -125,12 +141,12 @@ still-ledger handed b new old now calls xs longer after none programs cells stil
       media_replies = media;
       shut = bound-none handed was.handed_is is_shut b.entries xs old.faults now.faults after.faults was.counted.shut still.shut;
       lost = bound-none handed was.handed_is loses_unit b.entries xs old.faults now.faults after.faults was.counted.lost still.lost;
-      worn = still-worn handed.faults old.faults now.faults b.entries xs after.faults still.worn was.counted.worn;
-      units = accounted-kept handed b.pages.units new.pages.units b.entries old now calls was.handed_is was.listed after was.units xs keeps.units still.says none
-          (λ told unit kept blank. same-emptied old.geometry old.cells now.cells (cells told) unit (subst (λ g. IsBlankUnit g now.cells unit) after.geometry blank));
-      free = λ well rg is.
+      worn = λ fresh. still-worn handed.faults old.faults now.faults b.entries xs after.faults still.worn (was.counted.worn fresh);
+      units = accounted-kept handed (start_of b) b.pages.units new.pages.units b.entries old now calls was.handed_is was.listed after was.units xs keeps.units still.says (λ unit there. none unit)
+          (λ told unit there kept blank. same-emptied old.geometry old.cells now.cells (cells told) unit (subst (λ g. IsBlankUnit g now.cells unit) after.geometry blank));
+      free = λ fresh well rg is.
           let there = group-was b.pages.units new.pages.units rg keeps.units.cut is in
-          free-kept b.pages new.pages rg keeps.units.cut (λ unit group. keeps.units.free unit) (keeps.taken rg there) (was.free (no-rose handed.faults old.faults now.faults after.faults well) rg there);
+          free-kept b.pages new.pages rg keeps.units.cut (λ unit group. keeps.units.free unit) (keeps.taken rg there) (was.free fresh (no-rose handed.faults old.faults now.faults after.faults well) rg there);
       moments = moments;
     }) was
 

@@ -15,7 +15,8 @@ pub mod Shutting
 pub mod Relocated
 pub mod Blank
 pub mod Moved
-pub mod Fresh
+pub mod Begun
 pub mod Promised
 pub mod Alike
 pub mod Flash
+pub mod System

@@ -10,7 +10,7 @@ use Rattle.fdp_base.specs.declared.entry.Entry.{Entry}
 use Rattle.fdp_base.specs.declared.entry.Entry.TheVariants as entries
 use Rattle.fdp_base.specs.declared.entry.Reply.{Reply}
 use Rattle.fdp_base.specs.Counts.{Rose}
-use Rattle.fdp_book.specs.Book.{BookSeen, IsLonger, point_in, state_in}
+use Rattle.fdp_book.specs.Book.{BookSeen, IsLonger, state_in}
 use Rattle.fdp_calls.specs.Calls.{FailedAt}
 use Rattle.fdp_flash.specs.FlashState.{FlashState}
 use Rattle.fdp_rules.specs.Change.{after, changed_by, is_media_error}

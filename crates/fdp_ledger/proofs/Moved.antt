@@ -19,6 +19,7 @@ use Rattle.fdp_passes.specs.Place.{has_taken}
 use Rattle.fdp_rules.specs.Sites.{moved_blocks}
 use Rattle.fdp_units.specs.UnitTable.{IsGroup}
 use Rattle.fdp_ledger.specs.declared.counts.Counts.{Counts}
+use Rattle.fdp_ledger.specs.Start.{start_of}
 use Rattle.fdp_ledger.specs.Ledger.{IsLedger}
 use Rattle.fdp_ledger.specs.Told.{is_media_reply}
 use Rattle.fdp_ledger.proofs.Called.{after-uncalled}
@@ -50,7 +51,7 @@ pub ledger-moved : (handed : Counts) (b new : BookSeen) (old now : FlashState) (
 ledger-moved handed b new old now rg Image joined step flash run was =
     let after = after-uncalled old now Image flash run in
     still-ledger handed b new old now [] (entries.Moved (record { rg = rg; blocks = moved_blocks (point_in b) rg }) ∷ []) step.longer after (λ unit. refl) flash.programs flash.cells
-    (record { pages = refl; shut = refl; lost = refl; worn = refl; says = quiet-one b.entries _ (record { filled = refl; erased = refl }) })
+    (record { pages = refl; shut = refl; lost = refl; worn = refl; says = quiet-one (start_of b) b.entries _ (record { filled = refl; erased = refl }) })
     (moved-keep b new rg joined step)
     (bound-none handed was.handed_is is_media_reply b.entries _ old.faults now.faults after.faults was.counted.media_replies refl)
     (passed-later (state_in b).media (state_in new).media old.moment now.moment (quiet-media b new _ step.longer refl) after.moment was.moments)

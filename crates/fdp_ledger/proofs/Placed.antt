@@ -29,6 +29,7 @@ use Rattle.fdp_rules.specs.PlainState.{Going, Reference}
 use Rattle.fdp_units.specs.DataUnits.{is_free}
 use Rattle.fdp_units.specs.UnitTable.{Cut, IsFreeUnit, count_in, group_in, state_at, unit_at}
 use Rattle.fdp_ledger.specs.declared.counts.Counts.{Counts}
+use Rattle.fdp_ledger.specs.Start.{start_of}
 use Rattle.fdp_ledger.specs.Ledger.{HasFreeUnits, IsLedger}
 use Rattle.fdp_ledger.specs.Told.{is_media_reply}
 use Rattle.fdp_ledger.proofs.Accounted.{accounted-filled}
@@ -90,12 +91,12 @@ ledger-placed handed b new old now ticket g spot last spare bytes joined units g
       media_replies = bound-none handed was.handed_is is_media_reply b.entries _ old.faults now.faults after.faults was.counted.media_replies refl;
       shut = bound-none handed was.handed_is is_shut b.entries _ old.faults now.faults after.faults was.counted.shut refl;
       lost = bound-none handed was.handed_is loses_unit b.entries _ old.faults now.faults after.faults was.counted.lost refl;
-      worn = still-worn handed.faults old.faults now.faults b.entries _ after.faults refl was.counted.worn;
-      units = accounted-filled handed b.pages.units new.pages.units b.entries old now (program_at spot false ∷ []) was.handed_is was.listed after was.units _ spot.unit fills (record { filled = refl; erased = refl }) (λ unit. refl)
+      worn = λ fresh. still-worn handed.faults old.faults now.faults b.entries _ after.faults refl (was.counted.worn fresh);
+      units = accounted-filled handed (start_of b) b.pages.units new.pages.units b.entries old now (program_at spot false ∷ []) was.handed_is was.listed after was.units _ spot.unit fills (record { filled = refl; erased = refl }) (λ unit. refl)
           (λ told blank. whole-unblank old.geometry now.cells spot spare bytes (next-within b old.geometry g.rg g.ruh spot units geometry is)
           (programmed-whole old.geometry old.cells now.cells spot spare bytes (next-blank b old ticket g spot joined units geometry stored next told) (done.cells told))
           (subst (λ (k : Geometry). IsBlankUnit k now.cells spot.unit) after.geometry blank))
           (λ told. programmed-emptied old.geometry old.cells now.cells spot spare bytes (next-blank b old ticket g spot joined units geometry stored next told) (done.cells told));
-      free = λ well rg there. placed-free b new ticket g spot last joined units next step rg (was.free (no-rose handed.faults old.faults now.faults after.faults well) rg (group-was b.pages.units new.pages.units rg fills.cut there));
+      free = λ fresh well rg there. placed-free b new ticket g spot last joined units next step rg (was.free fresh (no-rose handed.faults old.faults now.faults after.faults well) rg (group-was b.pages.units new.pages.units rg fills.cut there));
       moments = passed-later (state_in b).media (state_in new).media old.moment now.moment (quiet-media b new _ step.step refl) after.moment was.moments;
     }) was

@@ -1,5 +1,5 @@
 -- What a ledger promises of a group that was worn.
-use Rattle.std.proofs.Common.{◌≡◌, ◌≢◌, ⊎_elim, length, ℕ, zero, suc, ◌+◌, ◌-◌, ◌*◌, ◌<◌, ◌≤◌, Bool, true, false, cond, not, ◌&&◌, List, Option, Some, None, refl, sym, ◌∙◌, ap, subst, arith}
+use Rattle.std.proofs.Common.{◌≡◌, ◌≢◌, ⊎_elim, length, ℕ, zero, suc, ◌+◌, ◌-◌, ◌*◌, ◌<◌, ◌≤◌, Bool, true, false, cond, not, ◌&&◌, ◌||◌, List, Option, Some, None, refl, sym, ◌∙◌, ap, subst, arith}
 use Rattle.std.specs.Prelude.{IsFalse, IsTrue, slice_get}
 use Rattle.std.specs.List.{list_all}
 use Rattle.std.specs.Option.{option_map_or}
@@ -22,9 +22,12 @@ use Rattle.fdp_units.specs.DataUnits.{is_free, is_lost}
 use Rattle.fdp_units.specs.UnitTable.{Cut, HasNoFree, IsGroup, IsUnit, UnitTable, state_at}
 use Rattle.fdp_units.proofs.Tables.{group-of-place, unit-there}
 use Rattle.fdp_ledger.specs.declared.counts.Counts.{Counts}
+use Rattle.fdp_ledger.specs.Start.{KnowsUnits, start_of}
 use Rattle.fdp_ledger.specs.Ledger.{IsLedger, is_vain}
 use Rattle.fdp_ledger.specs.Uses.{idle_erases, used_by}
-use Rattle.fdp_ledger.specs.WornOut.{FailsIn, IsWornOut, blank_units, calls_since, is_blank, is_blank_unit}
+use Rattle.fdp_ledger.specs.WornOut.{FailsIn, IsWornOut, blank_units, calls_since}
+use Rattle.fdp_image.specs.Reads.{is_blank}
+use Rattle.fdp_image.specs.Roomy.{is_blank_unit}
 use Rattle.fdp_ledger.proofs.Counting.{still-bound}
 
 no : true ≡ false → ⊥
@@ -55,6 +58,7 @@ blank-cell (Some Torn) e = absurd cc
 blank-cell (Some (Whole spare bytes)) e = absurd cc
 
 pub blank-unit : (g : Geometry) (cells : List Cell) (unit : ℕ) → is_blank_unit g cells unit ≡ true → IsBlankUnit g cells unit
+unfolding is_blank_unit
 blank-unit g cells unit h = record {
   blank = λ page within. blank-cell (slice_get cells (first_page g unit + page)) (all-numbers (λ k. option_map_or is_blank (slice_get cells (first_page g unit + k)) false) 0 g.unit_pages h page (omega arith) (omega (arith, within)));
 }
@@ -95,10 +99,17 @@ module _ (handed : Counts) (b : BookSeen) (now : FlashState) (rg : ℕ) (low : r
   there : IsGroup t rg
   there = is-group b.config (state_in b) b.pages rg units low
 
+  -- which units had a page is known
+  known : IsTrue now.told → KnowsUnits now.told (start_of b)
+  known told = ap (λ (x : Bool). (start_of b).fresh || x) told ∙ or-true (start_of b).fresh where
+    or-true : (x : Bool) → (x || true) ≡ true
+    or-true true = refl
+    or-true false = refl
+
   -- a unit of it that is all blank and not lost was taken in vain
-  vain : IsTrue now.told → (i : ℕ) → i < t.group_units → (is_blank_unit now.geometry now.cells (rg * t.group_units + i) && not ((state_in b).is_lost (rg * t.group_units + i))) ≡ true → is_vain t b.entries (rg * t.group_units + i) ≡ true
+  vain : IsTrue now.told → (i : ℕ) → i < t.group_units → (is_blank_unit now.geometry now.cells (rg * t.group_units + i) && not ((state_in b).is_lost (rg * t.group_units + i))) ≡ true → is_vain (start_of b) t b.entries (rg * t.group_units + i) ≡ true
   vain told i within h =
-      taken (is_free (state_at t (rg * t.group_units + i))) (used_by b.entries (rg * t.group_units + i)) refl refl where
+      taken (is_free (state_at t (rg * t.group_units + i))) (used_by (start_of b) b.entries (rg * t.group_units + i)) refl refl where
         unit : IsUnit t (rg * t.group_units + i)
         unit = unit-there t rg i there within
 
@@ -108,23 +119,23 @@ module _ (handed : Counts) (b : BookSeen) (now : FlashState) (rg : ℕ) (low : r
           unlost true e = absurd cc
           unlost false e = refl
 
-        taken : (free used : Bool) → is_free (state_at t (rg * t.group_units + i)) ≡ free → used_by b.entries (rg * t.group_units + i) ≡ used → is_vain t b.entries (rg * t.group_units + i) ≡ true
+        taken : (free used : Bool) → is_free (state_at t (rg * t.group_units + i)) ≡ free → used_by (start_of b) b.entries (rg * t.group_units + i) ≡ used → is_vain (start_of b) t b.entries (rg * t.group_units + i) ≡ true
         taken true used is e = absurd (none (rg * t.group_units + i) (record { is_unit = unit; group = group-of-place t rg i within; free = is }))
         taken false true is e = absurd (was.units.used told (rg * t.group_units + i) unit e kept (blank-unit now.geometry now.cells (rg * t.group_units + i) (and-first (is_blank_unit now.geometry now.cells (rg * t.group_units + i)) (not ((state_in b).is_lost (rg * t.group_units + i))) h)))
-        taken false false is e = ap (λ (x : Bool). not x && not (used_by b.entries (rg * t.group_units + i))) is ∙ ap (λ (x : Bool). not x) e
+        taken false false is e = ap (λ (x : Bool). not x && not (used_by (start_of b) b.entries (rg * t.group_units + i))) is ∙ ap (λ (x : Bool). not x) e
 
   abbrev blank-test : ℕ → Bool
   blank-test u = is_blank_unit now.geometry now.cells u && not ((state_in b).is_lost u)
 
-  few : IsTrue now.told → blank_units now.geometry now.cells (state_in b).is_lost rg ≤ count_below (length t.groups * t.group_units) (is_vain t b.entries)
+  few : IsTrue now.told → blank_units now.geometry now.cells (state_in b).is_lost rg ≤ count_below (length t.groups * t.group_units) (is_vain (start_of b) t b.entries)
   few told =
       let cut : blank_units now.geometry now.cells (state_in b).is_lost rg ≡ count_from (λ i. blank-test (rg * t.group_units + i)) 0 t.group_units = ap (λ (k : ℕ). count_from (λ i. blank-test (rg * k + i)) 0 k) size in
-      let most : count_from (λ i. blank-test (rg * t.group_units + i)) 0 t.group_units ≤ sum_from (λ i. counting (is_vain t b.entries) (rg * t.group_units + i)) 0 t.group_units =
-      sum_from-most (counting (λ i. blank-test (rg * t.group_units + i))) (λ i. counting (is_vain t b.entries) (rg * t.group_units + i)) 0 t.group_units
-      (λ i first high. at-most (blank-test (rg * t.group_units + i)) (is_vain t b.entries (rg * t.group_units + i)) (vain told i (omega (arith, high)))) in
-      let row = shifted (counting (is_vain t b.entries)) (rg * t.group_units) 0 t.group_units in
+      let most : count_from (λ i. blank-test (rg * t.group_units + i)) 0 t.group_units ≤ sum_from (λ i. counting (is_vain (start_of b) t b.entries) (rg * t.group_units + i)) 0 t.group_units =
+      sum_from-most (counting (λ i. blank-test (rg * t.group_units + i))) (λ i. counting (is_vain (start_of b) t b.entries) (rg * t.group_units + i)) 0 t.group_units
+      (λ i first high. at-most (blank-test (rg * t.group_units + i)) (is_vain (start_of b) t b.entries (rg * t.group_units + i)) (vain told i (omega (arith, high)))) in
+      let row = shifted (counting (is_vain (start_of b) t b.entries)) (rg * t.group_units) 0 t.group_units in
       let fits : rg * t.group_units + t.group_units ≤ length t.groups * t.group_units = row_fits rg t.group_units (length t.groups) t.group_units there (omega arith) in
-      let all = row-most (counting (is_vain t b.entries)) (rg * t.group_units + 0) t.group_units (length t.groups * t.group_units) (omega (arith, fits)) in
+      let all = row-most (counting (is_vain (start_of b) t b.entries)) (rg * t.group_units + 0) t.group_units (length t.groups * t.group_units) (omega (arith, fits)) in
       omega (arith, cut, most, row, all)
 
   both : (x y : Bool) → x ≡ true → y ≡ false → (x && not y) ≡ true
@@ -134,9 +145,9 @@ module _ (handed : Counts) (b : BookSeen) (now : FlashState) (rg : ℕ) (low : r
 
   pub worn-out : IsWornOut handed now (state_in b).is_lost rg
   worn-out = record {
-    few = λ told. still-bound handed.faults (idle_erases b.entries + count_below (length t.groups * t.group_units) (is_vain t b.entries)) _ now.faults now.faults was.handed_is (let most = few told in omega (arith, most)) (omega arith) was.units.vain;
+    few = λ told. still-bound handed.faults (idle_erases (start_of b) b.entries + count_below (length t.groups * t.group_units) (is_vain (start_of b) t b.entries)) _ now.faults now.faults was.handed_is (let most = few told in omega (arith, most)) (omega arith) (was.units.vain (known told));
     failed = λ told tells i.
         subst (λ (k : ℕ). i < k → IsTrue (is_blank_unit now.geometry now.cells (rg * k + i)) → IsFalse ((state_in b).is_lost (rg * k + i)) → FailsIn (rg * k + i) (calls_since handed now)) (sym size)
-        (λ within blank kept. was.units.failed tells (rg * t.group_units + i) (unit-there t rg i there within)
+        (λ within blank kept. was.units.failed (known told) tells (rg * t.group_units + i) (unit-there t rg i there within)
         (vain told i within (both (is_blank_unit now.geometry now.cells (rg * t.group_units + i)) ((state_in b).is_lost (rg * t.group_units + i)) blank kept)));
   }

@@ -52,6 +52,7 @@ use Rattle.fdp_units.specs.DataUnits.{is_free, is_lost}
 use Rattle.fdp_units.specs.UnitTable.{IsGroup, cut_of, group_in, state_at, unit_at}
 use Rattle.fdp_ledger.specs.declared.counts.Counts.{Counts}
 use Rattle.fdp_ledger.specs.Emptied.{OnlyErasesEmpty}
+use Rattle.fdp_ledger.specs.Start.{start_of}
 use Rattle.fdp_ledger.specs.Ledger.{HasFreeUnits, IsLedger}
 use Rattle.fdp_ledger.specs.Told.{is_media_reply}
 use Rattle.fdp_ledger.proofs.Accounted.{accounted-erased, accounted-filled, accounted-kept, accounted-spoilt}
@@ -171,7 +172,7 @@ module _ (b new : BookSeen) (old now : FlashState) (rg : ℕ) (Image : ℕ → L
     low-handed : handed.faults ≤ old.faults
     low-handed = handed-low handed b old was
 
-    rested : (xs : List Entry) → IsLonger b new xs → AreStill b.entries xs → count_by is_media_reply xs ≡ 0 → Rests s n old now → IsLedger handed new now
+    rested : (xs : List Entry) → IsLonger b new xs → AreStill (start_of b) b.entries xs → count_by is_media_reply xs ≡ 0 → Rests s n old now → IsLedger handed new now
     rested xs longer still none h =
         let after = after-uncalled old now Image h.flash run in
         let tables : new.pages.units ≡ b.pages.units = ap (λ (r : Relocation). r.units) h.group in
@@ -185,7 +186,7 @@ module _ (b new : BookSeen) (old now : FlashState) (rg : ℕ) (Image : ℕ → L
         was
 
     rested-none : IsLonger b new [] → Rests s n old now → IsLedger handed new now
-    rested-none longer = rested [] longer (record { pages = refl; shut = refl; lost = refl; worn = refl; says = quiet-none b.entries }) refl
+    rested-none longer = rested [] longer (record { pages = refl; shut = refl; lost = refl; worn = refl; says = quiet-none (start_of b) b.entries }) refl
 
     -- ---- a copy
 
@@ -214,14 +215,14 @@ module _ (b new : BookSeen) (old now : FlashState) (rg : ℕ) (Image : ℕ → L
             media_replies = bound-none handed was.handed_is is_media_reply b.entries (entries.Copied copy ∷ []) old.faults now.faults after.faults was.counted.media_replies refl;
             shut = bound-none handed was.handed_is is_shut b.entries (entries.Copied copy ∷ []) old.faults now.faults after.faults was.counted.shut refl;
             lost = bound-none handed was.handed_is loses_unit b.entries (entries.Copied copy ∷ []) old.faults now.faults after.faults was.counted.lost refl;
-            worn = still-worn handed.faults old.faults now.faults b.entries (entries.Copied copy ∷ []) after.faults refl was.counted.worn;
-            units = accounted-filled handed b.pages.units new.pages.units b.entries old now (fetch_at from false ∷ program_at to false ∷ []) was.handed_is was.listed after was.units (entries.Copied copy) to.unit fills (record { filled = ap (λ (u : ℕ). Some u) unit; erased = refl }) (λ u. refl)
+            worn = λ fresh. still-worn handed.faults old.faults now.faults b.entries (entries.Copied copy ∷ []) after.faults refl (was.counted.worn fresh);
+            units = accounted-filled handed (start_of b) b.pages.units new.pages.units b.entries old now (fetch_at from false ∷ program_at to false ∷ []) was.handed_is was.listed after was.units (entries.Copied copy) to.unit fills (record { filled = ap (λ (u : ℕ). Some u) unit; erased = refl }) (λ u. refl)
                 (λ told no_page.
                 let done = copies.done refl told in
                 whole-unblank old.geometry now.cells to (data_spare owner.spare) done.bytes own-within (programmed-whole old.geometry old.cells now.cells to (data_spare owner.spare) done.bytes (own-blank told) done.now)
                 (subst (λ (k : Geometry). IsBlankUnit k now.cells to.unit) after.geometry no_page))
                 (λ told. let done = copies.done refl told in programmed-emptied old.geometry old.cells now.cells to (data_spare owner.spare) done.bytes (own-blank told) done.now);
-            free = λ well k is_group. copied-free from to owner middle is_due owned opened copy is adds k (was.free (no-rose handed.faults old.faults now.faults after.faults well) k (group-was b.pages.units new.pages.units k fills.cut is_group));
+            free = λ fresh well k is_group. copied-free from to owner middle is_due owned opened copy is adds k (was.free fresh (no-rose handed.faults old.faults now.faults after.faults well) k (group-was b.pages.units new.pages.units k fills.cut is_group));
             moments = passed-later (state_in b).media (state_in new).media old.moment now.moment (quiet-media b new (entries.Copied copy ∷ []) longer refl) after.moment was.moments;
           }) was
 
@@ -235,10 +236,10 @@ module _ (b new : BookSeen) (old now : FlashState) (rg : ℕ) (Image : ℕ → L
             media_replies = bound-none handed was.handed_is is_media_reply b.entries [] old.faults now.faults after.faults was.counted.media_replies refl;
             shut = bound-none handed was.handed_is is_shut b.entries [] old.faults now.faults after.faults was.counted.shut refl;
             lost = bound-none handed was.handed_is loses_unit b.entries [] old.faults now.faults after.faults was.counted.lost refl;
-            worn = still-worn handed.faults old.faults now.faults b.entries [] after.faults refl was.counted.worn;
-            units = accounted-spoilt handed b.pages.units new.pages.units b.entries old now (fetch_at from false ∷ program_at to true ∷ []) was.handed_is was.listed after was.units [] (fetch_at from false ∷ []) to (own-fills skips.passes skips.used) (quiet-none b.entries) (λ u. refl) refl rose
+            worn = λ fresh. still-worn handed.faults old.faults now.faults b.entries [] after.faults refl (was.counted.worn fresh);
+            units = accounted-spoilt handed (start_of b) b.pages.units new.pages.units b.entries old now (fetch_at from false ∷ program_at to true ∷ []) was.handed_is was.listed after was.units [] (fetch_at from false ∷ []) to (own-fills skips.passes skips.used) (quiet-none (start_of b) b.entries) (λ u. refl) refl rose
                 (λ told. let left = copies.left refl told in failed-emptied old.geometry old.cells now.cells to (data_spare owner.spare) left.0 (own-blank told) left.1);
-            free = λ well. absurd (well (rose-since handed.faults old.faults now.faults low-handed rose));
+            free = λ fresh well. absurd (well (rose-since handed.faults old.faults now.faults low-handed rose));
             moments = passed-later (state_in b).media (state_in new).media old.moment now.moment (quiet-media b new [] longer refl) after.moment was.moments;
           }) was
 
@@ -251,9 +252,9 @@ module _ (b new : BookSeen) (old now : FlashState) (rg : ℕ) (Image : ℕ → L
           media_replies = bound-none handed was.handed_is is_media_reply b.entries (e ∷ []) old.faults now.faults after.faults was.counted.media_replies (ap (λ (x : Bool). 0 + cond x 1 0) is.media);
           shut = bound-none handed was.handed_is is_shut b.entries (e ∷ []) old.faults now.faults after.faults was.counted.shut (ap (λ (x : Bool). 0 + cond x 1 0) is.shut);
           lost = bound-one handed was.handed_is loses_unit b.entries (e ∷ []) old.faults now.faults after.faults was.counted.lost (let few = one-most (loses_unit e) in omega (arith, few)) rose;
-          worn = still-worn handed.faults old.faults now.faults b.entries (e ∷ []) after.faults (ap (λ (x : Bool). x || false) is.worn) was.counted.worn;
-          units = accounted-kept handed b.pages.units new.pages.units b.entries old now calls was.handed_is was.listed after was.units (e ∷ []) keeps (quiet-one b.entries e (record { filled = is.filled; erased = is.erased })) none cells;
-          free = λ well. absurd (well (rose-since handed.faults old.faults now.faults low-handed rose));
+          worn = λ fresh. still-worn handed.faults old.faults now.faults b.entries (e ∷ []) after.faults (ap (λ (x : Bool). x || false) is.worn) (was.counted.worn fresh);
+          units = accounted-kept handed (start_of b) b.pages.units new.pages.units b.entries old now calls was.handed_is was.listed after was.units (e ∷ []) keeps (quiet-one (start_of b) b.entries e (record { filled = is.filled; erased = is.erased })) (λ unit there. none unit) (λ told u here. cells told u);
+          free = λ fresh well. absurd (well (rose-since handed.faults old.faults now.faults low-handed rose));
           moments = passed-later (state_in b).media (state_in new).media old.moment now.moment (quiet-media b new (e ∷ []) longer (ap (λ (x : Bool). 0 + cond x 1 0) is.media)) after.moment was.moments;
         }) was
 
@@ -287,11 +288,11 @@ module _ (b new : BookSeen) (old now : FlashState) (rg : ℕ) (Image : ℕ → L
           media_replies = bound-none handed was.handed_is is_media_reply b.entries xs old.faults now.faults after.faults was.counted.media_replies refl;
           shut = bound-none handed was.handed_is is_shut b.entries xs old.faults now.faults after.faults was.counted.shut refl;
           lost = bound-none handed was.handed_is loses_unit b.entries xs old.faults now.faults after.faults was.counted.lost refl;
-          worn = still-worn handed.faults old.faults now.faults b.entries xs after.faults refl was.counted.worn;
-          units = accounted-erased handed b.pages.units new.pages.units b.entries old now (erase_at unit false ∷ []) was.handed_is was.listed after was.units (entries.Erased (record { unit = unit })) unit frees (record { filled = refl; erased = refl }) refl
+          worn = λ fresh. still-worn handed.faults old.faults now.faults b.entries xs after.faults refl (was.counted.worn fresh);
+          units = accounted-erased handed (start_of b) b.pages.units new.pages.units b.entries old now (erase_at unit false ∷ []) was.handed_is was.listed after was.units (entries.Erased (record { unit = unit })) unit frees (record { filled = refl; erased = refl }) refl
               (λ told other ne no_page. outside-emptied old.geometry old.cells now.cells unit other (h.flash.done told refl).others ne no_page);
-          free = λ well k is_group.
-              let before = was.free (no-rose handed.faults old.faults now.faults after.faults well) k (group-was b.pages.units new.pages.units k frees.cut is_group) in
+          free = λ fresh well k is_group.
+              let before = was.free fresh (no-rose handed.faults old.faults now.faults after.faults well) k (group-was b.pages.units new.pages.units k frees.cut is_group) in
               ⊎_elim
               (λ (same : k ≡ rg). free-freed b.pages new.pages k unit frees (emptied.group ∙ sym same) before)
               (λ (ne : k ≢ rg). free-elsewhere b.pages new.pages k unit frees.cut frees.others (λ same. ne (sym same ∙ emptied.group)) (others k ne) before)
@@ -302,11 +303,11 @@ module _ (b new : BookSeen) (old now : FlashState) (rg : ℕ) (Image : ℕ → L
     -- ---- no unit is free
 
     -- a fault was counted since the flash was handed in
-    starved-rose : IsStarved b.pages.owners b.pages.handles.classes rg s n old now → Rose handed.faults now.faults
-    starved-rose h = ⊎_elim
+    starved-rose : IsTrue (start_of b).fresh → IsStarved b.pages.owners b.pages.handles.classes rg s n old now → Rose handed.faults now.faults
+    starved-rose fresh h = ⊎_elim
         (λ (early : now.faults < counted handed.faults).
         absurd (none-free b.pages rg h.from.unit (emptied-unit s b.pages.owners b.pages.handles.classes rg h.from.unit ready h.due.0) h.starved.free
-        (was.free (λ rose. omega (arith, early, rose, h.flash.faults)) rg there)))
+        (was.free fresh (λ rose. omega (arith, early, rose, h.flash.faults)) rg there)))
         (λ (late : counted handed.faults ≤ now.faults). late)
         (cases_lt now.faults (counted handed.faults))
 
@@ -319,11 +320,11 @@ module _ (b new : BookSeen) (old now : FlashState) (rg : ℕ) (Image : ℕ → L
           media_replies = bound-none handed was.handed_is is_media_reply b.entries xs old.faults now.faults after.faults was.counted.media_replies refl;
           shut = bound-none handed was.handed_is is_shut b.entries xs old.faults now.faults after.faults was.counted.shut refl;
           lost = bound-none handed was.handed_is loses_unit b.entries xs old.faults now.faults after.faults was.counted.lost refl;
-          worn = λ wears. starved-rose h;
-          units = accounted-kept handed b.pages.units new.pages.units b.entries old now [] was.handed_is was.listed after was.units xs
-              (starved-keeps s.passes n.passes s.units n.units rg (lane_at b.pages.handles.classes h.owner) h.starved) (quiet-one b.entries _ (record { filled = refl; erased = refl })) (λ unit. refl)
-              (λ told u kept no_page. same-emptied old.geometry old.cells now.cells (h.flash.cells told) u (subst (λ (k : Geometry). IsBlankUnit k now.cells u) after.geometry no_page));
-          free = λ well. absurd (well (starved-rose h));
+          worn = λ fresh wears. starved-rose fresh h;
+          units = accounted-kept handed (start_of b) b.pages.units new.pages.units b.entries old now [] was.handed_is was.listed after was.units xs
+              (starved-keeps s.passes n.passes s.units n.units rg (lane_at b.pages.handles.classes h.owner) h.starved) (quiet-one (start_of b) b.entries _ (record { filled = refl; erased = refl })) (λ unit there. refl)
+              (λ told u here kept no_page. same-emptied old.geometry old.cells now.cells (h.flash.cells told) u (subst (λ (k : Geometry). IsBlankUnit k now.cells u) after.geometry no_page));
+          free = λ fresh well. absurd (well (starved-rose fresh h));
           moments = passed-later (state_in b).media (state_in new).media old.moment now.moment (quiet-media b new xs longer refl) after.moment was.moments;
         }) was
 

@@ -21,6 +21,7 @@ use Rattle.fdp_rules.specs.Change.{is_media_error}
 use Rattle.fdp_rules.specs.PlainState.{Going}
 use Rattle.fdp_ledger.specs.declared.counts.Counts.{Counts}
 pub use Rattle.fdp_ledger.specs.Calls.{FailsToProgram}
+use Rattle.fdp_ledger.specs.Start.{start_of}
 use Rattle.fdp_ledger.specs.Ledger.{IsLedger}
 use Rattle.fdp_ledger.specs.Told.{is_media_reply}
 use Rattle.fdp_ledger.proofs.Accounted.{accounted-spoilt}
@@ -42,13 +43,13 @@ ledger-shut handed b new old now ticket g spot status moment done spare bytes jo
       media_replies = bound-one handed was.handed_is is_media_reply b.entries _ old.faults now.faults after.faults was.counted.media_replies (let few = one-most (is_media_error status) in omega (arith, few)) rose;
       shut = bound-one handed was.handed_is is_shut b.entries _ old.faults now.faults after.faults was.counted.shut (omega arith) rose;
       lost = bound-none handed was.handed_is loses_unit b.entries _ old.faults now.faults after.faults was.counted.lost refl;
-      worn = still-worn handed.faults old.faults now.faults b.entries _ after.faults refl was.counted.worn;
-      units = accounted-spoilt handed b.pages.units new.pages.units b.entries old now (program_at spot true ∷ []) was.handed_is was.listed after was.units _ [] spot
+      worn = λ fresh. still-worn handed.faults old.faults now.faults b.entries _ after.faults refl (was.counted.worn fresh);
+      units = accounted-spoilt handed (start_of b) b.pages.units new.pages.units b.entries old now (program_at spot true ∷ []) was.handed_is was.listed after was.units _ [] spot
           (shuts-fill b.pages step.middle new.pages g.rg g.ruh spot new.pages.owners joined next.may step.shut.unit step.left.units)
-          (quiet-two b.entries _ _ (record { filled = refl; erased = refl }) (record { filled = refl; erased = refl }))
+          (quiet-two (start_of b) b.entries _ _ (record { filled = refl; erased = refl }) (record { filled = refl; erased = refl }))
           (λ unit. refl) refl rose
           (λ told. failed-emptied old.geometry old.cells now.cells spot spare bytes (next-blank b old ticket g spot joined units geometry stored next told) (fails.left told));
-      free = λ well. absurd (well (rose-since handed.faults old.faults now.faults (handed-low handed b old was) rose));
+      free = λ fresh well. absurd (well (rose-since handed.faults old.faults now.faults (handed-low handed b old was) rose));
       moments = subst (λ (xs : List ℕ). HavePassed xs now.moment) (sym (host-media b new (entries.Shut (record { rg = g.rg; ruh = g.ruh }) ∷ []) ticket.queue g.number g.command (bare status false) moment step.completes.step refl))
           (passed-told (state_in b).media moment old.moment now.moment (is_media_error status) after.moment (λ error. omega (arith, moment_is)) was.moments);
     }) was

@@ -13,7 +13,7 @@ use Rattle.fdp_flash.specs.FlashState.{FlashState}
 use Rattle.fdp_owners.specs.OwnerTable.{OwnerTable}
 use Rattle.fdp_pages.specs.Joined.{AreJoined}
 use Rattle.fdp_pages.specs.PageTables.{PageTables}
-use Rattle.fdp_pages.specs.Steps.{MayPut, Recounts, closed_after, taken}
+use Rattle.fdp_pages.specs.Steps.{IsLeft, MayPut, Recounts, closed_after, taken}
 use Rattle.fdp_pages.proofs.Next.{next-page}
 use Rattle.fdp_pages.proofs.Used.{used-state}
 use Rattle.fdp_passes.specs.declared.lane.Lane.{Lane}
@@ -23,7 +23,7 @@ use Rattle.fdp_passes.proofs.Opened.{opened-unit}
 use Rattle.fdp_units.specs.declared.data_unit.DataUnit.{DataUnit}
 use Rattle.fdp_units.specs.declared.state.UnitState.{UnitState}
 use Rattle.fdp_units.specs.declared.state.UnitState.TheVariants.{Aside, Closed, Free, Referenced, Retired, Target}
-use Rattle.fdp_units.specs.DataUnits.{is_free, is_lost, is_referenced, raised, used}
+use Rattle.fdp_units.specs.DataUnits.{is_free, is_lost, is_open, is_referenced, raised, used}
 use Rattle.fdp_units.specs.UnitTable.{Changes, IsUnit, UnitTable, cut_of, state_at, unit_at}
 
 -- the same units are free, and none is in use again that was lost
@@ -78,6 +78,35 @@ recounts-keep t now o h = record {
   free = λ unit. ap (λ (z : DataUnit). is_free z.state) (h.kept unit);
   lost = λ unit kept. ap (λ (z : DataUnit). is_lost z.state) (sym (h.kept unit)) ∙ kept;
 }
+
+-- a unit that is left was open, and is closed
+pub left-units : (t now : UnitTable) → cut_of now ≡ cut_of t → ((unit : ℕ) → IsLeft (unit_at t unit) (unit_at now unit)) → KeepsUnits t now
+left-units t now cut left = record {
+  cut = cut;
+  free = λ unit. ⊎_elim
+      (λ (same : unit_at now unit ≡ unit_at t unit). ap (λ (x : DataUnit). is_free x.state) same)
+      (λ closed. ap (λ (x : DataUnit). is_free x.state) closed.1 ∙ sym (open-unfree (state_at t unit) closed.0))
+      (left unit);
+  lost = λ unit kept. ⊎_elim
+      (λ (same : unit_at now unit ≡ unit_at t unit). ap (λ (x : DataUnit). is_lost x.state) (sym same) ∙ kept)
+      (λ closed. open-unlost (state_at t unit) closed.0)
+      (left unit);
+} where
+  open-unfree : (s : UnitState) → is_open s ≡ true → is_free s ≡ false
+  open-unfree Free e = absurd cc
+  open-unfree Referenced e = refl
+  open-unfree Target e = refl
+  open-unfree Closed e = absurd cc
+  open-unfree Retired e = absurd cc
+  open-unfree Aside e = absurd cc
+
+  open-unlost : (s : UnitState) → is_open s ≡ true → is_lost s ≡ false
+  open-unlost Free e = absurd cc
+  open-unlost Referenced e = refl
+  open-unlost Target e = refl
+  open-unlost Closed e = absurd cc
+  open-unlost Retired e = absurd cc
+  open-unlost Aside e = absurd cc
 
 pub same-keep : (t now : UnitTable) → cut_of now ≡ cut_of t → unit_at now ≡ unit_at t → KeepsUnits t now
 same-keep t now cut same = record {

@@ -5,7 +5,7 @@ use Rattle.std.proofs.lemmas.Bool.{cases_eq}
 use Rattle.fdp_base.specs.declared.entry.Entry.{Entry}
 use Rattle.fdp_base.proofs.Sums.{count_from, count_from-one, count_from-same, counting, counting-bound}
 use Rattle.fdp_ledger.specs.Ledger.{is_vain}
-use Rattle.fdp_ledger.specs.Uses.{used_by}
+use Rattle.fdp_ledger.specs.Uses.{RunStart, used_by}
 use Rattle.fdp_ledger.proofs.Entries.{SaysNothing}
 use Rattle.fdp_ledger.proofs.Units.{FillsUnit, FreesUnit, KeepsUnits}
 use Rattle.fdp_pages.proofs.Counts.{fewer-counted}
@@ -47,51 +47,51 @@ units-same t now cut = ap (λ (k : Cut). k.groups * k.group_units) cut
 abbrev vain : Bool → Bool → Bool
 vain free used = not free && not used
 
-pub kept-vain : (t now : UnitTable) (es xs : List Entry) → KeepsUnits t now → SaysNothing es xs → (unit : ℕ) → is_vain now (es ++ xs) unit ≡ is_vain t es unit
-kept-vain t now es xs keeps says unit = ap (λ (b : Bool). vain b (used_by (es ++ xs) unit)) (keeps.free unit) ∙ ap (vain (is_free (state_at t unit))) (says.used unit)
+pub kept-vain : (start : RunStart) (t now : UnitTable) (es xs : List Entry) → KeepsUnits t now → SaysNothing start es xs → (unit : ℕ) → is_vain start now (es ++ xs) unit ≡ is_vain start t es unit
+kept-vain start t now es xs keeps says unit = ap (λ (b : Bool). vain b (used_by start (es ++ xs) unit)) (keeps.free unit) ∙ ap (vain (is_free (state_at t unit))) (says.used unit)
 
 -- a unit that got a page was not taken in vain
-pub used-vain : (t : UnitTable) (es : List Entry) (unit : ℕ) → used_by es unit ≡ true → is_vain t es unit ≡ false
-used-vain t es unit used = ap (vain (is_free (state_at t unit))) used ∙ none (is_free (state_at t unit)) where
+pub used-vain : (start : RunStart) (t : UnitTable) (es : List Entry) (unit : ℕ) → used_by start es unit ≡ true → is_vain start t es unit ≡ false
+used-vain start t es unit used = ap (vain (is_free (state_at t unit))) used ∙ none (is_free (state_at t unit)) where
   none : (b : Bool) → vain b true ≡ false
   none true = refl
   none false = refl
 
-pub other-vain : (t now : UnitTable) (es xs : List Entry) (other : ℕ) → state_at now other ≡ state_at t other → used_by (es ++ xs) other ≡ used_by es other → is_vain now (es ++ xs) other ≡ is_vain t es other
-other-vain t now es xs other state used = ap (λ (s : UnitState). vain (is_free s) (used_by (es ++ xs) other)) state ∙ ap (vain (is_free (state_at t other))) used
+pub other-vain : (start : RunStart) (t now : UnitTable) (es xs : List Entry) (other : ℕ) → state_at now other ≡ state_at t other → used_by start (es ++ xs) other ≡ used_by start es other → is_vain start now (es ++ xs) other ≡ is_vain start t es other
+other-vain start t now es xs other state used = ap (λ (s : UnitState). vain (is_free s) (used_by start (es ++ xs) other)) state ∙ ap (vain (is_free (state_at t other))) used
 
 -- what is counted where the units stay so
-pub kept-count : (t now : UnitTable) (es xs : List Entry) → KeepsUnits t now → SaysNothing es xs → count_from (is_vain now (es ++ xs)) 0 (units_of now) ≡ count_from (is_vain t es) 0 (units_of t)
-kept-count t now es xs keeps says =
-    ap (count_from (is_vain now (es ++ xs)) 0) (units-same t now keeps.cut)
-    ∙ count_from-same (is_vain now (es ++ xs)) (is_vain t es) 0 (units_of t) (λ i low high. kept-vain t now es xs keeps says i)
+pub kept-count : (start : RunStart) (t now : UnitTable) (es xs : List Entry) → KeepsUnits t now → SaysNothing start es xs → count_from (is_vain start now (es ++ xs)) 0 (units_of now) ≡ count_from (is_vain start t es) 0 (units_of t)
+kept-count start t now es xs keeps says =
+    ap (count_from (is_vain start now (es ++ xs)) 0) (units-same t now keeps.cut)
+    ∙ count_from-same (is_vain start now (es ++ xs)) (is_vain start t es) 0 (units_of t) (λ i low high. kept-vain start t now es xs keeps says i)
 
 -- where a unit got a page
-pub filled-count : (t now : UnitTable) (es xs : List Entry) (unit : ℕ) → FillsUnit t now unit → used_by (es ++ xs) unit ≡ true → ((other : ℕ) → other ≢ unit → used_by (es ++ xs) other ≡ used_by es other) → count_from (is_vain now (es ++ xs)) 0 (units_of now) ≤ count_from (is_vain t es) 0 (units_of t)
-filled-count t now es xs unit fills here others =
-    let size = ap (count_from (is_vain now (es ++ xs)) 0) (units-same t now fills.cut) in
-    let fewer = fewer-counted (is_vain now (es ++ xs)) (is_vain t es) 0 (units_of t) (λ i is. ⊎_elim
-    (λ (same : i ≡ unit). absurd (no (sym is ∙ ap (is_vain now (es ++ xs)) same ∙ used-vain now (es ++ xs) unit here)))
-    (λ (ne : i ≢ unit). sym (other-vain t now es xs i (fills.others i ne) (others i ne)) ∙ is)
+pub filled-count : (start : RunStart) (t now : UnitTable) (es xs : List Entry) (unit : ℕ) → FillsUnit t now unit → used_by start (es ++ xs) unit ≡ true → ((other : ℕ) → other ≢ unit → used_by start (es ++ xs) other ≡ used_by start es other) → count_from (is_vain start now (es ++ xs)) 0 (units_of now) ≤ count_from (is_vain start t es) 0 (units_of t)
+filled-count start t now es xs unit fills here others =
+    let size = ap (count_from (is_vain start now (es ++ xs)) 0) (units-same t now fills.cut) in
+    let fewer = fewer-counted (is_vain start now (es ++ xs)) (is_vain start t es) 0 (units_of t) (λ i is. ⊎_elim
+    (λ (same : i ≡ unit). absurd (no (sym is ∙ ap (is_vain start now (es ++ xs)) same ∙ used-vain start now (es ++ xs) unit here)))
+    (λ (ne : i ≢ unit). sym (other-vain start t now es xs i (fills.others i ne) (others i ne)) ∙ is)
     (cases_eq i unit)) in
     omega (arith, size, fewer) where
       no : true ≡ false → ⊥
       no e = cc
 
 -- where a page of a unit was used for nothing
-pub spoilt-count : (t now : UnitTable) (es xs : List Entry) (unit : ℕ) → FillsUnit t now unit → SaysNothing es xs → count_from (is_vain now (es ++ xs)) 0 (units_of now) ≤ count_from (is_vain t es) 0 (units_of t) + 1
-spoilt-count t now es xs unit fills says =
-    let size = ap (count_from (is_vain now (es ++ xs)) 0) (units-same t now fills.cut) in
-    let more = one-more (is_vain now (es ++ xs)) (is_vain t es) (units_of t) unit fills.is_unit (λ i ne is. sym (other-vain t now es xs i (fills.others i ne) (says.used i)) ∙ is) in
+pub spoilt-count : (start : RunStart) (t now : UnitTable) (es xs : List Entry) (unit : ℕ) → FillsUnit t now unit → SaysNothing start es xs → count_from (is_vain start now (es ++ xs)) 0 (units_of now) ≤ count_from (is_vain start t es) 0 (units_of t) + 1
+spoilt-count start t now es xs unit fills says =
+    let size = ap (count_from (is_vain start now (es ++ xs)) 0) (units-same t now fills.cut) in
+    let more = one-more (is_vain start now (es ++ xs)) (is_vain start t es) (units_of t) unit fills.is_unit (λ i ne is. sym (other-vain start t now es xs i (fills.others i ne) (says.used i)) ∙ is) in
     omega (arith, size, more)
 
 -- where a unit was erased: it was counted before, or its erase is not idle
-pub erased-count : (t now : UnitTable) (es xs : List Entry) (unit : ℕ) → FreesUnit t now unit → ((other : ℕ) → other ≢ unit → used_by (es ++ xs) other ≡ used_by es other) → count_from (is_vain now (es ++ xs)) 0 (units_of now) + (if used_by es unit then 0 else 1) ≡ count_from (is_vain t es) 0 (units_of t)
-erased-count t now es xs unit frees others =
-    let size = ap (count_from (is_vain now (es ++ xs)) 0) (units-same t now frees.cut) in
-    let gone : is_vain now (es ++ xs) unit ≡ false = ap (λ (s : UnitState). vain (is_free s) (used_by (es ++ xs) unit)) frees.freed in
-    let less = one-less (is_vain now (es ++ xs)) (is_vain t es) (units_of t) unit frees.is_unit (λ i ne. other-vain t now es xs i (frees.others i ne) (others i ne)) gone in
-    let was : counting (is_vain t es) unit ≡ (if used_by es unit then 0 else 1) = ap (λ (s : UnitState). cond (vain (is_free s) (used_by es unit)) 1 0) frees.closed ∙ turned (used_by es unit) in
+pub erased-count : (start : RunStart) (t now : UnitTable) (es xs : List Entry) (unit : ℕ) → FreesUnit t now unit → ((other : ℕ) → other ≢ unit → used_by start (es ++ xs) other ≡ used_by start es other) → count_from (is_vain start now (es ++ xs)) 0 (units_of now) + (if used_by start es unit then 0 else 1) ≡ count_from (is_vain start t es) 0 (units_of t)
+erased-count start t now es xs unit frees others =
+    let size = ap (count_from (is_vain start now (es ++ xs)) 0) (units-same t now frees.cut) in
+    let gone : is_vain start now (es ++ xs) unit ≡ false = ap (λ (s : UnitState). vain (is_free s) (used_by start (es ++ xs) unit)) frees.freed in
+    let less = one-less (is_vain start now (es ++ xs)) (is_vain start t es) (units_of t) unit frees.is_unit (λ i ne. other-vain start t now es xs i (frees.others i ne) (others i ne)) gone in
+    let was : counting (is_vain start t es) unit ≡ (if used_by start es unit then 0 else 1) = ap (λ (s : UnitState). cond (vain (is_free s) (used_by start es unit)) 1 0) frees.closed ∙ turned (used_by start es unit) in
     omega (arith, size, less, was) where
       turned : (b : Bool) → ◌≡◌ {A = ℕ} (cond (not b) 1 0) (if b then 0 else 1)
       turned true = refl

@@ -1,5 +1,6 @@
 pub mod Told
 pub mod Uses
+pub mod Start
 pub mod Counted
 pub mod Emptied
 pub mod WornOut

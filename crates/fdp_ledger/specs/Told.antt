@@ -1,5 +1,5 @@
 -- Which entries tell of failed calls of the flash, and which of the use and the erase of units.
-use Rattle.std.specs.Prelude.{ℕ, Bool, true, false, ◌||◌, ◌==◌, Option, Some, None}
+use Rattle.std.specs.Prelude.{ℕ, Bool, false, ◌||◌}
 use Rattle.std.specs.Option.{option_map_or}
 use Rattle.fdp_base.specs.declared.entry.Entry.{Entry}
 use Rattle.fdp_base.specs.declared.entry.Host.{Host}

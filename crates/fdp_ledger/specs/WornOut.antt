@@ -1,26 +1,15 @@
 -- What a group that was worn has left: units that are all blank, in which programs failed.
-use Rattle.std.specs.Prelude.{◌≡◌, ℕ, ◌+◌, ◌*◌, ◌<◌, ◌≤◌, Bool, true, false, not, ◌&&◌, ◌==◌, IsFalse, IsTrue, List, ◌∷◌, ◌++◌, drop, slice_get}
-use Rattle.std.specs.List.{list_all, list_any}
-use Rattle.std.specs.Option.{option_map_or}
+use Rattle.std.specs.Prelude.{◌≡◌, ℕ, ◌+◌, ◌*◌, ◌<◌, ◌≤◌, Bool, true, false, not, ◌&&◌, ◌==◌, IsFalse, IsTrue, List, ◌∷◌, ◌++◌, drop}
+use Rattle.std.specs.List.{list_any}
 use Rattle.fdp_base.specs.declared.config.Geometry.{Geometry}
-use Rattle.fdp_base.specs.Numbers.{count_below, numbers_below}
+use Rattle.fdp_base.specs.Numbers.{count_below}
 use Rattle.fdp_calls.specs.Calls.{counted_more, program_at}
 use Rattle.fdp_flash.specs.declared.answer.Operation.{Operation}
 use Rattle.fdp_flash.specs.declared.answer.Operation.TheVariants.{Erase, Fetch, Look, Program}
 use Rattle.fdp_flash.specs.declared.cell.Cell.{Cell}
-use Rattle.fdp_flash.specs.declared.cell.Cell.TheVariants.{Blank, Torn, Whole}
 use Rattle.fdp_flash.specs.FlashState.{Call, FlashState}
-use Rattle.fdp_flash.specs.Layout.{first_page}
+use Rattle.fdp_image.specs.Roomy.{is_blank_unit}
 use Rattle.fdp_ledger.specs.declared.counts.Counts.{Counts}
-
-abbrev pub is_blank : Cell → Bool
-is_blank Blank = true
-is_blank Torn = false
-is_blank (Whole spare bytes) = false
-
--- whether each page of a unit is blank
-abbrev pub is_blank_unit : Geometry → List Cell → ℕ → Bool
-is_blank_unit g cells unit = list_all (λ page. option_map_or is_blank (slice_get cells (first_page g unit + page)) false) (numbers_below g.unit_pages)
 
 -- how many units of a group are all blank and not lost
 abbrev pub blank_units : Geometry → List Cell → (ℕ → Bool) → ℕ → ℕ

@@ -1,0 +1,6 @@
+//! What no step of a drive lets a stop lose.
+#![tactic(auto)]
+
+mod books;
+
+pub use books::books_can_be_saved;
