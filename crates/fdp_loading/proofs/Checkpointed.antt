@@ -1,0 +1,300 @@
+-- The first checkpoint of a run.
+use Rattle.std.proofs.Common.{◌≡◌, ℕ, ◌+◌, ◌*◌, ◌<◌, ◌≤◌, Bool, true, false, List, [], ◌∷◌, replicate, refl, sym, ◌∙◌, ap, subst, arith, inl, inr, ⊎_elim}
+use Rattle.std.specs.Prelude.{◌||◌, Err, IfErr, IfOk, IsFalse, IsTrue, Ok, Result, not}
+use Rattle.std.proofs.lemmas.Nat.{mul-le, row_fits}
+use Rattle.fdp_base.specs.declared.config.DriveConfig.{DriveConfig}
+use Rattle.fdp_base.specs.declared.config.Geometry.{Geometry}
+use Rattle.fdp_base.specs.declared.entry.Entry.{Entry}
+use Rattle.fdp_base.specs.declared.entry.Entry.TheVariants as entries
+use Rattle.fdp_base.specs.Geometry.{all_pages, all_units, data_units}
+use Rattle.fdp_base.specs.Placement.{geometry_of}
+use Rattle.fdp_book.specs.Book.{BookSeen, point_in, state_in, written_in}
+use Rattle.fdp_durability.specs.Beginnings.{CanBeSaved}
+use Rattle.fdp_durability.specs.Saved.{SavesDrive}
+use Rattle.fdp_durability.proofs.Durable.{durable-stands}
+use Rattle.fdp_durability.proofs.Savings.{checkpoint-done}
+use Rattle.fdp_flash.specs.declared.answer.Wrote.{Wrote}
+use Rattle.fdp_flash.specs.declared.answer.Wrote.TheVariants as wrote
+use Rattle.fdp_flash.specs.declared.cell.Cell.{Cell}
+use Rattle.fdp_flash.specs.declared.cell.Cell.TheVariants.{Blank}
+use Rattle.fdp_flash.specs.Cells.{IsBlankUnit}
+use Rattle.fdp_flash.specs.FlashState.{FlashState, IsWellFormed}
+use Rattle.fdp_flash.specs.Layout.{first_page}
+use Rattle.fdp_flash.proofs.Failing.{failed_behind}
+use Rattle.fdp_flash.proofs.Lists.{slice_get-replicate}
+use Rattle.fdp_flash.proofs.Runs.{runs_joined, runs_weakened}
+use Rattle.fdp_found.proofs.Paging.{blank-tested}
+use Rattle.fdp_found.proofs.Reopening.{legal-opened}
+use Rattle.fdp_image.specs.Checkpoint.{reading_of_state}
+use Rattle.fdp_image.specs.Kept.{StandsForBeginning}
+use Rattle.fdp_image.specs.Roomy.{is_blank_unit}
+use Rattle.fdp_image.specs.Saving.{SameDataPages}
+use Rattle.fdp_isolation.specs.Begun.{OpenedApart}
+use Rattle.fdp_isolation.specs.Laned.{AreLaned}
+use Rattle.fdp_isolation.proofs.Found.{laned-found}
+use Rattle.fdp_isolation.proofs.Promised.{laned-fresh}
+use Rattle.fdp_isolation.proofs.Saved.{holds-saved}
+use Rattle.fdp_journal.specs.JournalState.{JournalState}
+use Rattle.fdp_keeper.specs.Keeper.{KeeperSeen, KeepsDrive}
+use Rattle.fdp_ledger.specs.Counted.{counts_of}
+use Rattle.fdp_ledger.specs.Ledger.{IsLedger}
+use Rattle.fdp_ledger.proofs.Begun.{AreUnitsBegun, HasOpened, ledger-begun}
+use Rattle.fdp_ledger.proofs.System.{same-blank}
+use Rattle.fdp_loading.specs.declared.loaded.Loaded.{Loaded}
+use Rattle.fdp_loading.specs.Begun.{BeginsFound, BeginsFresh}
+use Rattle.fdp_loading.specs.Loaded.{IsIdle, IsLoaded, IsPrepared, StandsBegun}
+use Rattle.fdp_loading.specs.Made.{IsBegun, KeepsNone, SavesFirst}
+use Rattle.fdp_loading.specs.Refused.{IsNotLoaded}
+use Rattle.fdp_loading.proofs.Blank.{blank-unit_from}
+use Rattle.fdp_loading.proofs.Drawing.{media-none, media-reopened}
+use Rattle.fdp_loading.proofs.Looked.{IsAlike, alike-looks}
+use Rattle.fdp_loading.proofs.Unwritten.{free-first}
+use Rattle.fdp_locations.specs.Stored.{HoldsWritten}
+use Rattle.fdp_recovery.specs.declared.opened.OpenFault.{OpenFault}
+use Rattle.fdp_recovery.specs.declared.opened.OpenFault.TheVariants as faults
+use Rattle.fdp_recovery.specs.Opened.{IsFresh}
+use Rattle.fdp_recovery.specs.Walking.{OnlyLooks}
+use Rattle.fdp_rules.specs.History.{Found, point_of}
+use Rattle.fdp_rules.specs.Legal.{IsLegal, IsLegalAfter}
+use Rattle.fdp_survival.specs.Books.{IsSafe, Survives}
+use Rattle.fdp_survival.proofs.Orders.{book-saved}
+use Rattle.fdp_survival.proofs.Steps.{safe-begun, survives-begun}
+use Rattle.fdp_units.specs.DataUnits.{is_free}
+use Rattle.fdp_units.specs.UnitTable.{Cut, IsUnit, state_at}
+
+-- a unit of data of a flash without a page that was written is all blank
+unwritten-unit : (g : Geometry) (unit : ℕ) → unit < data_units g → IsBlankUnit g (replicate (all_pages g) Blank) unit
+unwritten-unit g unit low = record {
+  blank = λ page below.
+      let fits : first_page g unit + g.unit_pages ≤ data_units g * g.unit_pages = row_fits unit g.unit_pages (data_units g) g.unit_pages low (omega arith) in
+      let all : data_units g * g.unit_pages ≤ all_units g * g.unit_pages = mul-le (data_units g) g.unit_pages (all_units g) g.unit_pages (omega arith) (omega arith) in
+      slice_get-replicate (all_pages g) (first_page g unit + page) Blank (omega (arith, fits, below, all));
+}
+
+-- no entry is legal
+legal-none : (told : Bool) (c : DriveConfig) (f : Found) → IsLegal told c f []
+unfolding IsLegalAfter
+legal-none told c f = tt
+
+none-had : (x : Bool) → x ≡ true → not x ≡ true → ⊥
+none-had true is had = cc
+none-had false is had = cc
+
+had-not : (x : Bool) → x ≡ false → not x ≡ true
+had-not x is = ap not is
+
+told-of : (image told : Bool) → image ≡ true → (not image || told) ≡ true → told ≡ true
+told-of true told is knows = knows
+told-of false told is knows = absurd cc
+
+-- what a prepared book draws can be saved
+can-here : (flash : FlashState) (b : BookSeen) (k : KeeperSeen) (epoch : ℕ) → IsPrepared b.config flash b k epoch → IsTrue flash.told → CanBeSaved b.config (point_in b) b.pages.units flash.cells
+can-here flash b k epoch p t = book-saved b flash.cells p.order (subst (λ (x : Geometry). HoldsWritten x flash.cells (written_in b) b.pages.units) p.can.geometry (p.stored t))
+
+-- a run whose drive is to be saved first, over a flash that was only looked at
+module _ (old mid new : FlashState) (b : BookSeen) (k : KeeperSeen) (looks : OnlyLooks old mid) (begun : IsBegun b.config old mid b k) where
+  abbrev g : Geometry
+  g = geometry_of b.config
+
+  p : IsPrepared b.config mid b k begun.epoch
+  p = begun.prepared
+
+  alike : IsAlike old mid
+  alike = alike-looks old mid looks
+
+  told-mid : IsTrue old.told → IsTrue mid.told
+  told-mid t = subst IsTrue (sym alike.told) t
+
+  cut-old : old.geometry ≡ g
+  cut-old = sym alike.geometry ∙ p.can.geometry
+
+  in-cut : (unit : ℕ) → IsUnit b.pages.units unit → unit < b.config.groups * b.config.units
+  in-cut unit there = subst (λ (x : Cut). unit < x.groups * x.group_units) p.order.known.units.cut there
+
+  stands-old : IsTrue old.told → StandsForBeginning b.config b.found b.entries 0 old.cells
+  stands-old t = record { kept = []; lost = b.entries; beginning = record { split = refl }; enough = omega arith; stands = begun.begins.stood t }
+
+  opened-here : HasOpened b.entries
+  opened-here = ⊎_elim
+      (λ (x : BeginsFresh b.config old b begun.epoch). inl x.book.entries_are)
+      (λ (x : BeginsFound b.config old b begun.epoch). inr x.book.entries_are)
+      begun.begins.with
+
+  idle-here : IsIdle b
+  idle-here = ⊎_elim
+      (λ (x : BeginsFresh b.config old b begun.epoch). record {
+        entries_are = inl x.book.entries_are;
+        spare_is = x.book.spare_is;
+        spent_is = x.book.spent_is;
+        room_is = x.book.room_is;
+        legal = λ told. subst (IsLegal told b.config b.found) (sym x.book.entries_are) (legal-none told b.config b.found);
+      })
+      (λ (x : BeginsFound b.config old b begun.epoch). record {
+        entries_are = inr x.book.entries_are;
+        spare_is = x.book.spare_is;
+        spent_is = x.book.spent_is;
+        room_is = x.book.room_is;
+        legal = λ told. subst (IsLegal told b.config b.found) (sym x.book.entries_are) (legal-opened b.config b.found told (ap (λ (f : Found). f.is_image) x.book.found_is));
+      })
+      begun.begins.with
+
+  media-here : (state_in b).media ≡ []
+  media-here = ⊎_elim
+      (λ (none : b.entries ≡ []). ap (λ (es : List Entry). (point_of b.config b.found es).state.media) none ∙ media-none b.config b.found)
+      (λ (one : b.entries ≡ entries.Reopened ∷ []). ap (λ (es : List Entry). (point_of b.config b.found es).state.media) one ∙ media-reopened b.config b.found)
+      opened-here
+
+  -- a checkpoint of it, with its answer
+  module _ (now : KeeperSeen) (answer : Wrote) (keeps : KeepsDrive b k now mid new answer) where
+    saved : SavesDrive b.config b.found b.entries k.saver now.saver mid new answer
+    saved = keeps.saves
+
+    cut-new : new.geometry ≡ g
+    cut-new = saved.calls.made.run.geometry ∙ p.can.geometry
+
+    told-back : IsTrue new.told → IsTrue mid.told
+    told-back t = subst IsTrue saved.calls.made.run.told t
+
+    told-old : IsTrue new.told → IsTrue old.told
+    told-old t = subst IsTrue alike.told (told-back t)
+
+    same-mid : IsTrue mid.told → SameDataPages b.config mid.cells new.cells
+    same-mid t = let h = p.durable t in ((saved.stops h.own h.tried (λ again. h.say)).cells t).data_pages_same
+
+    same-old : IsTrue old.told → SameDataPages b.config old.cells new.cells
+    same-old t = subst (λ (xs : List Cell). SameDataPages b.config xs new.cells) (alike.cells t) (same-mid (told-mid t))
+
+    programs-same : new.programs ≡ old.programs
+    programs-same = saved.calls.programs ∙ looks.reads.programs
+
+    survives : Survives b 0 old new
+    survives =
+        runs_joined old mid new (λ m image. StandsForBeginning b.config b.found b.entries 0 image)
+        (runs_weakened old mid (λ m image. image ≡ old.cells) (λ m image. StandsForBeginning b.config b.found b.entries 0 image) looks.reads.held.run
+        (λ t m image above most e. subst (StandsForBeginning b.config b.found b.entries 0) (sym e) (stands-old t)))
+        (survives-begun b k.saver now.saver 0 mid new answer p.order p.can.geometry p.stored p.can.keeper.geometry p.durable saved)
+
+    stored-new : IsTrue new.told → HoldsWritten new.geometry new.cells (written_in b) b.pages.units
+    stored-new t =
+        let was : HoldsWritten g mid.cells (written_in b) b.pages.units = subst (λ (x : Geometry). HoldsWritten x mid.cells (written_in b) b.pages.units) p.can.geometry (p.stored (told-back t)) in
+        subst (λ (x : Geometry). HoldsWritten x new.cells (written_in b) b.pages.units) (sym cut-new)
+        (holds-saved b mid.cells new.cells (same-mid (told-back t)) (record { known = p.order.known; holds = was })).holds
+
+    -- a unit of data that is all blank now was so
+    blank-old : IsTrue old.told → (unit : ℕ) → unit < data_units g → IsBlankUnit g new.cells unit → IsBlankUnit g old.cells unit
+    blank-old t unit low blank = same-blank g old.cells new.cells unit (same-old t) low blank
+
+    blank-new : IsTrue old.told → (unit : ℕ) → unit < data_units g → IsBlankUnit g old.cells unit → IsBlankUnit g new.cells unit
+    blank-new t unit low blank = same-blank g new.cells old.cells unit (λ page below. sym (same-old t page below)) low blank
+
+    laned-new : IsWellFormed old → IsTrue new.told → OpenedApart b.config b.found b.opened → AreLaned b new.cells
+    laned-new formed t apart = ⊎_elim
+        (λ (x : BeginsFresh b.config old b begun.epoch).
+        let fresh : IsFresh b.config g old.cells = subst (λ (y : Geometry). IsFresh b.config y old.cells) cut-old (x.told (told-old t)) in
+        laned-fresh b.config b new.cells p.order.known x.book (λ unit is. blank-new (told-old t) unit is
+        (record { blank = λ page below. (blank-unit_from g old.cells (formed.size (told-old t) ∙ ap all_pages cut-old) fresh.blank unit 0 is).blank page (omega arith) below })))
+        (λ (x : BeginsFound b.config old b begun.epoch).
+        laned-found b.config b.opened (reading_of_state x.state) b new.cells p.order.known.config x.valid x.book apart
+        (subst (λ (xs : List Cell). SameDataPages b.config xs new.cells) (sym (x.opened_is (told-old t))) (same-old (told-old t))))
+        begun.begins.with
+
+    stands-new : IsWellFormed old → StandsBegun b.config new b
+    stands-new formed = record { order = p.order; config_is = refl; idle = idle-here; geometry = cut-new; stored = stored-new; apart = laned-new formed }
+
+    -- the units as the ledger has them
+    units-new : AreUnitsBegun b new
+    units-new = record {
+      plain = λ knows unit there. ⊎_elim
+          (λ (x : BeginsFresh b.config old b begun.epoch). inl (free-first b.config b x.book unit (in-cut unit there)))
+          (λ (x : BeginsFound b.config old b begun.epoch).
+          let t : IsTrue new.told = told-of b.found.is_image new.told (ap (λ (f : Found). f.is_image) x.book.found_is) knows in
+          let cells : b.opened ≡ mid.cells = x.opened_is (told-old t) ∙ sym (alike.cells (told-old t)) in
+          ⊎_elim
+          (λ (free : IsTrue (is_free (state_at b.pages.units unit))). inl free)
+          (λ (used : IsFalse (is_blank_unit g mid.cells unit)). inr (had-not (is_blank_unit g b.opened unit) (ap (λ (xs : List Cell). is_blank_unit g xs unit) cells ∙ used)))
+          (p.units (told-back t) unit there))
+          begun.begins.with;
+      used = λ t unit there had kept blank. ⊎_elim
+          (λ (x : BeginsFresh b.config old b begun.epoch).
+          none-had (is_blank_unit g b.opened unit)
+          (ap (λ (xs : List Cell). is_blank_unit g xs unit) x.book.opened_is ∙ blank-tested g (replicate (all_pages g) Blank) unit (unwritten-unit g unit (in-cut unit there))) had)
+          (λ (x : BeginsFound b.config old b begun.epoch).
+          let here : IsBlankUnit g new.cells unit = subst (λ (y : Geometry). IsBlankUnit y new.cells unit) cut-new blank in
+          none-had (is_blank_unit g b.opened unit)
+          (ap (λ (xs : List Cell). is_blank_unit g xs unit) (x.opened_is (told-old t)) ∙ blank-tested g old.cells unit (blank-old (told-old t) unit (in-cut unit there) here)) had)
+          begun.begins.with;
+      fresh = λ fresh unit there. ⊎_elim
+          (λ (x : BeginsFresh b.config old b begun.epoch). free-first b.config b x.book unit (in-cut unit there))
+          (λ (x : BeginsFound b.config old b begun.epoch). absurd (none-had b.found.is_image (ap (λ (f : Found). f.is_image) x.book.found_is) fresh))
+          begun.begins.with;
+    }
+
+    ledger-new : IsWellFormed old → IsWellFormed new → IsLedger (counts_of old) b new
+    ledger-new formed then = ledger-begun old new (λ m image. StandsForBeginning b.config b.found b.entries 0 image) survives programs-same b opened-here units-new formed then media-here
+
+  -- it was done
+  loaded-here : (now : KeeperSeen) → KeepsDrive b k now mid new wrote.Done → IsWellFormed old → IsWellFormed new → IsLoaded b.config old new b now
+  loaded-here now keeps formed then = record {
+    epoch = begun.epoch;
+    begins = begun.begins;
+    stands = stands-new now wrote.Done keeps formed;
+    saved = record {
+      keeper = keeps.keeper;
+      safe = subst (λ (n : ℕ). IsSafe b now.saver n new) (sym keeps.firm_is) (safe-begun b k.saver now.saver 0 mid new wrote.Done p.order p.can.geometry p.stored p.can.keeper.geometry p.durable keeps.saves);
+      firm_is = keeps.firm_is;
+      epoch_is = ap (λ (s : JournalState). s.stamp.epoch) keeps.saves.saver_is ∙ ap (λ (n : ℕ). n + 1) p.epoch_is;
+      few = p.few;
+      sure = ap (λ (s : JournalState). s.in_doubt) keeps.saves.saver_is;
+    };
+    same = same-old now wrote.Done keeps;
+    ledger = ledger-new now wrote.Done keeps formed then;
+    faults = keeps.saves.ends ∙ begun.faults;
+    stops = survives now wrote.Done keeps;
+  }
+
+  -- or it failed
+  unsaved-here : KeepsNone b k mid new → IsNotLoaded b.config old new (faults.FlashFault new.moment)
+  unsaved-here none =
+      let keeps = none.keeps in
+      record {
+        told = λ t. tt;
+        left = record {
+          last = failed_behind old mid new (λ m image. image ≡ old.cells) new.moment looks.reads.held.run keeps.saves.ends;
+          left = inr (record {
+            book = b;
+            epoch = begun.epoch;
+            begins = begun.begins;
+            same = same-old none.keeper wrote.Failed keeps;
+            programs = programs-same none.keeper wrote.Failed keeps;
+            stops = survives none.keeper wrote.Failed keeps;
+            cells = λ t.
+                let m = told-back none.keeper wrote.Failed keeps t in
+                durable-stands b.config b.found b.entries 0 none.keeper.saver b.pages.units new.cells
+                (checkpoint-done b.config b.found b.entries 0 k.saver none.keeper.saver b.pages.units mid new wrote.Failed p.durable
+                (can-here mid b k begun.epoch p) keeps.saves m);
+          });
+        };
+      }
+
+-- By the answer of the checkpoint a run begins, or none does.
+pub loaded-of : (c : DriveConfig) (old mid new : FlashState) (b : BookSeen) (k now : KeeperSeen) → OnlyLooks old mid → IsBegun c old mid b k → KeepsDrive b k now mid new wrote.Done → IsWellFormed old → IsWellFormed new → IsLoaded c old new b now
+loaded-of c old mid new b k now looks begun keeps formed then =
+    subst (λ (x : DriveConfig). IsBegun x old mid b k → IsLoaded x old new b now) begun.prepared.config_is (λ h. loaded-here old mid new b k looks h now keeps formed then) begun
+
+pub unsaved-of : (c : DriveConfig) (old mid new : FlashState) (b : BookSeen) (k : KeeperSeen) → OnlyLooks old mid → IsBegun c old mid b k → KeepsNone b k mid new → IsNotLoaded c old new (faults.FlashFault new.moment)
+unsaved-of c old mid new b k looks begun none =
+    subst (λ (x : DriveConfig). IsBegun x old mid b k → IsNotLoaded x old new (faults.FlashFault new.moment)) begun.prepared.config_is (λ h. unsaved-here old mid new b k looks h none) begun
+
+module _ (c : DriveConfig) (old mid new : FlashState) (b : BookSeen) (k : KeeperSeen) (looks : OnlyLooks old mid) (begun : IsBegun c old mid b k) where
+  pub ok-saved : IsWellFormed old → IsWellFormed new → (result : Result Loaded OpenFault) → SavesFirst b k mid new result → IfOk result (λ made. IsLoaded c old new made.book made.keeper)
+  ok-saved formed then (Ok made) h = subst (λ (x : BookSeen). IsLoaded c old new x made.keeper) (sym h.0) (loaded-of c old mid new b k made.keeper looks begun h.1 formed then)
+  ok-saved formed then (Err fault) h = tt
+
+  pub err-saved : (result : Result Loaded OpenFault) → SavesFirst b k mid new result → IfErr result (IsNotLoaded c old new)
+  err-saved (Ok made) h = tt
+  err-saved (Err (faults.OtherConfig key)) h = absurd h
+  err-saved (Err faults.NotADrive) h = absurd h
+  err-saved (Err (faults.BadImage page)) h = absurd h
+  err-saved (Err (faults.FlashFault moment)) h = subst (λ (m : ℕ). IsNotLoaded c old new (faults.FlashFault m)) (sym h.0) (unsaved-of c old mid new b k looks begun h.1)
+  err-saved (Err faults.Spent) h = absurd h
+  err-saved (Err faults.NoMemory) h = absurd h

@@ -1,0 +1,4 @@
+pub mod Begun
+pub mod Loaded
+pub mod Refused
+pub mod Made

@@ -1,0 +1,72 @@
+-- What an opening makes of a flash: a run whose drive is saved.
+use Rattle.std.specs.Prelude.{◌≡◌, ◌⊎◌, ℕ, ◌+◌, ◌^◌, ◌<◌, Bool, false, IsFalse, IsTrue, [], ◌∷◌, length}
+use Rattle.fdp_base.specs.declared.config.DriveConfig.{DriveConfig}
+use Rattle.fdp_base.specs.declared.entry.Entry.TheVariants as entries
+use Rattle.fdp_base.specs.Placement.{geometry_of}
+use Rattle.fdp_book.specs.Book.{BookSeen, written_in}
+use Rattle.fdp_durability.specs.Durable.{IsDurable}
+use Rattle.fdp_flash.specs.FlashState.{FlashState}
+use Rattle.fdp_image.specs.Roomy.{is_blank_unit}
+use Rattle.fdp_image.specs.Saving.{SameDataPages}
+use Rattle.fdp_isolation.specs.Begun.{OpenedApart}
+use Rattle.fdp_isolation.specs.Laned.{AreLaned}
+use Rattle.fdp_keeper.specs.Keeper.{CanSave, IsKeeperOf, KeeperSeen}
+use Rattle.fdp_ledger.specs.Counted.{counts_of}
+use Rattle.fdp_ledger.specs.Ledger.{IsLedger}
+use Rattle.fdp_loading.specs.Begun.{Begins}
+use Rattle.fdp_locations.specs.Stored.{HoldsWritten}
+use Rattle.fdp_rules.specs.Legal.{IsLegal}
+use Rattle.fdp_survival.specs.Books.{IsInOrder, IsSafe, Survives}
+use Rattle.fdp_units.specs.DataUnits.{is_free}
+use Rattle.fdp_units.specs.UnitTable.{IsUnit, state_at}
+
+-- What stands before the drive is saved for the first time, on a flash that was only looked at: the book is in order and its pages are there;
+-- each unit is free or has a page that is not blank; what was found is durable for the keeper, none of whose entries is firm.
+pub record IsPrepared (c : DriveConfig) (flash : FlashState) (b : BookSeen) (k : KeeperSeen) (epoch : ℕ) : Type 0 where
+  pub order : IsInOrder b
+  pub config_is : b.config ≡ c
+  pub stored : IsTrue flash.told → HoldsWritten flash.geometry flash.cells (written_in b) b.pages.units
+  pub units : IsTrue flash.told → (unit : ℕ) → IsUnit b.pages.units unit → IsTrue (is_free (state_at b.pages.units unit)) ⊎ IsFalse (is_blank_unit (geometry_of c) flash.cells unit)
+  pub durable : IsTrue flash.told → IsDurable b.config b.found b.entries 0 k.saver b.pages.units flash.cells
+  pub can : CanSave b k flash
+  pub epoch_is : k.saver.stamp.epoch ≡ epoch
+  pub few : epoch < 2 ^ 62
+  pub firm_is : k.firm ≡ 0
+
+-- no step was made, and none has room; the history has no entry, or that of the opening, which is legal
+pub record IsIdle (b : BookSeen) : Type 0 where
+  pub entries_are : (b.entries ≡ []) ⊎ (b.entries ≡ entries.Reopened ∷ [])
+  pub spare_is : b.spare ≡ 0
+  pub spent_is : b.spent ≡ 0
+  pub room_is : b.room ≡ 0
+  pub legal : (told : Bool) → IsLegal told b.config b.found b.entries
+
+-- A book is in order over a flash that is cut as configured and holds what was written; data is kept apart where that was so in what was opened.
+pub record StandsBegun (c : DriveConfig) (flash : FlashState) (b : BookSeen) : Type 0 where
+  pub order : IsInOrder b
+  pub config_is : b.config ≡ c
+  pub idle : IsIdle b
+  pub geometry : flash.geometry ≡ geometry_of b.config
+  pub stored : IsTrue flash.told → HoldsWritten flash.geometry flash.cells (written_in b) b.pages.units
+  pub apart : IsTrue flash.told → OpenedApart b.config b.found b.opened → AreLaned b flash.cells
+
+-- The drive is saved, with the next epoch: each entry is firm, and nothing is in doubt.
+pub record IsSavedBegun (flash : FlashState) (b : BookSeen) (k : KeeperSeen) (epoch : ℕ) : Type 0 where
+  pub keeper : IsKeeperOf b k
+  pub safe : IsSafe b k.saver k.firm flash
+  pub firm_is : k.firm ≡ length b.entries
+  pub epoch_is : k.saver.stamp.epoch ≡ epoch + 1
+  pub few : epoch < 2 ^ 62
+  pub sure : k.saver.in_doubt ≡ false
+
+-- A flash was loaded: a run begins with what stood on it, and its drive is saved. No page of data changed, and the flash counted no program
+-- of one and no fault; whatever a stop left stands for the history before the entry of the opening, or with it.
+pub record IsLoaded (c : DriveConfig) (old new : FlashState) (b : BookSeen) (k : KeeperSeen) : Type 0 where
+  pub epoch : ℕ
+  pub begins : Begins c old b epoch
+  pub stands : StandsBegun c new b
+  pub saved : IsSavedBegun new b k epoch
+  pub same : IsTrue old.told → SameDataPages c old.cells new.cells
+  pub ledger : IsLedger (counts_of old) b new
+  pub faults : new.faults ≡ old.faults
+  pub stops : Survives b 0 old new

@@ -1,0 +1,72 @@
+-- Why no run begins with a flash, and what stands on it then.
+use Rattle.std.specs.Prelude.{◌≡◌, ◌⊎◌, ℕ, IsTrue, List, Some}
+use Rattle.fdp_base.specs.declared.config.DriveConfig.{DriveConfig}
+use Rattle.fdp_base.specs.declared.config.Geometry.{Geometry}
+use Rattle.fdp_book.specs.Book.{BookSeen}
+use Rattle.fdp_flash.specs.declared.cell.Cell.{Cell}
+use Rattle.fdp_flash.specs.Failing.{FailsLast}
+use Rattle.fdp_flash.specs.FlashState.{FlashState}
+use Rattle.fdp_image.specs.Checkpoint.{reading_of_state}
+use Rattle.fdp_image.specs.Kept.{StandsForBeginning}
+use Rattle.fdp_image.specs.Saving.{SameDataPages}
+use Rattle.fdp_loading.specs.Begun.{Begins}
+use Rattle.fdp_opening.specs.Found.{IsFirstAstray}
+use Rattle.fdp_recovery.specs.declared.opened.OpenFault.{OpenFault}
+use Rattle.fdp_recovery.specs.declared.opened.OpenFault.TheVariants as faults
+use Rattle.fdp_recovery.specs.Keys.{keys_on, other_key}
+use Rattle.fdp_recovery.specs.Opened.{IsBadImage, IsFound, IsNoDrive, IsSpent}
+use Rattle.fdp_recovery.specs.Walking.{OnlyLooks}
+use Rattle.fdp_snapshot.specs.declared.state.State.{State}
+use Rattle.fdp_survival.specs.Books.{Survives}
+
+-- a drive was found, but this is the page of its first block that is not in its place
+pub record IsStrayImage (c : DriveConfig) (g : Geometry) (cells : List Cell) (page : ℕ) : Type 0 where
+  pub state : State
+  pub area : ℕ
+  pub epoch : ℕ
+  pub found : IsFound c g cells state area epoch
+  pub astray : IsFirstAstray c cells (reading_of_state state) page
+
+-- what each fault tells of the cells
+abbrev pub TellsFault : DriveConfig → Geometry → List Cell → OpenFault → Type 0
+TellsFault c g cells (faults.OtherConfig key) = other_key c g (keys_on g cells) ≡ Some key
+TellsFault c g cells faults.NotADrive = IsNoDrive c g cells
+TellsFault c g cells (faults.BadImage page) = IsBadImage c g cells page ⊎ IsStrayImage c g cells page
+TellsFault c g cells (faults.FlashFault moment) = Unit {0}
+TellsFault c g cells faults.Spent = IsSpent c g cells
+TellsFault c g cells faults.NoMemory = Unit {0}
+
+-- the flash was only looked at, and no call of it failed
+pub record IsLookedAt (old new : FlashState) : Type 0 where
+  pub looks : OnlyLooks old new
+  pub faults : new.faults ≡ old.faults
+
+-- The drive that was to be saved first was not: no page of data changed, and the flash, and whatever a stop left, stands for what the history
+-- begins with, without the entry of the opening or with it.
+pub record FailsToSave (c : DriveConfig) (old new : FlashState) : Type 0 where
+  pub book : BookSeen
+  pub epoch : ℕ
+  pub begins : Begins c old book epoch
+  pub same : IsTrue old.told → SameDataPages c old.cells new.cells
+  pub programs : new.programs ≡ old.programs
+  pub stops : Survives book 0 old new
+  pub cells : IsTrue new.told → StandsForBeginning book.config book.found book.entries 0 new.cells
+
+-- a flash whose last call failed was only looked at, or its first checkpoint failed
+pub record FailsToLoad (c : DriveConfig) (old new : FlashState) (moment : ℕ) : Type 0 where
+  pub last : FailsLast old new moment
+  pub left : OnlyLooks old new ⊎ FailsToSave c old new
+
+-- what becomes of the flash by the fault: only one of the flash itself may have changed it
+abbrev pub LeavesFlash : DriveConfig → FlashState → FlashState → OpenFault → Type 0
+LeavesFlash c old new (faults.OtherConfig key) = IsLookedAt old new
+LeavesFlash c old new faults.NotADrive = IsLookedAt old new
+LeavesFlash c old new (faults.BadImage page) = IsLookedAt old new
+LeavesFlash c old new (faults.FlashFault moment) = FailsToLoad c old new moment
+LeavesFlash c old new faults.Spent = IsLookedAt old new
+LeavesFlash c old new faults.NoMemory = IsLookedAt old new
+
+-- No run begins with a flash, for this fault: what it tells of the flash, and what it leaves there.
+pub record IsNotLoaded (c : DriveConfig) (old new : FlashState) (fault : OpenFault) : Type 0 where
+  pub told : IsTrue old.told → TellsFault c old.geometry old.cells fault
+  pub left : LeavesFlash c old new fault
