@@ -1,5 +1,5 @@
 -- Data stands apart behind each step.
-use Rattle.std.proofs.Common.{◌≡◌, ℕ, ◌<◌, Bool, true, List, [], Some, sym, ◌∙◌, subst}
+use Rattle.std.proofs.Common.{◌≡◌, ℕ, ◌<◌, Bool, true, false, List, [], Some, sym, ◌∙◌, subst}
 use Rattle.std.specs.Prelude.{IsTrue}
 use Rattle.fdp_base.specs.declared.command.Command.{Command}
 use Rattle.fdp_base.specs.declared.command.Write.{Write}
@@ -7,27 +7,26 @@ use Rattle.fdp_base.specs.declared.config.Geometry.{Geometry}
 use Rattle.fdp_base.specs.declared.entry.Reply.{Reply}
 use Rattle.fdp_base.specs.declared.entry.Spot.{Spot}
 use Rattle.fdp_base.specs.declared.status.Status.{Status}
-use Rattle.fdp_base.specs.CommandKinds.{write_of}
+use Rattle.fdp_base.specs.CommandKinds.{is_setting, is_write, write_of}
 use Rattle.fdp_base.specs.Placement.{geometry_of}
 use Rattle.fdp_base.specs.Spare.{data_spare}
 use Rattle.fdp_book.specs.declared.ticket.Done.{Done}
 use Rattle.fdp_book.specs.declared.ticket.Ticket.{Ticket}
-use Rattle.fdp_book.specs.Book.{BookSeen, IsLed, point_in, state_in, written_in}
-use Rattle.fdp_book.specs.Relocating.{Relocates}
+use Rattle.fdp_book.specs.Book.{BookSeen, IsLed, point_in, state_in, written_in, IsLonger}
+use Rattle.fdp_book.specs.Relocating.{MovesPass, Relocates}
 use Rattle.fdp_book.specs.Shutting.{ShutsAndEnds}
-use Rattle.fdp_book.specs.Steps.{Completes, IsServed, Places, Starts}
+use Rattle.fdp_book.specs.Steps.{Completes, Places, Starts}
 use Rattle.fdp_book.specs.Tickets.{IsNextSpot, IsTicketOf}
 use Rattle.fdp_collector.specs.declared.step.Step.{Step}
-use Rattle.fdp_collector.specs.declared.step.Step.TheVariants as steps
 use Rattle.fdp_core.specs.Seen.{HoldsHistory, KeepsApart}
-use Rattle.fdp_core.proofs.Sound.{IsSameFlash, begun}
+use Rattle.fdp_core.proofs.Sound.{IsSameFlash, begun, same-flash}
 use Rattle.fdp_flash.specs.Cells.{ProgramMayLeave}
 use Rattle.fdp_flash.specs.FlashState.{FlashState}
 use Rattle.fdp_isolation.specs.Isolated.{IsIsolatedDrive}
 use Rattle.fdp_isolation.specs.Laned.{AreLaned, IsKnown, StandsOver}
-use Rattle.fdp_isolation.proofs.Answered.{laned-answered}
+use Rattle.fdp_isolation.proofs.Answered.{laned-answered, laned-commanded, laned-committed, laned-set}
+use Rattle.fdp_isolation.proofs.Keeping.{FillsNoMore, FillsNone}
 use Rattle.fdp_isolation.proofs.Moved.{laned-moved}
-use Rattle.fdp_isolation.proofs.Owning.{MayEnd}
 use Rattle.fdp_isolation.proofs.Placed.{laned-placed, laned-shut}
 use Rattle.fdp_isolation.proofs.Promised.{isolated}
 use Rattle.fdp_isolation.proofs.Relocated.{laned-relocated}
@@ -35,10 +34,13 @@ use Rattle.fdp_isolation.proofs.Started.{laned-started}
 use Rattle.fdp_locations.specs.Stored.{HoldsWritten}
 use Rattle.fdp_locations.specs.Written.{next_spare}
 use Rattle.fdp_pages.specs.Steps.{ChangesOwners}
-use Rattle.fdp_relocation.specs.declared.advance.Advance.{Advance}
-use Rattle.fdp_relocation.specs.declared.advance.Advance.TheVariants as advance
-use Rattle.fdp_relocation.specs.Collected.{Collects}
 use Rattle.fdp_rules.specs.PlainState.{Going}
+use Rattle.fdp_base.specs.declared.entry.Entry.{Entry}
+use Rattle.fdp_isolation.specs.Begun.{OpenedApart}
+use Rattle.fdp_rules.specs.Step.{MaySucceed}
+use Rattle.fdp_rules.specs.Answer.{bare}
+use Rattle.fdp_base.specs.declared.config.DriveConfig.{DriveConfig}
+use Rattle.fdp_rules.specs.History.{Found}
 
 -- ---- a step that has begun
 
@@ -47,26 +49,56 @@ known-begun b k = record { config = k.config; orderly = k.orderly; units = k.uni
 
 -- ---- a step that calls no flash, or reads from it
 
-moved-along : (f n : FlashState) (d : BookSeen) → IsSameFlash f n → (IsTrue f.told → AreLaned d f.cells) → KeepsApart n d
-moved-along f n d same h tells =
+-- a run goes on as it began
+pub opened-back : (b d : BookSeen) (es : List Entry) → IsLonger b d es → OpenedApart d.config d.found d.opened → OpenedApart b.config b.found b.opened
+opened-back b d es longer opened =
+    subst (λ (c : DriveConfig). OpenedApart c b.found b.opened) longer.config_is
+    (subst (λ (f : Found). OpenedApart d.config f b.opened) longer.found_is
+    (subst (OpenedApart d.config d.found) longer.opened_is opened))
+
+moved-along : (f n : FlashState) (b d : BookSeen) (es : List Entry) → IsSameFlash f n → IsLonger b d es → (AreLaned b f.cells → AreLaned d f.cells) → KeepsApart f b → KeepsApart n d
+moved-along f n b d es same longer step h tells opened =
     let told : IsTrue f.told = sym same.told ∙ tells in
-    subst (AreLaned d) (sym (same.cells told)) (h told)
+    subst (AreLaned d) (sym (same.cells told)) (step (h told (opened-back b d es longer opened)))
 
 pub apart-answered : (f n : FlashState) (b d : BookSeen) (queue number : ℕ) (command : Command) (reply : Reply) (moment : ℕ) (done : Done) → IsKnown b → IsLed d → IsSameFlash f n →
-    Completes b d [] queue number command reply moment done → ChangesOwners b.pages d.pages → IsServed command → MayEnd b.config (point_in b) queue number command reply moment → KeepsApart f b → KeepsApart n d
-apart-answered f n b d queue number command reply moment done known led same ends owners served may h =
-    moved-along f n d same (λ told. laned-answered b d queue number command reply moment done f.cells known led ends owners served may (h told))
+    Completes b d [] queue number command reply moment done → ChangesOwners b.pages d.pages → reply.applied ≡ false → KeepsApart f b → KeepsApart n d
+apart-answered f n b d queue number command reply moment done known led same ends owners unapplied h =
+    moved-along f n b d _ same ends.step (λ laned. laned-answered b d queue number command reply moment done f.cells known led ends owners unapplied laned) h
+
+-- a command was made that is neither a write nor a setting, whether it was told to be saved or not
+pub apart-commanded : (f : FlashState) (b d : BookSeen) (queue number : ℕ) (command : Command) (reply : Reply) (moment : ℕ) (done : Done) → IsKnown b → IsLed d →
+    Completes b d [] queue number command reply moment done → FillsNoMore b.pages d.pages → is_write command ≡ false → is_setting command ≡ false → KeepsApart f b → KeepsApart f d
+apart-commanded f b d queue number command reply moment done known led ends fills other unset h =
+    moved-along f f b d _ (same-flash f) ends.step (λ laned. laned-commanded b d queue number command reply moment done f.cells known led ends fills other unset laned) h
+
+-- a placement setting was made
+pub apart-set : (f : FlashState) (b d : BookSeen) (queue number : ℕ) (command : Command) (reply : Reply) (moment : ℕ) (done : Done) → IsKnown b → IsLed d →
+    Completes b d [] queue number command reply moment done → FillsNone d.pages → is_setting command ≡ true → reply.applied ≡ true → KeepsApart f b → KeepsApart f d
+apart-set f b d queue number command reply moment done known led ends none sets made h =
+    moved-along f f b d _ (same-flash f) ends.step (λ laned. laned-set b d queue number command reply moment done f.cells known led ends none sets made laned) h
+
+-- a write was made, whether it was told to be saved or not
+pub apart-committed : (f : FlashState) (b d : BookSeen) (queue moment : ℕ) (g : Going) (status : Status) (done : Done) → IsKnown b → IsLed d → (state_in b).going queue ≡ Some g → MaySucceed b.config (point_in b) g →
+    Completes b d [] queue g.number g.command (bare status true) moment done → ChangesOwners b.pages d.pages → KeepsApart f b → KeepsApart f d
+apart-committed f b d queue moment g status done known led going may ends owners h =
+    moved-along f f b d _ (same-flash f) ends.step (λ laned. laned-committed b d queue moment g status done f.cells known led going may ends owners laned) h
 
 pub apart-started : (f : FlashState) (b d : BookSeen) (queue number : ℕ) (command : Command) (ticket : Ticket) → IsKnown b → IsLed d → Starts b d queue number command ticket → ChangesOwners b.pages d.pages → KeepsApart f b → KeepsApart f d
-apart-started f b d queue number command ticket known led starts owners h tells = laned-started b d queue number command ticket f.cells known led starts owners (h tells)
+apart-started f b d queue number command ticket known led starts owners h =
+    moved-along f f b d _ (same-flash f) starts.step (λ laned. laned-started b d queue number command ticket f.cells known led starts owners laned) h
+
+-- a move calls no flash
+pub apart-moved : (f : FlashState) (b d : BookSeen) (rg : ℕ) → IsKnown b → MovesPass b d rg → KeepsApart f b → KeepsApart f d
+apart-moved f b d rg known moves h = moved-along f f b d _ (same-flash f) moves.longer (λ laned. laned-moved b d rg f.cells known moves laned) h
 
 -- ---- what it says
 
 stands : (f : FlashState) (b : BookSeen) → f.geometry ≡ geometry_of b.config → IsKnown b → HoldsHistory f b → IsTrue f.told → StandsOver b f.cells
 stands f b geometry known stored tells = record { known = known; holds = subst (λ (g : Geometry). HoldsWritten g f.cells (written_in b) b.pages.units) geometry (stored tells) }
 
-pub apart-isolated : (f : FlashState) (b : BookSeen) → f.geometry ≡ geometry_of b.config → IsKnown b → HoldsHistory f b → KeepsApart f b → IsTrue f.told → IsIsolatedDrive b.config (point_in b) b.entries f.cells
-apart-isolated f b geometry known stored h tells = isolated b f.cells (stands f b geometry known stored tells) (h tells)
+pub apart-isolated : (f : FlashState) (b : BookSeen) → f.geometry ≡ geometry_of b.config → IsKnown b → HoldsHistory f b → KeepsApart f b → IsTrue f.told → OpenedApart b.config b.found b.opened → IsIsolatedDrive b.config (point_in b) b.entries f.cells
+apart-isolated f b geometry known stored h tells opened = isolated b f.cells (stands f b geometry known stored tells) (h tells opened)
 
 -- ---- a page of a write
 
@@ -77,29 +109,19 @@ module _ (f n : FlashState) (b d : BookSeen) (ticket : Ticket) (g : Going) (w : 
   left-there tells = subst (λ (x : Geometry). ProgramMayLeave x f.cells spot (data_spare (next_spare (state_in b) g w)) bytes n.cells) geometry (left tells)
 
   pub apart-placed : (last : Bool) → Places b d ticket g spot last → KeepsApart n d
-  apart-placed last places tells =
+  apart-placed last places tells opened =
       let here : IsTrue f.told = sym told ∙ tells in
-      laned-placed b d ticket g w spot last bytes f.cells n.cells (stands f b geometry known stored here) led is write next places (left-there here) (h here)
+      laned-placed b d ticket g w spot last bytes f.cells n.cells (stands f b geometry known stored here) led is write next places (left-there here) (h here (opened-back b d _ places.step opened))
 
   pub apart-shut : (status : Status) (moment : ℕ) (done : Done) → ShutsAndEnds b d ticket g spot status moment done → KeepsApart n d
-  apart-shut status moment done shuts tells =
+  apart-shut status moment done shuts tells opened =
       let here : IsTrue f.told = sym told ∙ tells in
-      laned-shut b d ticket g w spot status moment done bytes f.cells n.cells (stands f b geometry known stored here) led is write next shuts (left-there here) (h here)
+      laned-shut b d ticket g w spot status moment done bytes f.cells n.cells (stands f b geometry known stored here) led is write next shuts (left-there here) (h here (opened-back b d _ shuts.completes.step opened))
 
 -- ---- a step of relocation
 
 module _ (f n : FlashState) (b d : BookSeen) (rg : ℕ) (low : rg < b.config.groups) (geometry : f.geometry ≡ geometry_of b.config) (known : IsKnown b) (stored : HoldsHistory f b) (told : n.told ≡ f.told) (h : KeepsApart f b) where
-  by-step : (step : Step) → Relocates b d f n rg true step → KeepsApart n d
-  by-step step relocates tells =
+  pub apart-relocated : (may_erase : Bool) (step : Step) → Relocates b d f n rg may_erase step → KeepsApart n d
+  apart-relocated may_erase step relocates tells opened =
       let here : IsTrue f.told = sym told ∙ tells in
-      laned-relocated b d f n rg true step here geometry low (stands f b geometry known stored here) relocates (h here)
-
-  pub apart-collected : (x : Advance) → Collects b d f n rg x → KeepsApart n d
-  apart-collected advance.Nothing c = by-step steps.Nothing c
-  apart-collected advance.Copied c = by-step (steps.Copied c.0) c.1
-  apart-collected advance.Moved c = λ tells.
-      let here : IsTrue f.told = sym told ∙ tells in
-      subst (AreLaned d) (sym (c.flash.cells here)) (laned-moved b d rg f.cells known c.moved (h here))
-  apart-collected advance.Erased c = by-step (steps.Erased c.0) c.1
-  apart-collected advance.Starved c = by-step steps.Starved c
-  apart-collected advance.Fault c = by-step (steps.Fault c.0) c.1
+      laned-relocated b d f n rg may_erase step here geometry low (stands f b geometry known stored here) relocates (h here (opened-back b d _ relocates.longer opened))

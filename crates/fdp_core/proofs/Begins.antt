@@ -1,6 +1,6 @@
 -- How a group begins a command: it refuses it, reads for it, or starts it.
 use Rattle.std.proofs.Common.{◌≡◌, ℕ, ◌<◌, arith, Bool, true, false, ◌||◌, List, [], ◌∷◌, ◌++◌, refl, ap, sym, ◌∙◌, subst, inl, inr, Some, None}
-use Rattle.std.specs.Prelude.{IsTrue}
+use Rattle.std.specs.Prelude.{IsTrue, not}
 use Rattle.std.specs.List.{list_all, list_any}
 use Rattle.std.proofs.lemmas.Bool.{false≢true}
 use Rattle.std.proofs.lemmas.List.{append-nil}
@@ -12,13 +12,15 @@ use Rattle.fdp_base.specs.declared.entry.Entry.TheVariants as entries
 use Rattle.fdp_base.specs.declared.entry.Reply.{Reply}
 use Rattle.fdp_base.specs.declared.entry.Spot.{Spot}
 use Rattle.fdp_base.specs.declared.status.Status.{Status}
-use Rattle.fdp_base.specs.CommandKinds.{IsWellFormed}
+use Rattle.fdp_base.specs.CommandKinds.{IsWellFormed, is_saved, is_write}
 use Rattle.fdp_book.specs.declared.room.Replies.{Replies}
 use Rattle.fdp_book.specs.declared.ticket.Done.{Done}
 use Rattle.fdp_book.specs.declared.ticket.Ticket.{Ticket}
 use Rattle.fdp_book.specs.Book.{BookSeen, IsLed, point_in, state_in}
+use Rattle.fdp_book.specs.FirstSteps.{IsAnswerable, is_answered}
 use Rattle.fdp_book.specs.Stages.{IsFree}
 use Rattle.fdp_book.specs.Steps as book
+use Rattle.fdp_book.proofs.Histories.Commanded.{success-follows}
 use Rattle.fdp_book.proofs.Histories.Follows.{accepted-blocks, read-follows, refused-fine, refused-follows, unread-follows}
 use Rattle.fdp_calls.specs.Calls.{FailedAt, MakesCalls, fetch_at, has_failed}
 use Rattle.fdp_calls.specs.Media.{IsReadFrom}
@@ -37,7 +39,6 @@ use Rattle.fdp_core.proofs.Sound.{IsSameFlash, begun, same-flash, sound-begun, s
 use Rattle.fdp_flash.specs.FlashState.{Call, FlashState, IsWellFormed as IsFlashFormed}
 use Rattle.fdp_history.specs.OrderlyState.{IsOrderlyState}
 use Rattle.fdp_isolation.specs.Laned.{IsKnown}
-use Rattle.fdp_isolation.proofs.Owning.{MayEnd}
 use Rattle.fdp_ledger.specs.declared.counts.Counts.{Counts}
 use Rattle.fdp_ledger.specs.Calls.{MayTell, OnlyFetches, is_fetch}
 use Rattle.fdp_ledger.specs.Ledger.{IsLedger}
@@ -47,7 +48,7 @@ use Rattle.fdp_ledger.proofs.Answered.{ledger-answered}
 use Rattle.fdp_ledger.proofs.Moments.{may-tell}
 use Rattle.fdp_ledger.proofs.Started.{ledger-started}
 use Rattle.fdp_pages.specs.Steps.{ChangesOwners}
-use Rattle.fdp_rules.specs.Answer.{bare}
+use Rattle.fdp_rules.specs.Answer.{IsSuccess, bare}
 use Rattle.fdp_rules.specs.Change.{is_media_error}
 use Rattle.fdp_rules.specs.Refusal.{refusal_of}
 use Rattle.fdp_rules.specs.Step.{Follows, IsQueue}
@@ -57,12 +58,11 @@ use Rattle.fdp_rules.specs.Step.{Follows, IsQueue}
 -- what a step needs that only answers: the flash was read from, or not called; the answer may follow, and a media error has its fault
 record MayAnswer (handed : Counts) (f n : FlashState) (b : BookSeen) (queue number : ℕ) (command : Command) (reply : Reply) (moment : ℕ) : Type 0 where
   known : IsKnown b
-  served : book.IsServed command
   flash : IsSameFlash f n
   fetches : OnlyFetches f n
   follows : (IsTrue (is_media_error reply.status) → HasMoments n) → Follows n.told b.config (point_in b) (host queue number command reply moment)
   told : IsTrue (is_media_error reply.status) → MayTell handed b n moment
-  ending : MayEnd b.config (point_in b) queue number command reply moment
+  unapplied : reply.applied ≡ false
 
 sound-answered : (handed : Counts) (f n : FlashState) (b d : BookSeen) (block : List ℕ) (queue number : ℕ) (command : Command) (reply : Reply) (moment : ℕ) (done : Done) →
     IsSound handed f b block → MayAnswer handed f n b queue number command reply moment → IsLed d → book.Completes (begun b) d [] queue number command reply moment done → ChangesOwners b.pages d.pages → IsSound handed n d block
@@ -71,7 +71,7 @@ sound-answered handed f n b d block queue number command reply moment done so ma
     sound-told handed f n (begun b) d (host queue number command reply moment) block block was may.flash ends.step owners refl may.follows
     (ledger-answered handed (begun b) d f n queue number command reply moment done ends owners may.fetches
     (λ error. let t = may.told error in record { fault = t.fault; until = t.until }) was.ledger)
-    (apart-answered f n (begun b) d queue number command reply moment done (known-begun b may.known) led may.flash ends owners may.served may.ending was.apart)
+    (apart-answered f n (begun b) d queue number command reply moment done (known-begun b may.known) led may.flash ends owners may.unapplied was.apart)
     refl
 
 -- an answer of no media error tells of no failed call
@@ -96,16 +96,15 @@ refusal-fine : (b : BookSeen) (queue number : ℕ) (command : Command) (status :
 refusal-fine b queue number command status reply is = ap (λ (r : Reply). is_media_error r.status) is.reply_is ∙ refused-fine b.config (point_in b) command status is.refused
 
 pub sound-refused : (handed : Counts) (f : FlashState) (b d : BookSeen) (block : List ℕ) (queue number : ℕ) (command : Command) (status : Status) (reply : Reply) (moment : ℕ) (done : Done) →
-    IsSound handed f b block → IsKnown b → IsLed d → book.IsServed command → IsRefusal b queue number command status reply → book.Completes (begun b) d [] queue number command reply moment done → ChangesOwners b.pages d.pages → IsSound handed f d block
-sound-refused handed f b d block queue number command status reply moment done so known led served is ends owners =
+    IsSound handed f b block → IsKnown b → IsLed d → IsRefusal b queue number command status reply → book.Completes (begun b) d [] queue number command reply moment done → ChangesOwners b.pages d.pages → IsSound handed f d block
+sound-refused handed f b d block queue number command status reply moment done so known led is ends owners =
     sound-answered handed f f b d block queue number command reply moment done so (record {
       known = known;
-      served = served;
       flash = same-flash f;
       fetches = no-fetches f;
       follows = λ _. subst (λ (r : Reply). Follows f.told b.config (point_in b) (host queue number command r moment)) (sym is.reply_is) (refused-follows f.told b.config (point_in b) queue number command status moment is.queue_is is.formed is.free is.refused);
       told = λ wrong. absurd (false≢true (sym (refusal-fine b queue number command status reply is) ∙ wrong));
-      ending = inl (ap (λ (r : Reply). r.applied) is.reply_is);
+      unapplied = ap (λ (r : Reply). r.applied) is.reply_is;
     }) led ends owners
 
 pub begins-refused : {F : Type 0} (state : F → FlashState) (old new : Seen F) (queue number : ℕ) (command : Command) (status : Status) (reply : Reply) (moment : ℕ) (done : Done) → 0 < old.book.spare → new.handed ≡ old.handed → new.flash ≡ old.flash →
@@ -119,11 +118,110 @@ begins-refused state old new queue number command status reply moment done spare
         done_is = ends.done_is;
         handed = handed;
         matches = matches-none state old.flash new.flash (host queue number command reply moment ∷ []) same refl (quiet queue number command reply moment fine) (λ unit. refl);
-        moment_is = moment_is;
+        moment_is = λ _. moment_is;
         failed = sym fine;
         media = λ wrong. absurd (false≢true (sym fine ∙ wrong));
       });
       came = inl (record { status = status; refused = is.refused; reply_is = ap (λ (d : Done). d.reply) ends.done_is ∙ is.reply_is; none = refl; uncalled = same });
+    }
+
+-- ---- answers that change nothing
+
+-- a command that is not refused is answered, without a change
+pub record IsAnswer (told : Bool) (b : BookSeen) (queue : ℕ) (command : Command) (reply : Reply) : Type 0 where
+  pub queue_is : IsQueue b.config queue
+  pub formed : IsWellFormed b.config command
+  pub accepted : refusal_of b.config (point_in b) command ≡ None
+  pub other : is_write command ≡ false
+  pub success : IsSuccess told b.config (point_in b) command reply
+  pub unapplied : reply.applied ≡ false
+
+-- one that is answered so is neither a write nor one that is saved
+answered-other : (command : Command) → is_answered command ≡ true → is_write command ≡ false
+answered-other (commands.Write w) is = absurd (false≢true is)
+answered-other (commands.Read r) is = refl
+answered-other (commands.Zero z) is = refl
+answered-other (commands.Dealloc d) is = refl
+answered-other (commands.Flush f) is = refl
+answered-other (commands.Delete d) is = refl
+answered-other (commands.Status s) is = refl
+answered-other (commands.Update u) is = refl
+answered-other (commands.Log l) is = refl
+answered-other (commands.SetFdp set) is = refl
+answered-other (commands.GetFdp g) is = refl
+answered-other (commands.SetEvents set) is = refl
+answered-other (commands.Create create) is = refl
+answered-other (commands.Other o) is = refl
+
+answered-unsaved : (command : Command) → is_answered command ≡ true → is_saved command ≡ false
+answered-unsaved (commands.Write w) is = absurd (false≢true is)
+answered-unsaved (commands.Read r) is = refl
+answered-unsaved (commands.Zero z) is = absurd (false≢true is)
+answered-unsaved (commands.Dealloc d) is = by d.deallocate is where
+  by : (b : Bool) → not b ≡ true → b ≡ false
+  by true e = absurd (false≢true e)
+  by false e = refl
+answered-unsaved (commands.Flush f) is = refl
+answered-unsaved (commands.Delete d) is = absurd (false≢true is)
+answered-unsaved (commands.Status s) is = refl
+answered-unsaved (commands.Update u) is = absurd (false≢true is)
+answered-unsaved (commands.Log l) is = refl
+answered-unsaved (commands.SetFdp set) is = absurd (false≢true is)
+answered-unsaved (commands.GetFdp g) is = refl
+answered-unsaved (commands.SetEvents set) is = absurd (false≢true is)
+answered-unsaved (commands.Create create) is = absurd (false≢true is)
+answered-unsaved (commands.Other o) is = refl
+
+pub unapplied-by : {told : Bool} (b : BookSeen) (command : Command) (reply : Reply) → IsAnswerable b command → IsSuccess told b.config (point_in b) command reply → reply.applied ≡ false
+unapplied-by b command reply is success = success.applied ∙ answered-unsaved command is.answered
+
+pub answer-of : (told : Bool) (b : BookSeen) (queue : ℕ) (command : Command) (r : Replies) → IsQueue b.config queue → IsWellFormed b.config command → IsAnswerable b command → IsSuccess told b.config (point_in b) command r.history → IsAnswer told b queue command r.history
+answer-of told b queue command r queue_is formed is success = record {
+  queue_is = queue_is;
+  formed = formed;
+  accepted = is.accepted;
+  other = answered-other command is.answered;
+  success = success;
+  unapplied = unapplied-by b command r.history is success;
+}
+
+answer-fine : (told : Bool) (b : BookSeen) (queue : ℕ) (command : Command) (reply : Reply) → IsAnswer told b queue command reply → is_media_error reply.status ≡ false
+answer-fine told b queue command reply is = ap is_media_error is.success.status
+
+pub sound-succeeded : (handed : Counts) (f : FlashState) (b d : BookSeen) (block : List ℕ) (queue number : ℕ) (command : Command) (reply : Reply) (moment : ℕ) (done : Done) → IsSound handed f b block → IsKnown b → IsLed d → IsAnswer f.told b queue command reply
+    → book.Completes (begun b) d [] queue number command reply moment done → ChangesOwners b.pages d.pages → IsSound handed f d block
+sound-succeeded handed f b d block queue number command reply moment done so known led is ends owners =
+    sound-answered handed f f b d block queue number command reply moment done so (record {
+      known = known;
+      flash = same-flash f;
+      fetches = no-fetches f;
+      follows = λ _. success-follows f.told b.config (point_in b) queue number command reply moment is.queue_is is.formed is.accepted is.other is.success;
+      told = λ wrong. absurd (false≢true (sym (answer-fine f.told b queue command reply is) ∙ wrong));
+      unapplied = is.unapplied;
+    }) led ends owners
+
+pub begins-succeeded : {F : Type 0} (state : F → FlashState) (old new : Seen F) (queue number : ℕ) (command : Command) (reply : Reply) (moment : ℕ) (done : Done) → 0 < old.book.spare → new.handed ≡ old.handed → new.flash ≡ old.flash →
+    IsAnswer (state old.flash).told old.book queue command reply → book.Completes (begun old.book) new.book [] queue number command reply moment done → moment ≡ (state new.flash).moment → EndsAtOnce state old new queue number command done
+begins-succeeded state old new queue number command reply moment done spare handed same is ends moment_is =
+    let fine = answer-fine (state old.flash).told old.book queue command reply is in
+    record {
+      calls = [];
+      completes = completes state old new [] queue number command reply moment [] done spare (record {
+        longer = ends.step;
+        done_is = ends.done_is;
+        handed = handed;
+        matches = matches-none state old.flash new.flash (host queue number command reply moment ∷ []) same refl (quiet queue number command reply moment fine) (λ unit. refl);
+        moment_is = λ _. moment_is;
+        failed = sym fine;
+        media = λ wrong. absurd (false≢true (sym fine ∙ wrong));
+      });
+      came = inr (inr (inl (record {
+        accepted = is.accepted;
+        unsaved = sym is.success.applied ∙ is.unapplied;
+        success = subst (IsSuccess (state old.flash).told old.book.config (point_in old.book) command) (sym (ap (λ (d : Done). d.reply) ends.done_is)) is.success;
+        none = refl;
+        uncalled = same;
+      })));
     }
 
 -- ---- writes that are started
@@ -191,6 +289,11 @@ read-told : (f : FlashState) (b : BookSeen) (x : Read) (replies : Replies) (fail
 read-told f b x replies true h = ap (λ (r : Reply). is_media_error r.status) h.history_is
 read-told f b x replies false h = ap (λ (r : Reply). is_media_error r.status) h.twice.history_is
 
+-- and changes nothing
+pub read-unapplied : (f : FlashState) (b : BookSeen) (x : Read) (replies : Replies) (failed : Bool) → Reads f b x replies failed → replies.history.applied ≡ false
+read-unapplied f b x replies true h = ap (λ (r : Reply). r.applied) h.history_is
+read-unapplied f b x replies false h = ap (λ (r : Reply). r.applied) h.twice.history_is
+
 -- the last fetch failed, at the moment of the flash
 fetch-failed : (f n : FlashState) (b : BookSeen) (x : Read) (failed : Bool) → failed ≡ true → IsFlashFormed n → MakesFetches f n b x failed → FailedAt f n n.moment
 fetch-failed f n b x false e formed m = absurd (false≢true e)
@@ -209,12 +312,6 @@ read-may-follow handed f n b queue number x replies false ledger orderly formed 
     (read-follows n.told b.config (point_in b) queue number x.nsid x.slba x.count h.bytes n.moment is.queue_is is.formed is.accepted
     (h.size ∙ sym (length-blocks_from b x.nsid x.slba x.count orderly)) (λ tells. h.blocks (sym reads.kept.told ∙ tells)))
 
-read-may-end : (handed : Counts) (f n : FlashState) (b : BookSeen) (queue number : ℕ) (x : Read) (replies : Replies) (failed : Bool) → IsLedger handed b f → IsOrderlyState b.config (state_in b) → IsFlashFormed n → IsRead b queue (commands.Read x) x → IsReadFrom f n →
-    Reads f b x replies failed → MakesFetches f n b x failed → MayEnd b.config (point_in b) queue number (commands.Read x) replies.history n.moment
-read-may-end handed f n b queue number x replies true ledger orderly formed is reads h m = inl (ap (λ (r : Reply). r.applied) h.history_is)
-read-may-end handed f n b queue number x replies false ledger orderly formed is reads h m =
-    inr (n.told, read-may-follow handed f n b queue number x replies false ledger orderly formed is reads h m (λ wrong. absurd (false≢true (sym (read-told f b x replies false h) ∙ wrong))))
-
 same-by : (f n : FlashState) → IsReadFrom f n → IsSameFlash f n
 same-by f n reads = record { geometry = reads.kept.geometry; told = reads.kept.told; moment = reads.kept.moment; cells = reads.cells }
 
@@ -230,16 +327,13 @@ pub sound-read : (handed : Counts) (f n : FlashState) (b d : BookSeen) (block : 
 sound-read handed f n b d block queue number command x replies moment done so known led formed is h moment_is ends owners =
     sound-answered handed f n b d block queue number command replies.history moment done so (record {
       known = known;
-      served = subst book.IsServed (sym is.command_is) refl;
       flash = same-by f n h.read;
       fetches = record { calls = h.fetches.calls; made = h.fetches.made; fetches = only-fetches f n b x h.failed h.read h.fetches; read = h.read };
       follows = λ moments. subst (λ (m : ℕ). Follows n.told b.config (point_in b) (host queue number command replies.history m)) (sym moment_is)
           (subst (λ (y : Command). Follows n.told b.config (point_in b) (host queue number y replies.history n.moment)) (sym is.command_is)
           (read-may-follow handed f n b queue number x replies h.failed so.ledger known.orderly.state formed (subst (λ (y : Command). IsRead b queue y x) is.command_is is) h.read h.told h.fetches moments));
       told = λ error. subst (MayTell handed b n) (sym moment_is) (read-fault handed f n b x h.failed (sym (read-told f b x replies h.failed h.told) ∙ error) so.ledger formed h.fetches);
-      ending = subst (λ (m : ℕ). MayEnd b.config (point_in b) queue number command replies.history m) (sym moment_is)
-          (subst (λ (y : Command). MayEnd b.config (point_in b) queue number y replies.history n.moment) (sym is.command_is)
-          (read-may-end handed f n b queue number x replies h.failed so.ledger known.orderly.state formed (subst (λ (y : Command). IsRead b queue y x) is.command_is is) h.read h.told h.fetches));
+      unapplied = read-unapplied f b x replies h.failed h.told;
     }) led ends owners
 
 pub read-completes : {F : Type 0} (state : F → FlashState) (old new : Seen F) (queue number : ℕ) (command : Command) (x : Read) (replies : Replies) (moment : ℕ) (done : Done) → 0 < old.book.spare → new.handed ≡ old.handed → IsFlashFormed (state new.flash) → IsRead old.book queue command x →
@@ -262,17 +356,17 @@ read-completes state old new queue number command x replies moment done spare ha
           erased = λ tells. erased-none f.geometry n.cells _ (λ unit. refl);
           emptied = emptied-read f n _ h.read;
         };
-        moment_is = moment_is;
+        moment_is = λ _. moment_is;
         failed = told ∙ sym error;
         media = λ wrong. subst (FailedAt f n) (sym moment_is) (fetch-failed f n old.book x h.failed (sym error ∙ wrong) formed h.fetches);
       });
-      came = inr (record {
+      came = inr (inl (record {
         accepted = is.accepted;
         read = x;
         command_is = is.command_is;
         fetches = subst (Fetches old.book x h.fetches.calls) (sym told) h.fetches.fetches;
         cells = h.read.cells;
-      });
+      }));
     }
   where
     told-of : (b : Bool) → IsTrue ((b || false || false) || false) → b ≡ true

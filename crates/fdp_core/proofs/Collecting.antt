@@ -1,23 +1,21 @@
 -- A step of relocation as a step of its own.
-use Rattle.std.proofs.Common.{◌≡◌, ℕ, ◌+◌, ◌-◌, ◌≤◌, ◌<◌, true, false, List, [], ◌∷◌, length, refl, sym, ◌∙◌, subst, arith, ◌++◌}
+use Rattle.std.proofs.Common.{◌≡◌, ℕ, ◌+◌, ◌-◌, ◌≤◌, ◌<◌, true, false, List, [], ◌∷◌, length, refl, sym, ◌∙◌, subst, arith, ◌^◌, ◌++◌, ap, inl, inr}
 use Rattle.std.specs.Prelude.{IsTrue, ◌==◌}
 use Rattle.std.proofs.lemmas.Bool.Decides.{nat_tests}
 use Rattle.fdp_base.specs.declared.entry.Copied.{Copied}
 use Rattle.fdp_base.specs.declared.entry.Entry.{Entry}
 use Rattle.fdp_base.specs.declared.entry.Entry.TheVariants as entries
-use Rattle.fdp_book.specs.Book.{BookSeen, IsLonger}
+use Rattle.fdp_book.specs.Book.{BookSeen, IsLonger, state_in}
 use Rattle.fdp_calls.specs.Calls.{fetch_at, program_at}
 use Rattle.fdp_collector.specs.Step.{IsUncalled}
 use Rattle.fdp_core.specs.Answers as answers
-use Rattle.fdp_core.specs.Answers.{IsDueIn}
-use Rattle.fdp_core.specs.Seen.{Seen, Stands}
+use Rattle.fdp_core.specs.Answers.{CollectsStep}
+use Rattle.fdp_core.specs.Seen.{Seen, Stands, stage_of}
 use Rattle.fdp_core.specs.Sound.{IsSound}
 use Rattle.fdp_core.specs.Steps.{Adds, IsGrown, Matches, steps_of}
-use Rattle.fdp_core.proofs.Looping.{fails-made}
-use Rattle.fdp_core.proofs.Passing.{calls_made, entries_made, matches-made, worn-made, worn-told}
 use Rattle.fdp_core.proofs.Sound.{begun}
 use Rattle.fdp_flash.specs.declared.cell.Cell.{Cell}
-use Rattle.fdp_flash.specs.FlashState.{FlashState}
+use Rattle.fdp_flash.specs.FlashState.{Call, FlashState}
 use Rattle.fdp_flash.specs.Runs.{Runs}
 use Rattle.fdp_isolation.specs.Laned.{IsKnown}
 use Rattle.fdp_ledger.specs.Ledger.{IsLedger}
@@ -30,8 +28,17 @@ use Rattle.fdp_locations.proofs.Ending.{rests-same}
 use Rattle.fdp_passes.specs.declared.due.Due.TheVariants as due
 use Rattle.fdp_relocation.specs.declared.advance.Advance.{Advance}
 use Rattle.fdp_relocation.specs.declared.advance.Advance.TheVariants as advance
+use Rattle.fdp_saving.specs.declared.saved.Saved.TheVariants as savings
 use Rattle.fdp_relocation.specs.Collected.{Collects}
 use Rattle.fdp_units.specs.UnitTable.{IsGroup}
+use Rattle.fdp_core.specs.Advancing.{Advances, ComesTo, MovesCopies, TellsMore}
+use Rattle.fdp_survival.specs.Books.{IsSafe}
+use Rattle.fdp_core.specs.Stops.{Outlasts, OutlastsStops}
+use Rattle.fdp_rules.specs.PlainState.{PlainState}
+use Rattle.fdp_saving.specs.declared.saved.Saved.{Saved}
+use Rattle.fdp_core.proofs.Rooms.{begun_seen}
+use Rattle.fdp_core.proofs.Outlasting.{outlasts-all}
+use Rattle.fdp_core.proofs.Wholes.{unbegun}
 
 -- ---- the step, or none
 
@@ -73,59 +80,70 @@ grown-kept b d es longer less spare =
     }
 
 pub sound-cancelled : (handed : Counts) (f : FlashState) (d : BookSeen) (block : List ℕ) → IsSound handed f d block → IsSound handed f (cancelled d) block
-sound-cancelled handed f d block so = record { geometry = so.geometry; legal = so.legal; stored = so.stored; apart = λ tells. laned-alike d (cancelled d) f.cells refl refl refl refl (so.apart tells); ledger = ledger-alike handed d (cancelled d) f refl refl refl refl so.ledger; buffer = so.buffer }
+sound-cancelled handed f d block so = record { geometry = so.geometry; legal = so.legal; stored = so.stored; apart = λ tells opened. laned-alike d (cancelled d) f.cells refl refl refl refl (so.apart tells opened); ledger = ledger-alike handed d (cancelled d) f refl refl refl refl refl so.ledger; buffer = so.buffer }
 
 -- a step that added nothing may still move
-pub may-still : (b d : BookSeen) (f n : FlashState) (rg : ℕ) (x : Advance) → Collects (begun b) d f n rg x → (d.room == 300) ≡ true → IsTrue d.may_move
-may-still b d f n rg advance.Nothing h full = h.move_is
-may-still b d f n rg advance.Copied h full = h.1.move_is
-may-still b d f n rg advance.Moved h full = let room : d.room ≡ 300 = grind (arith, nat_tests, full) in absurd (omega (arith, room, h.moved.longer.room_is))
-may-still b d f n rg advance.Erased h full = h.1.move_is
-may-still b d f n rg advance.Starved h full = h.move_is
-may-still b d f n rg advance.Fault h full = h.1.move_is
+pub may-still : {F : Type 0} (state : F → FlashState) (old mid : Seen F) (rg : ℕ) (x : Advance) → Collects state (stage_of old) (stage_of mid) rg x → old.book.may_move ≡ true → old.book.room ≡ 300 → (mid.book.room == 300) ≡ true → IsTrue mid.book.may_move
+may-still state old mid rg advance.Nothing h may room full = h.made.move_is ∙ may
+may-still state old mid rg advance.Copied h may room full = h.1.made.move_is ∙ may
+may-still state old mid rg advance.Moved h may room full = let same : mid.book.room ≡ 300 = grind (arith, nat_tests, full) in absurd (omega (arith, room, same, h.moved.longer.room_is))
+may-still state old mid rg advance.Erased (unit, inl h) may room full = h.made.move_is ∙ may
+may-still state old mid rg advance.Erased (unit, inr h) may room full = h.made.move_is ∙ may
+may-still state old mid rg advance.Starved h may room full = h.made.move_is ∙ may
+may-still state old mid rg advance.Fault (inl h) may room full = h.1.made.move_is ∙ may
+may-still state old mid rg advance.Fault (inr (inl h)) may room full = h.1.made.move_is ∙ may
+may-still state old mid rg advance.Fault (inr (inr (inl h))) may room full = ap (λ (b : BookSeen). b.may_move) h.book ∙ may
+may-still state old mid rg advance.Fault (inr (inr (inr h))) may room full = let same : mid.book.room ≡ 300 = grind (arith, nat_tests, full) in absurd (omega (arith, room, same, h.2.moved.longer.room_is))
 
 -- ---- what it is
 
-module _ {F : Type 0} (state : F → FlashState) (old mid new : Seen F) (rg : ℕ) (Image : ℕ → List Cell → Type 0) (run : Runs (state old.flash) (state mid.flash) Image) (stands : Stands (state old.flash) (begun old.book)) (known : IsKnown mid.book) (ledger : IsLedger mid.handed mid.book (state mid.flash)) (counts : mid.handed ≡ old.handed) (low : rg < old.book.config.groups) (group : IsGroup old.book.pages.units rg)
-    (handed : new.handed ≡ old.handed) (flash : new.flash ≡ mid.flash) (pages : new.book.pages ≡ mid.book.pages) where
-  step : (x : Advance) (h : Collects (begun old.book) mid.book (state old.flash) (state mid.flash) rg x) → IsGrown old.book new.book (entries_made (begun old.book) mid.book (state old.flash) (state mid.flash) rg x h) → Adds state old new (entries_made (begun old.book) mid.book (state old.flash) (state mid.flash) rg x h) (calls_made (begun old.book) mid.book (state old.flash) (state mid.flash) rg x h)
-  step x h grown = record {
-    book = grown;
-    handed_is = handed;
-    matches = subst (λ (y : F). Matches (state old.flash) (state y) (entries_made (begun old.book) mid.book (state old.flash) (state mid.flash) rg x h) (calls_made (begun old.book) mid.book (state old.flash) (state mid.flash) rg x h)) (sym flash)
-        (matches-made (begun old.book) mid.book (state old.flash) (state mid.flash) rg Image stands low run x h);
+module _ {F : Type 0} (state : F → FlashState) (old mid new : Seen F) (rg : ℕ) (handed : new.handed ≡ old.handed) (flash : new.flash ≡ mid.flash) (pages : new.book.pages ≡ mid.book.pages) (same : state_in new.book ≡ state_in mid.book) where
+  moves : (answer : Saved) (es : List Entry) (calls : List Call) → MovesCopies (begun old.book) old.keeper.saver rg answer es calls → MovesCopies old.book old.keeper.saver rg answer es calls
+  moves answer es calls h = record { due = h.due; entries_are = h.entries_are; calls_are = h.calls_are }
+
+  came : (x : Advance) (es : List Entry) (calls : List Call) → ComesTo (begun old.book) old.keeper.saver mid.book rg x es calls → ComesTo old.book old.keeper.saver new.book rg x es calls
+  came advance.Nothing es calls h = record { due = h.due; entries_are = h.entries_are; calls_are = h.calls_are; pages = pages ∙ h.pages }
+  came advance.Copied es calls h = record { copy = h.copy; due = h.due; entries_are = h.entries_are; calls_are = h.calls_are }
+  came advance.Moved es calls h = moves savings.Done es calls h
+  came advance.Erased es calls h = record { unit = h.unit; due = h.due; entries_are = h.entries_are; settling = h.settling; settled = h.settled; calls_are = h.calls_are }
+  came advance.Starved es calls h = record { from = h.from; due = h.due; free = h.free; entries_are = h.entries_are; calls_are = h.calls_are }
+  came advance.Fault es calls (inl h) = inl h
+  came advance.Fault es calls (inr (inl h)) = inr (inl (record { unit = h.unit; due = h.due; entries_are = h.entries_are; settled = h.settled; fails = h.fails; pages = pages ∙ h.pages }))
+  came advance.Fault es calls (inr (inr h)) = inr (inr (record { answer = h.answer; not_done = h.not_done; moves = moves h.answer es calls h.moves; fails = h.fails }))
+
+  as-step : (x : Advance) (a : Advances state (begun_seen old) mid rg x) → IsGrown old.book new.book a.es → CollectsStep state old new rg x
+  as-step x a grown = record {
+    es = a.es;
+    calls = a.calls;
+    came = came x a.es a.calls a.came;
+    step = record {
+      book = grown;
+      handed_is = handed;
+      matches = subst (λ (y : F). Matches (state old.flash) (state y) a.es a.calls) (sym flash) a.relocates.extends.matches;
+    };
   }
 
-  uncalled : IsUncalled (state old.flash) (state mid.flash) → IsUncalled (state old.flash) (state new.flash)
-  uncalled h = subst (λ (y : F). IsUncalled (state old.flash) (state y)) (sym flash) h
+  pub collected : (x : Advance) (a : Advances state (begun_seen old) mid rg x) → TellsMore state (begun_seen old) mid rg x → IsGrown old.book new.book a.es → answers.Collects state old new rg x
+  collected advance.Nothing a more grown = (as-step advance.Nothing a grown, subst (λ (y : F). IsUncalled (state old.flash) (state y)) (sym flash) more)
+  collected advance.Copied a more grown = as-step advance.Copied a grown
+  collected advance.Moved a more grown = as-step advance.Moved a grown
+  collected advance.Erased a more grown = as-step advance.Erased a grown
+  collected advance.Starved a more grown = (
+    as-step advance.Starved a grown,
+    subst (λ (s : PlainState). IsWornOut old.handed (state new.flash) s.is_lost rg) (sym same)
+        (subst (λ (k : Counts). IsWornOut k (state new.flash) (state_in mid.book).is_lost rg) a.relocates.extends.handed_is
+        (subst (λ (y : F). IsWornOut mid.handed (state y) (state_in mid.book).is_lost rg) (sym flash) more)),
+  )
+  collected advance.Fault a more grown = as-step advance.Fault a grown
 
-  copies : (copy made : Copied) → copy ≡ made → IsDueIn old.book rg (due.Copy made.from) → Adds state old new (entries.Copied copy ∷ []) (fetch_at made.from false ∷ program_at made.to false ∷ []) → answers.CollectsCopy state old new rg
-  copies copy made same is adds = record {
-    copy = copy;
-    due = subst (λ (x : Copied). IsDueIn old.book rg (due.Copy x.from)) (sym same) is;
-    step = subst (λ (x : Copied). Adds state old new (entries.Copied copy ∷ []) (fetch_at x.from false ∷ program_at x.to false ∷ [])) (sym same) adds;
-  }
+-- a step that added nothing spent nothing: as many checkpoints were written at most as entries were added and steps spent
+pub cancelled-epochs : (b d : BookSeen) (es : List Entry) (old now : ℕ) → IsLonger (begun b) d es → (d.room == 300) ≡ true → old ≤ 2 ^ 62 + length b.entries + b.spent → now + length b.entries ≤ old + length d.entries → now ≤ 2 ^ 62 + length d.entries + (cancelled d).spent
+cancelled-epochs b d es old now longer full was more = omega (arith, was, more, longer.spent_is)
 
-  pub collected : (x : Advance) (h : Collects (begun old.book) mid.book (state old.flash) (state mid.flash) rg x) → IsGrown old.book new.book (entries_made (begun old.book) mid.book (state old.flash) (state mid.flash) rg x h) → answers.Collects state old new rg x
-  unfolding entries_made calls_made
-  collected advance.Nothing h grown = record {
-    due = h.is.0;
-    step = step advance.Nothing h grown;
-    pages = pages ∙ rests-same old.book.pages mid.book.pages rg stands.known.joined group h.rest h.is.1.group;
-    flash = uncalled h.is.1.flash;
-  }
-  collected advance.Copied h grown = copies h.0 (record { from = h.1.is.from; to = h.1.is.to }) h.1.is.ended.0 h.1.is.due (step advance.Copied h grown)
-  collected advance.Moved h grown = record { due = h.due; step = step advance.Moved h grown; flash = uncalled h.flash }
-  collected advance.Erased h grown = record { unit = h.0; due = h.1.is.0; step = step advance.Erased h grown }
-  collected advance.Starved h grown = record {
-    from = h.is.from;
-    due = h.is.due;
-    free = h.is.starved.free;
-    step = step advance.Starved h grown;
-    worn = subst (λ (k : Counts). IsWornOut k (state new.flash) (state_of old.book.config old.book.found (old.book.entries ++ entries.Worn (record { rg = rg }) ∷ [])).is_lost rg) counts
-        (subst (λ (y : F). IsWornOut mid.handed (state y) (state_of old.book.config old.book.found (old.book.entries ++ entries.Worn (record { rg = rg }) ∷ [])).is_lost rg) (sym flash)
-        (worn-told mid.handed (state mid.flash) (begun old.book) mid.book (entries.Worn (record { rg = rg }) ∷ []) rg h.longer
-        (worn-made mid.handed (begun old.book) mid.book (state old.flash) (state mid.flash) rg Image run stands low known ledger h)));
-    flash = uncalled h.is.flash;
-  }
-  collected advance.Fault h grown = record { lost = h.0; calls = _; step = step advance.Fault h grown; fails = fails-made (begun old.book) mid.book (state old.flash) (state mid.flash) rg h }
+-- what holds from the book of a step that has begun
+pub from-begun : {F : Type 0} (old : Seen F) (now : BookSeen) (P : Seen F → Type 0) → now ≡ begun old.book → P (record { book = now; keeper = old.keeper; handed = old.handed; flash = old.flash }) → P (begun_seen old)
+from-begun old now P is h = subst (λ (b : BookSeen). P (record { book = b; keeper = old.keeper; handed = old.handed; flash = old.flash })) is h
+
+-- a whole step outlasts stops as what was done within it
+pub collect-stops : {F : Type 0} (state : F → FlashState) (old mid : Seen F) (now : BookSeen) → now ≡ begun old.book → Outlasts state (record { book = now; keeper = old.keeper; handed = old.handed; flash = old.flash }) mid → IsSafe old.book old.keeper.saver old.keeper.firm (state old.flash) → IsSafe mid.book mid.keeper.saver mid.keeper.firm (state mid.flash) → OutlastsStops state old mid
+collect-stops state old mid now is h was safe = unbegun state old mid (outlasts-all state (begun_seen old) mid was.firm_is safe (from-begun old now (λ s. Outlasts state s mid) is h))

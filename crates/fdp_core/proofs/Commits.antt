@@ -1,41 +1,27 @@
 -- How a group ends a write whose pages are placed.
-use Rattle.std.proofs.Common.{◌≡◌, ℕ, true, false, List, [], ap, sym, ◌∙◌, subst, inl, inr, Err}
+use Rattle.std.proofs.Common.{◌≡◌, true, false, ap, sym, ◌∙◌, subst, inl, inr, Err}
 use Rattle.std.proofs.lemmas.Bool.{false≢true}
 use Rattle.fdp_base.specs.declared.status.Status.{Status}
 use Rattle.fdp_base.specs.declared.status.TheConstants.Status as statuses
 use Rattle.fdp_book.specs.declared.ticket.Done.{Done}
 use Rattle.fdp_book.specs.declared.ticket.Ticket.{Ticket}
-use Rattle.fdp_book.specs.Book.{BookSeen, IsLed, point_in, state_in}
+use Rattle.fdp_book.specs.Book.{BookSeen, point_in, state_in}
 use Rattle.fdp_book.specs.Steps as book
 use Rattle.fdp_book.specs.Tickets.{IsTicketOf}
 use Rattle.fdp_book.proofs.Histories.Follows.{write-succeeds}
 use Rattle.fdp_core.specs.Answers.{Commits, EndsAlone}
 use Rattle.fdp_core.specs.Ending.{MayEnd}
 use Rattle.fdp_core.specs.Seen.{Seen}
-use Rattle.fdp_core.specs.Sound.{IsSound}
-use Rattle.fdp_core.proofs.Apart.{known-begun}
-use Rattle.fdp_core.proofs.Ends.{may-follow, sound-ended}
-use Rattle.fdp_core.proofs.Sound.{begun, sound-begun}
 use Rattle.fdp_flash.specs.FlashState.{FlashState}
 use Rattle.fdp_history.specs.Orderly.{IsOrderly}
-use Rattle.fdp_isolation.specs.Laned.{IsKnown}
-use Rattle.fdp_ledger.specs.declared.counts.Counts.{Counts}
-use Rattle.fdp_pages.specs.Steps.{ChangesOwners}
 use Rattle.fdp_rules.specs.Answer.{bare}
-use Rattle.fdp_rules.specs.Change.{is_media_error}
+use Rattle.fdp_rules.specs.Change.{is_media_error, is_status}
 use Rattle.fdp_rules.specs.PlainState.{Going}
 use Rattle.fdp_rules.specs.Step.{IsEnd, MaySucceed}
 
 -- a write that may succeed does
-may-succeed : (f : FlashState) (b : BookSeen) (ticket : Ticket) (g : Going) → IsOrderly b.config (point_in b) → IsTicketOf (state_in b) ticket g → MaySucceed b.config (point_in b) g → IsEnd f.told b.config (point_in b) g (bare statuses.SUCCESS true) f.moment
+pub may-succeed : (f : FlashState) (b : BookSeen) (ticket : Ticket) (g : Going) → IsOrderly b.config (point_in b) → IsTicketOf (state_in b) ticket g → MaySucceed b.config (point_in b) g → IsEnd f.told b.config (point_in b) g (bare statuses.SUCCESS true) f.moment
 may-succeed f b ticket g orderly is may = inr (inr (inl (may, write-succeeds f.told b.config (point_in b) g.command (orderly.state.writes ticket.queue g is.going_is).write)))
-
-pub sound-ok : (handed : Counts) (f : FlashState) (b d : BookSeen) (block : List ℕ) (ticket : Ticket) (g : Going) (done : Done) →
-    IsSound handed f b block → IsKnown b → IsLed d → IsTicketOf (state_in b) ticket g → MaySucceed b.config (point_in b) g →
-    book.Completes (begun b) d [] ticket.queue g.number g.command (bare statuses.SUCCESS true) f.moment done → ChangesOwners b.pages d.pages → IsSound handed f d block
-sound-ok handed f b d block ticket g done so known led is may ends owners =
-    sound-ended handed f (begun b) d block ticket g (bare statuses.SUCCESS true) done (sound-begun handed f b block so) (known-begun b known) led is (λ _. may-succeed f b ticket g known.orderly is may) (λ wrong. absurd (false≢true wrong))
-    (inr (f.told, may-follow f b ticket g (bare statuses.SUCCESS true) known.orderly is (λ _. may-succeed f b ticket g known.orderly is may) (λ wrong. absurd (false≢true wrong)))) ends owners
 
 -- a verdict against a write is one that may follow, and no media error
 pub verdict-ends : {F : Type 0} (state : F → FlashState) (s : Seen F) (g : Going) (status : Status) → book.IsVerdict s.book g (Err status) → MayEnd state s g status
@@ -56,5 +42,7 @@ pub commits-err : {F : Type 0} (state : F → FlashState) (old new : Seen F) (ti
 commits-err state old new ticket g status done (inl gone) ends = inl (gone.0, subst (λ (x : Status). EndsAlone state old new ticket g (bare x false) done) gone.1 ends)
 commits-err state old new ticket g status done (inr over) ends = inr (inl (over.0, over.1, subst (λ (x : Status). EndsAlone state old new ticket g (bare x false) done) over.2 ends))
 
-pub commits-ok : {F : Type 0} (state : F → FlashState) (old new : Seen F) (ticket : Ticket) (g : Going) (done : Done) → MaySucceed old.book.config (point_in old.book) g → EndsAlone state old new ticket g (bare statuses.SUCCESS true) done → Commits state old new ticket g done
-commits-ok state old new ticket g done may ends = inr (inr (may, ends))
+-- and it is not Success
+pub verdict-status : (b : BookSeen) (g : Going) (status : Status) → book.IsVerdict b g (Err status) → is_status status statuses.SUCCESS ≡ false
+verdict-status b g status (inl gone) = ap (λ (x : Status). is_status x statuses.SUCCESS) gone.1
+verdict-status b g status (inr over) = ap (λ (x : Status). is_status x statuses.SUCCESS) over.2

@@ -3,9 +3,7 @@ use Rattle.std.proofs.Common.{◌≡◌, ℕ, ◌+◌, ◌<◌, ◌≤◌, arith
 use Rattle.std.specs.Prelude.{IsTrue, count_by}
 use Rattle.std.specs.List.{list_any}
 use Rattle.std.proofs.lemmas.Bool.{false≢true}
-use Rattle.fdp_base.specs.declared.command.Command.{Command}
 use Rattle.fdp_base.specs.declared.entry.Reply.{Reply}
-use Rattle.fdp_base.specs.CommandKinds.{is_read, is_write}
 use Rattle.fdp_book.specs.declared.ticket.Done.{Done}
 use Rattle.fdp_book.specs.declared.ticket.Ticket.{Ticket}
 use Rattle.fdp_book.specs.Book.{BookSeen, IsLed, point_in, state_in}
@@ -23,7 +21,6 @@ use Rattle.fdp_core.proofs.Sound.{begun, same-flash, sound-told}
 use Rattle.fdp_flash.specs.FlashState.{FlashState}
 use Rattle.fdp_history.specs.Orderly.{IsOrderly}
 use Rattle.fdp_isolation.specs.Laned.{IsKnown}
-use Rattle.fdp_isolation.proofs.Owning as apart
 use Rattle.fdp_ledger.specs.declared.counts.Counts.{Counts}
 use Rattle.fdp_ledger.specs.Told.{is_media_reply, tells_failure}
 use Rattle.fdp_ledger.proofs.Answered.{ledger-answered}
@@ -32,29 +29,31 @@ use Rattle.fdp_pages.specs.Steps.{ChangesOwners}
 use Rattle.fdp_rules.specs.Change.{is_media_error}
 use Rattle.fdp_rules.specs.PlainState.{Going}
 use Rattle.fdp_rules.specs.Step.{Follows, IsEnd}
+use Rattle.fdp_flash.proofs.Runs.{no_run}
+use Rattle.fdp_calls.specs.Media.{IsReadFrom}
 
 -- the end of a going write may follow
 pub may-follow : (f : FlashState) (b : BookSeen) (ticket : Ticket) (g : Going) (reply : Reply) → IsOrderly b.config (point_in b) → IsTicketOf (state_in b) ticket g → ((IsTrue (is_media_error reply.status) → HasMoments f) → IsEnd f.told b.config (point_in b) g reply f.moment) → (IsTrue (is_media_error reply.status) → HasMoments f) → Follows f.told b.config (point_in b) (host ticket.queue g.number g.command reply f.moment)
 may-follow f b ticket g reply orderly is may moments =
     end-follows f.told b.config (point_in b) ticket.queue g reply f.moment (orderly.state.writes ticket.queue g is.going_is) is.going_is (may moments)
 
--- no call fetches nothing
-pub no-fetches : (f : FlashState) → OnlyFetches f f
-no-fetches f = record { calls = []; made = calls-none f; fetches = refl; read = record { kept = record { geometry = refl; told = refl; reliable = refl; moment = omega arith; faults = omega arith }; programs = refl; cells = λ _. refl } }
+-- no call reads nothing
+pub no-read : (f : FlashState) → IsReadFrom f f
+no-read f = record { kept = record { geometry = refl; told = refl; reliable = refl; moment = omega arith; faults = omega arith }; stops = no_run f (λ m image. image ≡ f.cells); programs = refl; cells = λ _. refl }
 
--- a write is served
-write-served : (command : Command) → IsTrue (is_write command) → book.IsServed command
-write-served command write = ap (λ (w : Bool). w || is_read command) write
+-- and fetches nothing
+pub no-fetches : (f : FlashState) → OnlyFetches f f
+no-fetches f = record { calls = []; made = calls-none f; fetches = refl; read = no-read f }
 
 pub sound-ended : (handed : Counts) (f : FlashState) (b d : BookSeen) (block : List ℕ) (ticket : Ticket) (g : Going) (reply : Reply) (done : Done) →
     IsSound handed f b block → IsKnown b → IsLed d → IsTicketOf (state_in b) ticket g → ((IsTrue (is_media_error reply.status) → HasMoments f) → IsEnd f.told b.config (point_in b) g reply f.moment) →
     (IsTrue (is_media_error reply.status) → counted_more handed.faults (count_by is_media_reply b.entries + 1) ≤ f.faults) →
-    apart.MayEnd b.config (point_in b) ticket.queue g.number g.command reply f.moment → book.Completes b d [] ticket.queue g.number g.command reply f.moment done → ChangesOwners b.pages d.pages → IsSound handed f d block
-sound-ended handed f b d block ticket g reply done so known led is may fault ending ends owners =
+    reply.applied ≡ false → book.Completes b d [] ticket.queue g.number g.command reply f.moment done → ChangesOwners b.pages d.pages → IsSound handed f d block
+sound-ended handed f b d block ticket g reply done so known led is may fault unapplied ends owners =
     sound-told handed f f b d (host ticket.queue g.number g.command reply f.moment) block block so (same-flash f) ends.step owners refl
     (may-follow f b ticket g reply known.orderly is may)
     (ledger-answered handed b d f f ticket.queue g.number g.command reply f.moment done ends owners (no-fetches f) (λ error. record { fault = fault error; until = omega arith }) so.ledger)
-    (apart-answered f f b d ticket.queue g.number g.command reply f.moment done known led (same-flash f) ends owners (write-served g.command (known.orderly.state.writes ticket.queue g is.going_is).write) ending so.apart)
+    (apart-answered f f b d ticket.queue g.number g.command reply f.moment done known led (same-flash f) ends owners unapplied so.apart)
     refl
 
 -- a step that only ends a write, and calls no flash
@@ -69,7 +68,7 @@ ends-alone {F} state old new ticket g reply done spare fine ends handed same =
         done_is = ends.done_is;
         handed = handed;
         matches = matches-none state old.flash new.flash (host ticket.queue g.number g.command reply (state old.flash).moment ∷ []) same refl quiet (λ unit. refl);
-        moment_is = moment;
+        moment_is = λ _. moment;
         failed = sym fine;
         media = λ wrong. absurd (false≢true (sym fine ∙ wrong));
       });

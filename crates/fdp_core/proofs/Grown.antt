@@ -62,7 +62,7 @@ pub record CameTo {F : Type 0} (state : F → FlashState) (old new : Seen F) (be
   pub done_is : done ≡ record { position = position_in new.book; moment = moment; reply = reply }
   pub handed : new.handed ≡ old.handed
   pub matches : Matches (state old.flash) (state new.flash) (before ++ host queue number command reply moment ∷ []) calls
-  pub moment_is : moment ≡ (state new.flash).moment
+  pub moment_is : is_media_error reply.status ≡ false → moment ≡ (state new.flash).moment
   pub failed : list_any has_failed calls ≡ is_media_error reply.status
   pub media : IsTrue (is_media_error reply.status) → FailedAt (state old.flash) (state new.flash) moment
 

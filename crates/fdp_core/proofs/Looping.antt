@@ -1,5 +1,5 @@
 -- A pass that is made step by step until its end.
-use Rattle.std.proofs.Common.{◌≡◌, ℕ, ◌+◌, ◌≤◌, ◌<◌, ◌⊎◌, Bool, true, false, ◌||◌, List, [], ◌∷◌, ◌++◌, Option, Some, None, refl, sym, ◌∙◌, ap, subst, arith, inl, inr, append_assoc}
+use Rattle.std.proofs.Common.{◌≡◌, ℕ, ◌+◌, ◌≤◌, ◌<◌, ◌⊎◌, Bool, true, false, ◌||◌, List, [], ◌∷◌, ◌++◌, Option, Some, None, refl, sym, ◌∙◌, ap, subst, arith, inl, inr, append_assoc, not, length}
 use Rattle.std.specs.Prelude.{IsTrue, is_some, if◌then◌else◌}
 use Rattle.std.specs.List.{list_any}
 use Rattle.std.specs.Option.{option_map_or}
@@ -16,10 +16,10 @@ use Rattle.fdp_core.specs.declared.group.pass.PassEnd.{PassEnd}
 use Rattle.fdp_core.specs.declared.group.pass.PassEnd.TheVariants as ends
 use Rattle.fdp_collector.specs.declared.step.Step.TheVariants as steps
 use Rattle.fdp_core.proofs.Relocated.{one-at-most}
-use Rattle.fdp_core.specs.Passes.{EndsPass, EndsRest, FailsInPass, FailsLast, MakesNone, MakesPass, MakesRest, MayBeginPass, MayEndPass, Relocates, Starves, left_in}
+use Rattle.fdp_core.specs.Passes.{EndsPass, EndsRest, FailsInPass, MakesNone, MakesPass, MakesRest, MayBeginPass, MayEndPass, Relocates, Starves, left_in}
 use Rattle.fdp_isolation.specs.Laned.{IsKnown}
-use Rattle.fdp_core.specs.Seen.{Seen, Stands}
-use Rattle.fdp_core.proofs.Passing.{calls_made, entries_made, erases-none, worn-made, relocates-joined, relocates-made, relocates-none}
+use Rattle.fdp_core.specs.Seen.{Seen, Stands, stage_of}
+use Rattle.fdp_core.proofs.Passing.{erases-none, relocates-joined, relocates-none}
 use Rattle.fdp_flash.specs.declared.cell.Cell.{Cell}
 use Rattle.fdp_flash.specs.FlashState.{Call, FlashState}
 use Rattle.fdp_flash.specs.Runs.{Runs}
@@ -33,11 +33,21 @@ use Rattle.fdp_passes.specs.Due.{IsDue, copies_in}
 use Rattle.fdp_passes.specs.GroupPasses.{GroupPasses, Pass}
 use Rattle.fdp_relocation.specs.declared.advance.Advance.{Advance}
 use Rattle.fdp_relocation.specs.declared.advance.Advance.TheVariants as advance
-use Rattle.fdp_relocation.specs.Collected.{Collects}
+use Rattle.fdp_saving.specs.declared.saved.Saved.TheVariants as savings
+use Rattle.fdp_flash.specs.declared.answer.Wrote.TheVariants as wrote
+use Rattle.fdp_relocation.specs.Collected.{Collects, StepsErase}
 use Rattle.fdp_relocation.specs.Toil.{wanted_at, work}
-use Rattle.fdp_relocation.proofs.Toil.Steps.{CopiesOn, MovesOn, copies-on, erases-on, moves-on, wanted-few}
+use Rattle.fdp_relocation.proofs.Toil.Steps.{CopiesOn, MovesOn, copies-on, erases-on, moves-on, wanted-few, ErasesOn}
 use Rattle.fdp_units.specs.DataUnits.{is_free}
 use Rattle.fdp_units.specs.UnitTable.{Cut, HasNoVictim, IsGroup, count_in, toil_of}
+use Rattle.fdp_saving.specs.Calls.{AreCallsOfCheckpoint, AreCallsOfSaving, FailAtEnd}
+use Rattle.fdp_core.specs.Advancing.{Advances, ComesTo, AreCallsOfMove, ErasesVictim, AreCallsOfSettling}
+use Rattle.fdp_pages.specs.Joined.{AreJoined}
+use Rattle.fdp_ledger.specs.WornOut.{IsWornOut}
+use Rattle.fdp_journal.specs.JournalState.{JournalState}
+use Rattle.fdp_core.proofs.Called.{well-joined, fails-behind}
+use Rattle.fdp_collector.specs.Step.{IsUncalled}
+use Rattle.fdp_saving.proofs.Failing.{renewed_well, saved_well, written_well}
 
 -- ---- what is known
 
@@ -72,9 +82,6 @@ pub record IsPassing {F : Type 0} (state : F → FlashState) (start now : Seen F
 
 pub passing-first : {F : Type 0} (state : F → FlashState) (s : Seen F) (rg : ℕ) → MayEndPass s.book rg → IsPassing state s s rg
 passing-first state s rg may = record { es = []; calls = []; relocates = relocates-none state s rg; erases = λ unit. refl; well = refl; may = may; done = omega arith }
-
-well-joined : (xs ys : List Call) → list_any has_failed xs ≡ false → list_any has_failed ys ≡ false → list_any has_failed (xs ++ ys) ≡ false
-well-joined xs ys p q = list_any-append has_failed xs ys ∙ ap (λ (k : Bool). k || list_any has_failed ys) p ∙ q
 
 -- ---- what a step leaves of what a pass may do
 
@@ -130,110 +137,123 @@ move-less b d rg able on config move =
 
 -- ---- calls of which the last failed
 
-pub fails-made : (b d : BookSeen) (f n : FlashState) (rg : ℕ) (h : Collects b d f n rg advance.Fault) → FailsLast (calls_made b d f n rg advance.Fault h)
-unfolding calls_made
-fails-made b d f n rg (lost.None, h) = record { before = fetch_at h.is.from false ∷ []; last = program_at h.is.to true; calls_are = refl; well = refl; failed = refl }
-fails-made b d f n rg (lost.Aside unit, h) = record { before = []; last = fetch_at h.is.from true; calls_are = refl; well = refl; failed = refl }
-fails-made b d f n rg (lost.Retired unit, h) = record { before = []; last = erase_at unit true; calls_are = refl; well = refl; failed = refl }
+-- ---- what a step of relocation came to
 
-fails-behind : (xs : List Call) → list_any has_failed xs ≡ false → (ys : List Call) → FailsLast ys → FailsLast (xs ++ ys)
-fails-behind xs well ys h = record {
-  before = xs ++ h.before;
-  last = h.last;
-  calls_are = ap (λ (zs : List Call). xs ++ zs) h.calls_are ∙ sym (append_assoc xs h.before (h.last ∷ []));
-  well = well-joined xs h.before well h.well;
-  failed = h.failed;
-}
+-- an answer of a step that failed: the last call did
+pub fault-fails : (b new : BookSeen) (s : JournalState) (rg : ℕ) (es : List Entry) (calls : List Call) → ComesTo b s new rg advance.Fault es calls → FailAtEnd calls
+fault-fails b new s rg es calls (inl h) = h.fails
+fault-fails b new s rg es calls (inr (inl h)) = h.fails
+fault-fails b new s rg es calls (inr (inr h)) = h.fails
+
+-- it adds an entry at most
+fault-few : (b new : BookSeen) (s : JournalState) (rg : ℕ) (es : List Entry) (calls : List Call) → ComesTo b s new rg advance.Fault es calls → length es ≤ 1
+fault-few b new s rg es calls (inl h) = let few = one-at-most rg (steps.Fault h.lost) in omega (arith, few, ap length h.entries_are)
+fault-few b new s rg es calls (inr (inl h)) = omega (arith, ap length h.entries_are)
+fault-few b new s rg es calls (inr (inr h)) = omega (arith, ap length h.moves.entries_are)
+
+-- the calls of a move that was saved
+move-well : (b : BookSeen) (s : JournalState) (rg : ℕ) (calls : List Call) → AreCallsOfMove b s rg savings.Done calls → list_any has_failed calls ≡ false
+move-well b s rg calls (inl none) = ap (list_any has_failed) none.2
+move-well b s rg calls (inr some) = saved_well s some.1.0 calls some.1.1
+
+-- those of an erase
+erase-well : (b : BookSeen) (s : JournalState) (rg : ℕ) (es : List Entry) (calls : List Call) → ErasesVictim b s rg es calls → list_any has_failed calls ≡ false
+erase-well b s rg es calls h = ap (list_any has_failed) h.calls_are ∙ well-joined h.settling (erase_at h.unit false ∷ []) (settled h.settled) refl where
+  settled : AreCallsOfSettling s wrote.Done h.settling → list_any has_failed h.settling ≡ false
+  settled (inl none) = ap (list_any has_failed) none.2
+  settled (inr some) = written_well s some.1.0 h.settling some.1.1
+
+-- an erase behind the end of a doubt, or without one
+erased-on : {F : Type 0} (state : F → FlashState) (now after : Seen F) (rg unit : ℕ) → AreJoined now.book.pages → IsGroup now.book.pages.units rg → StepsErase state (stage_of now) (stage_of after) rg (steps.Erased unit) → ErasesOn now.book.pages after.book.pages rg
+erased-on state now after rg unit joined group (inl h) = erases-on now.book after.book (state now.flash) (state after.flash) rg (not now.keeper.saver.in_doubt) unit joined group h.made
+erased-on state now after rg unit joined group (inr h) = erases-on now.book after.book (state h.middle) (state after.flash) rg true unit joined group h.made
 
 -- ---- steps of the loop
 
-module _ {F : Type 0} (state : F → FlashState) (start now after : Seen F) (rg : ℕ) (Image : ℕ → List Cell → Type 0) (run : Runs (state now.flash) (state after.flash) Image) (stands : Stands (state now.flash) now.book) (known : IsKnown after.book) (handed : after.handed ≡ now.handed) (p : IsPassing state start now rg) where
+module _ {F : Type 0} (state : F → FlashState) (start now after : Seen F) (rg : ℕ) (stands : Stands (state now.flash) now.book) (known : IsKnown after.book) (p : IsPassing state start now rg) where
   was : IsKnown now.book
   was = stands.known
 
   group : IsGroup now.book.pages.units rg
   group = group-of now.book rg was p.may.group
 
-  made : (x : Advance) (h : Collects now.book after.book (state now.flash) (state after.flash) rg x) → Relocates state now after rg (entries_made now.book after.book (state now.flash) (state after.flash) rg x h) (calls_made now.book after.book (state now.flash) (state after.flash) rg x h)
-  made x h = relocates-made state now after rg Image x run stands p.may.group group handed h
+  joined : (es : List Entry) (calls : List Call) → Relocates state now after rg es calls → Relocates state start after rg (p.es ++ es) (p.calls ++ calls)
+  joined es calls r = relocates-joined state start now after rg p.es es p.calls calls p.erases p.relocates r
 
-  pub passing-copied : Collects now.book after.book (state now.flash) (state after.flash) rg advance.Copied → IsPassing state start after rg
-  unfolding calls_made entries_made
-  passing-copied h =
-      let on = copies-on now.book after.book (state now.flash) (state after.flash) rg true h.0 was.joined group h.1 in
+  pub passing-copied : Advances state now after rg advance.Copied → Collects state (stage_of now) (stage_of after) rg advance.Copied → IsPassing state start after rg
+  passing-copied a h =
+      let on = copies-on now.book after.book (state now.flash) (state after.flash) rg (not now.keeper.saver.in_doubt) h.0 was.joined group h.1.made in
       let same = on.same p.may.under_way in
       let before = p.done in
       record {
-        es = p.es ++ (entries.Copied h.0 ∷ []);
-        calls = p.calls ++ calls_made now.book after.book (state now.flash) (state after.flash) rg advance.Copied h;
-        relocates = relocates-joined state start now after rg p.es _ p.calls _ p.erases p.relocates (made advance.Copied h);
-        erases = erases-none p.es _ p.erases (λ unit. refl);
-        well = well-joined p.calls _ p.well refl;
-        may = copy-may now.book after.book rg (pages-of now.book was) p.may on h.1.longer.config_is h.1.longer.room_is h.1.move_is;
+        es = p.es ++ a.es;
+        calls = p.calls ++ a.calls;
+        relocates = joined a.es a.calls a.relocates;
+        erases = erases-none p.es a.es p.erases (subst ErasesNoUnit (sym a.came.entries_are) (λ unit. refl));
+        well = well-joined p.calls a.calls p.well (ap (list_any has_failed) a.came.calls_are);
+        may = copy-may now.book after.book rg (pages-of now.book was) p.may on h.1.made.longer.config_is h.1.made.longer.room_is h.1.made.move_is;
         done = omega (arith, same, before);
       }
 
-  pub passing-moved : Collects now.book after.book (state now.flash) (state after.flash) rg advance.Moved → IsPassing state start after rg
-  unfolding calls_made entries_made
-  passing-moved h =
+  pub passing-moved : Advances state now after rg advance.Moved → Collects state (stage_of now) (stage_of after) rg advance.Moved → IsPassing state start after rg
+  passing-moved a h =
       let on = moves-on now.book after.book rg was.led was.joined known.joined p.may.group group h.due h.moved in
       let same = on.same in
       let before = p.done in
       record {
-        es = p.es ++ entries_made now.book after.book (state now.flash) (state after.flash) rg advance.Moved h;
-        calls = p.calls ++ [];
-        relocates = relocates-joined state start now after rg p.es _ p.calls [] p.erases p.relocates (made advance.Moved h);
-        erases = erases-none p.es _ p.erases (λ unit. refl);
-        well = well-joined p.calls [] p.well refl;
+        es = p.es ++ a.es;
+        calls = p.calls ++ a.calls;
+        relocates = joined a.es a.calls a.relocates;
+        erases = erases-none p.es a.es p.erases (subst ErasesNoUnit (sym a.came.entries_are) (λ unit. refl));
+        well = well-joined p.calls a.calls p.well (move-well now.book now.keeper.saver rg a.calls a.came.calls_are);
         may = move-may now.book after.book rg p.may (may-move now.book rg p.may h.due) on h.moved.longer.config_is h.moved.longer.room_is h.moved.move_is;
         done = omega (arith, same, before);
       }
 
-  pub copied-less : Collects now.book after.book (state now.flash) (state after.flash) rg advance.Copied → left_in after.book rg < left_in now.book rg
-  copied-less h = copy-less now.book after.book rg (pages-of now.book was) (copies-on now.book after.book (state now.flash) (state after.flash) rg true h.0 was.joined group h.1) h.1.longer.config_is h.1.move_is
+  pub copied-less : Collects state (stage_of now) (stage_of after) rg advance.Copied → left_in after.book rg < left_in now.book rg
+  copied-less h =
+      copy-less now.book after.book rg (pages-of now.book was) (copies-on now.book after.book (state now.flash) (state after.flash) rg (not now.keeper.saver.in_doubt) h.0 was.joined group h.1.made) h.1.made.longer.config_is h.1.made.move_is
 
-  pub moved-less : Collects now.book after.book (state now.flash) (state after.flash) rg advance.Moved → left_in after.book rg < left_in now.book rg
+  pub moved-less : Collects state (stage_of now) (stage_of after) rg advance.Moved → left_in after.book rg < left_in now.book rg
   moved-less h = move-less now.book after.book rg (may-move now.book rg p.may h.due) (moves-on now.book after.book rg was.led was.joined known.joined p.may.group group h.due h.moved) h.moved.longer.config_is h.moved.move_is
 
-  pub rest-made : Collects now.book after.book (state now.flash) (state after.flash) rg advance.Erased → MakesRest state start after rg
-  unfolding calls_made entries_made
-  rest-made h =
-      let on = erases-on now.book after.book (state now.flash) (state after.flash) rg true h.0 was.joined group h.1 in
+  pub rest-made : Advances state now after rg advance.Erased → Collects state (stage_of now) (stage_of after) rg advance.Erased → MakesRest state start after rg
+  rest-made a h =
+      let on = erased-on state now after rg h.0 was.joined group h.1 in
       let lower = on.toil in
       let before = p.done in
       let size : now.book.pages.units.unit_pages ≡ start.book.config.unit_pages = pages-of now.book was ∙ ap (λ (c : DriveConfig). c.unit_pages) p.relocates.extends.book.config_is in
       record {
         before = p.es;
-        unit = h.0;
-        calls = p.calls ++ calls_made now.book after.book (state now.flash) (state after.flash) rg advance.Erased h;
-        relocates = relocates-joined state start now after rg p.es _ p.calls _ p.erases p.relocates (made advance.Erased h);
-        well = well-joined p.calls _ p.well refl;
+        unit = a.came.unit;
+        calls = p.calls ++ a.calls;
+        relocates = subst (λ (es : List Entry). Relocates state start after rg (p.es ++ es) (p.calls ++ a.calls)) a.came.entries_are (joined a.es a.calls a.relocates);
+        well = well-joined p.calls a.calls p.well (erase-well now.book now.keeper.saver rg a.es a.calls a.came);
         toil = omega (arith, lower, before, size);
       }
 
-  pub rest-starved : IsLedger after.handed after.book (state after.flash) → Collects now.book after.book (state now.flash) (state after.flash) rg advance.Starved → Starves state start after rg
-  unfolding calls_made entries_made
-  rest-starved ledger h = record {
+  pub rest-starved : IsWornOut after.handed (state after.flash) (state_in after.book).is_lost rg → Advances state now after rg advance.Starved → Starves state start after rg
+  rest-starved worn a = record {
     before = p.es;
-    calls = p.calls ++ [];
-    relocates = relocates-joined state start now after rg p.es _ p.calls [] p.erases p.relocates (made advance.Starved h);
-    well = well-joined p.calls [] p.well refl;
-    worn = worn-made after.handed now.book after.book (state now.flash) (state after.flash) rg Image run stands p.may.group known ledger h;
-    room = let left = p.may.room in omega (arith, left, h.longer.room_is);
+    calls = p.calls ++ a.calls;
+    relocates = subst (λ (es : List Entry). Relocates state start after rg (p.es ++ es) (p.calls ++ a.calls)) a.came.entries_are (joined a.es a.calls a.relocates);
+    well = well-joined p.calls a.calls p.well (ap (list_any has_failed) a.came.calls_are);
+    worn = worn;
+    room = let left = p.may.room in omega (arith, left, a.relocates.extends.book.room_is, ap length a.came.entries_are);
   }
 
-  pub rest-failed : Collects now.book after.book (state now.flash) (state after.flash) rg advance.Fault → FailsInPass state start after rg
-  rest-failed h = record {
-    es = p.es ++ entries_made now.book after.book (state now.flash) (state after.flash) rg advance.Fault h;
-    calls = p.calls ++ calls_made now.book after.book (state now.flash) (state after.flash) rg advance.Fault h;
-    relocates = relocates-joined state start now after rg p.es _ p.calls _ p.erases p.relocates (made advance.Fault h);
-    fails = fails-behind p.calls p.well _ (fails-made now.book after.book (state now.flash) (state after.flash) rg h);
-    room = let left = p.may.room in omega (arith, left, h.1.longer.room_is, one-at-most rg (steps.Fault h.0));
+  pub rest-failed : Advances state now after rg advance.Fault → FailsInPass state start after rg
+  rest-failed a = record {
+    es = p.es ++ a.es;
+    calls = p.calls ++ a.calls;
+    relocates = joined a.es a.calls a.relocates;
+    fails = fails-behind p.calls p.well a.calls (fault-fails now.book after.book now.keeper.saver rg a.es a.calls a.came);
+    room = let left = p.may.room in omega (arith, left, a.relocates.extends.book.room_is, fault-few now.book after.book now.keeper.saver rg a.es a.calls a.came);
   }
 
   -- a pass that is under way has a step that is due
-  pub never-nothing : Collects now.book after.book (state now.flash) (state after.flash) rg advance.Nothing → ⊥
-  never-nothing h = false≢true (sym (ap is_some h.is.0.0) ∙ p.may.under_way)
+  pub never-nothing : Advances state now after rg advance.Nothing → ⊥
+  never-nothing a = false≢true (sym (ap is_some a.came.due.0) ∙ p.may.under_way)
 
 -- ---- the first step of a pass
 
@@ -241,30 +261,30 @@ module _ {F : Type 0} (state : F → FlashState) (start now after : Seen F) (rg 
 few-pages : (c : DriveConfig) → IsValidConfig c → c.unit_pages ≤ 256
 few-pages c valid = valid.ranges.unit_pages.1
 
-module _ {F : Type 0} (state : F → FlashState) (old mid : Seen F) (rg : ℕ) (Image : ℕ → List Cell → Type 0) (run : Runs (state old.flash) (state mid.flash) Image) (stands : Stands (state old.flash) old.book) (known : IsKnown mid.book) (handed : mid.handed ≡ old.handed) (may : MayBeginPass old.book rg) where
+module _ {F : Type 0} (state : F → FlashState) (old mid : Seen F) (rg : ℕ) (stands : Stands (state old.flash) old.book) (known : IsKnown mid.book) (may : MayBeginPass old.book rg) where
   begins : IsGroup old.book.pages.units rg
   begins = group-of old.book rg stands.known may.group
 
-  step : (x : Advance) (h : Collects old.book mid.book (state old.flash) (state mid.flash) rg x) → Relocates state old mid rg (entries_made old.book mid.book (state old.flash) (state mid.flash) rg x h) (calls_made old.book mid.book (state old.flash) (state mid.flash) rg x h)
-  step x h = relocates-made state old mid rg Image x run stands may.group begins handed h
+  abbrev doubt : Bool
+  doubt = old.keeper.saver.in_doubt
 
   -- the pass that began with a copy may be ended, and has less to do than a whole unit has pages
-  pub copied-may : Collects old.book mid.book (state old.flash) (state mid.flash) rg advance.Copied → MayEndPass mid.book rg
+  pub copied-may : Collects state (stage_of old) (stage_of mid) rg advance.Copied → MayEndPass mid.book rg
   copied-may h =
-      let on = copies-on old.book mid.book (state old.flash) (state mid.flash) rg true h.0 stands.known.joined begins h.1 in
-      let size : mid.book.config.unit_pages ≡ old.book.config.unit_pages = ap (λ (c : DriveConfig). c.unit_pages) h.1.longer.config_is in
-      let bit : ◌≡◌ {A = ℕ} (if mid.book.may_move then 1 else 0) 1 = ap (λ (k : Bool). if k then 1 else 0) (h.1.move_is ∙ may.may_move) in
+      let on = copies-on old.book mid.book (state old.flash) (state mid.flash) rg (not doubt) h.0 stands.known.joined begins h.1.made in
+      let size : mid.book.config.unit_pages ≡ old.book.config.unit_pages = ap (λ (c : DriveConfig). c.unit_pages) h.1.made.longer.config_is in
+      let bit : ◌≡◌ {A = ℕ} (if mid.book.may_move then 1 else 0) 1 = ap (λ (k : Bool). if k then 1 else 0) (h.1.made.move_is ∙ may.may_move) in
       let next = on.next in
       record {
-        group = subst (λ (c : DriveConfig). rg < c.groups) (sym h.1.longer.config_is) may.group;
+        group = subst (λ (c : DriveConfig). rg < c.groups) (sym h.1.made.longer.config_is) may.group;
         under_way = on.under_way;
-        room = omega (arith, size, bit, next, few-pages old.book.config stands.known.config, h.1.longer.room_is, may.room);
-        moves = inl (h.1.move_is ∙ may.may_move);
+        room = omega (arith, size, bit, next, few-pages old.book.config stands.known.config, h.1.made.longer.room_is, may.room);
+        moves = inl (h.1.made.move_is ∙ may.may_move);
       }
 
-  pub copied-work : Collects old.book mid.book (state old.flash) (state mid.flash) rg advance.Copied → work mid.book.pages rg < toil_of old.book.pages.units rg + old.book.config.unit_pages
+  copied-work : Collects state (stage_of old) (stage_of mid) rg advance.Copied → work mid.book.pages rg < toil_of old.book.pages.units rg + old.book.config.unit_pages
   copied-work h =
-      let on = copies-on old.book mid.book (state old.flash) (state mid.flash) rg true h.0 stands.known.joined begins h.1 in
+      let on = copies-on old.book mid.book (state old.flash) (state mid.flash) rg (not doubt) h.0 stands.known.joined begins h.1.made in
       let pages = pages-of old.book stands.known in
       let few = wanted-few old.book.pages rg stands.known.joined begins in
       of-pass on (passes_at old.book.pages rg).pass refl pages few
@@ -273,7 +293,7 @@ module _ {F : Type 0} (state : F → FlashState) (old mid : Seen F) (rg : ℕ) (
       of-pass on None e pages few = let first = on.first (ap is_some e) in omega (arith, first, pages)
       of-pass on (Some pass) e pages few = let same = on.same (ap is_some e) in omega (arith, same, pages, few)
 
-  pub moved-may : Collects old.book mid.book (state old.flash) (state mid.flash) rg advance.Moved → MayEndPass mid.book rg
+  pub moved-may : Collects state (stage_of old) (stage_of mid) rg advance.Moved → MayEndPass mid.book rg
   moved-may h =
       let on = moves-on old.book mid.book rg stands.known.led stands.known.joined known.joined may.group begins h.due h.moved in
       let size : mid.book.config.unit_pages ≡ old.book.config.unit_pages = ap (λ (c : DriveConfig). c.unit_pages) h.moved.longer.config_is in
@@ -285,7 +305,7 @@ module _ {F : Type 0} (state : F → FlashState) (old mid : Seen F) (rg : ℕ) (
         moves = inr (on.copies, on.wanted);
       }
 
-  pub moved-work : Collects old.book mid.book (state old.flash) (state mid.flash) rg advance.Moved → work mid.book.pages rg < toil_of old.book.pages.units rg + old.book.config.unit_pages
+  moved-work : Collects state (stage_of old) (stage_of mid) rg advance.Moved → work mid.book.pages rg < toil_of old.book.pages.units rg + old.book.config.unit_pages
   moved-work h =
       let on = moves-on old.book mid.book rg stands.known.led stands.known.joined known.joined may.group begins h.due h.moved in
       let pages = pages-of old.book stands.known in
@@ -293,28 +313,45 @@ module _ {F : Type 0} (state : F → FlashState) (old mid : Seen F) (rg : ℕ) (
       let same = on.same in
       omega (arith, same, pages, few)
 
-  pub pass-made : Collects old.book mid.book (state old.flash) (state mid.flash) rg advance.Erased → MakesPass state old mid rg
-  unfolding calls_made entries_made
-  pass-made h =
-      let on = erases-on old.book mid.book (state old.flash) (state mid.flash) rg true h.0 stands.known.joined begins h.1 in
+  pub pass-made : Advances state old mid rg advance.Erased → Collects state (stage_of old) (stage_of mid) rg advance.Erased → MakesPass state old mid rg
+  pass-made a h =
+      let on = erased-on state old mid rg h.0 stands.known.joined begins h.1 in
       let lower = on.toil in
       let some = stands.known.joined.cut.some_page in
-      record { before = []; unit = h.0; calls = calls_made old.book mid.book (state old.flash) (state mid.flash) rg advance.Erased h; relocates = step advance.Erased h; well = refl; toil = omega (arith, lower, some) }
+      record {
+        before = [];
+        unit = a.came.unit;
+        calls = a.calls;
+        relocates = subst (λ (es : List Entry). Relocates state old mid rg es a.calls) a.came.entries_are a.relocates;
+        well = erase-well old.book old.keeper.saver rg a.es a.calls a.came;
+        toil = omega (arith, lower, some);
+      }
 
-  pub pass-starved : IsLedger mid.handed mid.book (state mid.flash) → Collects old.book mid.book (state old.flash) (state mid.flash) rg advance.Starved → Starves state old mid rg
-  unfolding calls_made entries_made
-  pass-starved ledger h = record { before = []; calls = []; relocates = step advance.Starved h; well = refl; worn = worn-made mid.handed old.book mid.book (state old.flash) (state mid.flash) rg Image run stands may.group known ledger h; room = omega (arith, may.room, h.longer.room_is) }
+  pub pass-starved : IsWornOut mid.handed (state mid.flash) (state_in mid.book).is_lost rg → Advances state old mid rg advance.Starved → Starves state old mid rg
+  pass-starved worn a = record {
+    before = [];
+    calls = a.calls;
+    relocates = subst (λ (es : List Entry). Relocates state old mid rg es a.calls) a.came.entries_are a.relocates;
+    well = ap (list_any has_failed) a.came.calls_are;
+    worn = worn;
+    room = omega (arith, may.room, a.relocates.extends.book.room_is, ap length a.came.entries_are);
+  }
 
-  pub pass-failed : Collects old.book mid.book (state old.flash) (state mid.flash) rg advance.Fault → FailsInPass state old mid rg
-  pass-failed h = record { es = _; calls = _; relocates = step advance.Fault h; fails = fails-made old.book mid.book (state old.flash) (state mid.flash) rg h; room = omega (arith, may.room, h.1.longer.room_is, one-at-most rg (steps.Fault h.0)) }
+  pub pass-failed : Advances state old mid rg advance.Fault → FailsInPass state old mid rg
+  pass-failed a = record {
+    es = a.es;
+    calls = a.calls;
+    relocates = a.relocates;
+    fails = fault-fails old.book mid.book old.keeper.saver rg a.es a.calls a.came;
+    room = omega (arith, may.room, a.relocates.extends.book.room_is, fault-few old.book mid.book old.keeper.saver rg a.es a.calls a.came);
+  }
 
-  pub pass-none : Collects old.book mid.book (state old.flash) (state mid.flash) rg advance.Nothing → MakesNone state old mid rg
-  unfolding calls_made entries_made
-  pass-none h = record {
-    none = record { none = h.is.0.0; gains = gains h.is.0.1 };
-    relocates = step advance.Nothing h;
-    pages = rests-same old.book.pages mid.book.pages rg stands.known.joined begins h.rest h.is.1.group;
-    flash = h.is.1.flash;
+  pub pass-none : Advances state old mid rg advance.Nothing → IsUncalled (state old.flash) (state mid.flash) → MakesNone state old mid rg
+  pass-none a flash = record {
+    none = record { none = a.came.due.0; gains = gains a.came.due.1 };
+    relocates = subst (λ (calls : List Call). Relocates state old mid rg [] calls) a.came.calls_are (subst (λ (es : List Entry). Relocates state old mid rg es a.calls) a.came.entries_are a.relocates);
+    pages = a.came.pages;
+    flash = flash;
   }
     where
       gains : (4 ≤ count_in old.book.pages.units rg is_free) ⊎ HasNoVictim old.book.pages.units rg → HasNoVictim old.book.pages.units rg
@@ -354,11 +391,11 @@ pass-joined state old mid new rg es xs ends.Fault none first well config less re
 }
 
 -- and it began with a copy, or a move
-module _ {F : Type 0} (state : F → FlashState) (old mid new : Seen F) (rg : ℕ) (Image : ℕ → List Cell → Type 0) (run : Runs (state old.flash) (state mid.flash) Image) (stands : Stands (state old.flash) old.book) (known : IsKnown mid.book) (handed : mid.handed ≡ old.handed) (may : MayBeginPass old.book rg) (x : PassEnd) (rest : EndsRest state mid new rg x) where
-  pub copied-then : Collects old.book mid.book (state old.flash) (state mid.flash) rg advance.Copied → EndsPass state old new rg x
-  unfolding calls_made entries_made
-  copied-then h = pass-joined state old mid new rg _ _ x (λ unit. refl) (relocates-made state old mid rg Image advance.Copied run stands may.group (group-of old.book rg stands.known may.group) handed h) refl h.1.longer.config_is (copied-work state old mid rg Image run stands known handed may h) rest
+module _ {F : Type 0} (state : F → FlashState) (old mid new : Seen F) (rg : ℕ) (stands : Stands (state old.flash) old.book) (known : IsKnown mid.book) (may : MayBeginPass old.book rg) (x : PassEnd) (rest : EndsRest state mid new rg x) where
+  pub copied-then : Advances state old mid rg advance.Copied → Collects state (stage_of old) (stage_of mid) rg advance.Copied → EndsPass state old new rg x
+  copied-then a h =
+      pass-joined state old mid new rg a.es a.calls x (subst ErasesNoUnit (sym a.came.entries_are) (λ unit. refl)) a.relocates (ap (list_any has_failed) a.came.calls_are) h.1.made.longer.config_is (copied-work state old mid rg stands known may h) rest
 
-  pub moved-then : Collects old.book mid.book (state old.flash) (state mid.flash) rg advance.Moved → EndsPass state old new rg x
-  unfolding calls_made entries_made
-  moved-then h = pass-joined state old mid new rg _ _ x (λ unit. refl) (relocates-made state old mid rg Image advance.Moved run stands may.group (group-of old.book rg stands.known may.group) handed h) refl h.moved.longer.config_is (moved-work state old mid rg Image run stands known handed may h) rest
+  pub moved-then : Advances state old mid rg advance.Moved → Collects state (stage_of old) (stage_of mid) rg advance.Moved → EndsPass state old new rg x
+  moved-then a h =
+      pass-joined state old mid new rg a.es a.calls x (subst ErasesNoUnit (sym a.came.entries_are) (λ unit. refl)) a.relocates (move-well old.book old.keeper.saver rg a.calls a.came.calls_are) h.moved.longer.config_is (moved-work state old mid rg stands known may h) rest

@@ -1,5 +1,5 @@
 -- Steps of relocation within a step of a group, one after another.
-use Rattle.std.proofs.Common.{◌≡◌, ℕ, ◌<◌, Bool, true, false, ◌||◌, List, [], ◌∷◌, ◌++◌, refl, sym, ◌∙◌, ap, subst, arith, append_assoc, length-append}
+use Rattle.std.proofs.Common.{◌≡◌, ℕ, ◌≤◌, ◌<◌, Bool, true, false, ◌||◌, List, [], ◌∷◌, ◌++◌, refl, sym, ◌∙◌, ap, subst, arith, append_assoc, length-append}
 use Rattle.std.specs.Prelude.{IsTrue}
 use Rattle.std.specs.List.{list_any}
 use Rattle.std.proofs.lemmas.Bool.{false≢true}
@@ -11,7 +11,7 @@ use Rattle.fdp_base.specs.declared.config.DriveConfig.{DriveConfig}
 use Rattle.fdp_base.specs.declared.config.Geometry.{Geometry}
 use Rattle.fdp_base.specs.declared.entry.Entry.{Entry}
 use Rattle.fdp_base.specs.declared.entry.Entry.TheVariants as entries
-use Rattle.fdp_book.specs.Book.{BookSeen, IsLonger, point_in, state_in}
+use Rattle.fdp_book.specs.Book.{BookSeen, IsLonger, point_in, state_in, written_in}
 use Rattle.fdp_book.specs.Relocating.{told_by}
 use Rattle.fdp_book.specs.Relocating as book
 use Rattle.fdp_calls.specs.Calls.{MakesCalls, counted_more, erase_at, fetch_at, has_failed, program_at}
@@ -43,13 +43,27 @@ use Rattle.fdp_locations.specs.Located.{AreUnitsOf}
 use Rattle.fdp_pages.specs.Joined.{AreJoined}
 use Rattle.fdp_relocation.specs.declared.advance.Advance.{Advance}
 use Rattle.fdp_relocation.specs.declared.advance.Advance.TheVariants as advance
-use Rattle.fdp_relocation.specs.Collected.{Collects}
+use Rattle.fdp_relocation.specs.Collected.{Collects, StaysUncalled}
 use Rattle.fdp_relocation.specs.Entries.{AreRelocationIn, IsRelocationIn}
 use Rattle.fdp_relocation.proofs.Keeping.{keeps-longer, keeps-self, keeps-then}
 use Rattle.fdp_relocation.proofs.Telling.{moved-inside, told-inside}
 use Rattle.fdp_rules.specs.Sites.{moved_blocks}
 use Rattle.fdp_rules.specs.Totals.{media_blocks, media_blocks_of}
 use Rattle.fdp_units.specs.UnitTable.{IsGroup}
+use Rattle.fdp_saving.specs.Calls.{FailAtEnd}
+use Rattle.fdp_ledger.proofs.System.{AreBehindData, emptied-system}
+use Rattle.fdp_locations.specs.Stored.{HoldsWritten}
+use Rattle.fdp_collector.specs.declared.step.Lost.{Lost}
+use Rattle.fdp_durability.specs.Saved.{SavesDrive, SavesEntry, SettlesDrive}
+use Rattle.fdp_journal.specs.JournalState.{JournalState}
+use Rattle.fdp_survival.specs.Books.{IsSafe}
+use Rattle.fdp_image.specs.Saving.{SameDataPages}
+use Rattle.fdp_survival.proofs.Savings.{checkpoint-same, saving-same, settling-same}
+use Rattle.fdp_saving.specs.declared.saved.Saved.{Saved}
+use Rattle.fdp_flash.specs.declared.answer.Wrote.{Wrote}
+use Rattle.fdp_relocation.proofs.Resting.{uncalled-calls, uncalled-same}
+use Rattle.fdp_base.specs.Geometry.{data_units}
+use Rattle.fdp_isolation.proofs.Saved.{holds-saved}
 
 -- ---- no call
 
@@ -83,11 +97,6 @@ uncalled-made f n Image run none = record {
 
 -- ---- the calls of a step, with what they tell
 
--- what an answer comes to: these entries, with these calls
-pub record Makes (f n : FlashState) (es : List Entry) : Type 0 where
-  pub calls : List Call
-  pub matches : Matches f n es calls
-
 quiet : (f n : FlashState) (Image : ℕ → List Cell → Type 0) (es : List Entry) → media_blocks es ≡ 0 → list_any tells_failure es ≡ false → ErasesNoUnit es → Runs f n Image → IsUncalled f n → Matches f n es []
 quiet f n Image es none fine erases run uncalled = record {
   made = uncalled-made f n Image run uncalled;
@@ -97,75 +106,76 @@ quiet f n Image es none fine erases run uncalled = record {
   emptied = λ told. emptied-none f.geometry f.cells n.cells es (same-emptied f.geometry f.cells n.cells (uncalled.cells told));
 }
 
--- the calls of a step that was due in a group
-unfoldable pub calls_made : (b d : BookSeen) (f n : FlashState) (rg : ℕ) (x : Advance) → Collects b d f n rg x → List Call
-calls_made b d f n rg advance.Nothing h = []
-calls_made b d f n rg advance.Copied h = fetch_at h.1.is.from false ∷ program_at h.1.is.to false ∷ []
-calls_made b d f n rg advance.Moved h = []
-calls_made b d f n rg advance.Erased h = erase_at h.0 false ∷ []
-calls_made b d f n rg advance.Starved h = []
-calls_made b d f n rg advance.Fault (lost.None, h) = fetch_at h.is.from false ∷ program_at h.is.to true ∷ []
-calls_made b d f n rg advance.Fault (lost.Aside unit, h) = fetch_at h.is.from true ∷ []
-calls_made b d f n rg advance.Fault (lost.Retired unit, h) = erase_at unit true ∷ []
+-- the calls of a step of relocation that was due in a group
+unfoldable pub calls_by : (b d : BookSeen) (f n : FlashState) (rg : ℕ) (may : Bool) (step : Step) → book.Relocates b d f n rg may step → List Call
+calls_by b d f n rg may steps.Nothing h = []
+calls_by b d f n rg may (steps.Copied copy) h = fetch_at h.is.from false ∷ program_at h.is.to false ∷ []
+calls_by b d f n rg may steps.ReadyToMove h = []
+calls_by b d f n rg may (steps.Erased unit) h = erase_at unit false ∷ []
+calls_by b d f n rg may steps.EraseDue h = []
+calls_by b d f n rg may steps.Starved h = []
+calls_by b d f n rg may (steps.Fault lost.None) h = fetch_at h.is.from false ∷ program_at h.is.to true ∷ []
+calls_by b d f n rg may (steps.Fault (lost.Aside unit)) h = fetch_at h.is.from true ∷ []
+calls_by b d f n rg may (steps.Fault (lost.Retired unit)) h = erase_at unit true ∷ []
 
--- its entries
-unfoldable pub entries_made : (b d : BookSeen) (f n : FlashState) (rg : ℕ) (x : Advance) → Collects b d f n rg x → List Entry
-entries_made b d f n rg advance.Nothing h = []
-entries_made b d f n rg advance.Copied h = entries.Copied h.0 ∷ []
-entries_made b d f n rg advance.Moved h = entries.Moved (record { rg = rg; blocks = moved_blocks (point_in b) rg }) ∷ []
-entries_made b d f n rg advance.Erased h = entries.Erased (record { unit = h.0 }) ∷ []
-entries_made b d f n rg advance.Starved h = entries.Worn (record { rg = rg }) ∷ []
-entries_made b d f n rg advance.Fault h = told_by rg (steps.Fault h.0)
+module _ (b d : BookSeen) (f n : FlashState) (rg : ℕ) (may : Bool) (Image : ℕ → List Cell → Type 0) (stands : Stands f b) (low : rg < b.config.groups) (run : Runs f n Image) where
+  -- a step leaves no unit all blank but one that it erased
+  emptied-by : (step : Step) → book.Relocates b d f n rg may step → IsTrue f.told → OnlyErasesEmpty f.geometry f.cells n.cells (told_by rg step)
+  emptied-by step h = emptied-relocated b d f n rg may step Image low stands.known.joined stands.known.units stands.geometry stands.stored h run
 
--- a step leaves no unit all blank but one that it erased
-emptied-made : (b d : BookSeen) (f n : FlashState) (rg : ℕ) (Image : ℕ → List Cell → Type 0) → Stands f b → rg < b.config.groups → Runs f n Image → (step : Step) → book.Relocates b d f n rg true step → IsTrue f.told → OnlyErasesEmpty f.geometry f.cells n.cells (told_by rg step)
-emptied-made b d f n rg Image stands low run step h = emptied-relocated b d f n rg true step Image low stands.known.joined stands.known.units stands.geometry stands.stored h run
+  pub matches-by : (step : Step) (h : book.Relocates b d f n rg may step) → Matches f n (told_by rg step) (calls_by b d f n rg may step h)
+  unfolding calls_by
+  matches-by steps.Nothing h = quiet f n Image [] refl refl (λ unit. refl) run h.is.1.flash
+  matches-by (steps.Copied copy) h = record {
+    made = h.is.ended.2.made;
+    programs = h.is.ended.2.programs refl ∙ sym (counted_more-one f.programs);
+    failed = λ wrong. absurd (false≢true wrong);
+    erased = λ told. erased-none f.geometry n.cells _ (λ unit. refl);
+    emptied = emptied-by (steps.Copied copy) h;
+  }
+  matches-by steps.ReadyToMove h = quiet f n Image [] refl refl (λ unit. refl) run h.is.1.flash
+  matches-by (steps.Erased unit) h = record {
+    made = h.is.2.made;
+    programs = h.is.2.flash.programs ∙ sym (counted_more-none f.programs);
+    failed = λ wrong. absurd (false≢true wrong);
+    erased = erased-relocated b d f n rg may unit h;
+    emptied = emptied-by (steps.Erased unit) h;
+  }
+  matches-by steps.EraseDue h = quiet f n Image [] refl refl (λ unit. refl) run h.is.2.flash
+  matches-by steps.Starved h = quiet f n Image _ refl refl (λ unit. refl) run h.is.flash
+  matches-by (steps.Fault lost.None) h = record {
+    made = h.is.ended.1.made;
+    programs = h.is.ended.1.not_done refl ∙ sym (counted_more-none f.programs);
+    failed = λ _. refl;
+    erased = λ told. erased-none f.geometry n.cells _ (λ unit. refl);
+    emptied = emptied-by (steps.Fault lost.None) h;
+  }
+  matches-by (steps.Fault (lost.Aside unit)) h = record {
+    made = h.is.flash.made;
+    programs = h.is.flash.read.programs ∙ sym (counted_more-none f.programs);
+    failed = λ _. refl;
+    erased = λ told. erased-none f.geometry n.cells _ (λ other. refl);
+    emptied = emptied-by (steps.Fault (lost.Aside unit)) h;
+  }
+  matches-by (steps.Fault (lost.Retired unit)) h = record {
+    made = h.is.2.made;
+    programs = h.is.2.flash.programs ∙ sym (counted_more-none f.programs);
+    failed = λ _. refl;
+    erased = λ told. erased-none f.geometry n.cells _ (λ other. refl);
+    emptied = emptied-by (steps.Fault (lost.Retired unit)) h;
+  }
 
-pub matches-made : (b d : BookSeen) (f n : FlashState) (rg : ℕ) (Image : ℕ → List Cell → Type 0) → Stands f b → rg < b.config.groups → Runs f n Image → (x : Advance) (h : Collects b d f n rg x) → Matches f n (entries_made b d f n rg x h) (calls_made b d f n rg x h)
-unfolding calls_made entries_made
-matches-made b d f n rg Image stands low run advance.Nothing h = quiet f n Image [] refl refl (λ unit. refl) run h.is.1.flash
-matches-made b d f n rg Image stands low run advance.Copied h = record {
-  made = h.1.is.ended.2.made;
-  programs = h.1.is.ended.2.programs refl ∙ sym (counted_more-one f.programs);
-  failed = λ wrong. absurd (false≢true wrong);
-  erased = λ told. erased-none f.geometry n.cells _ (λ unit. refl);
-  emptied = emptied-made b d f n rg Image stands low run (steps.Copied h.0) h.1;
-}
-matches-made b d f n rg Image stands low run advance.Moved h = quiet f n Image _ refl refl (λ unit. refl) run h.flash
-matches-made b d f n rg Image stands low run advance.Erased h = record {
-  made = h.1.is.2.made;
-  programs = h.1.is.2.flash.programs ∙ sym (counted_more-none f.programs);
-  failed = λ wrong. absurd (false≢true wrong);
-  erased = erased-relocated b d f n rg true h.0 h.1;
-  emptied = emptied-made b d f n rg Image stands low run (steps.Erased h.0) h.1;
-}
-matches-made b d f n rg Image stands low run advance.Starved h = quiet f n Image _ refl refl (λ unit. refl) run h.is.flash
-matches-made b d f n rg Image stands low run advance.Fault (lost.None, h) = record {
-  made = h.is.ended.1.made;
-  programs = h.is.ended.1.not_done refl ∙ sym (counted_more-none f.programs);
-  failed = λ _. refl;
-  erased = λ told. erased-none f.geometry n.cells _ (λ unit. refl);
-  emptied = emptied-made b d f n rg Image stands low run (steps.Fault lost.None) h;
-}
-matches-made b d f n rg Image stands low run advance.Fault (lost.Aside unit, h) = record {
-  made = h.is.flash.made;
-  programs = h.is.flash.read.programs ∙ sym (counted_more-none f.programs);
-  failed = λ _. refl;
-  erased = λ told. erased-none f.geometry n.cells _ (λ other. refl);
-  emptied = emptied-made b d f n rg Image stands low run (steps.Fault (lost.Aside unit)) h;
-}
-matches-made b d f n rg Image stands low run advance.Fault (lost.Retired unit, h) = record {
-  made = h.is.2.made;
-  programs = h.is.2.flash.programs ∙ sym (counted_more-none f.programs);
-  failed = λ _. refl;
-  erased = λ told. erased-none f.geometry n.cells _ (λ other. refl);
-  emptied = emptied-made b d f n rg Image stands low run (steps.Fault (lost.Retired unit)) h;
-}
+  -- the last call of a step that failed, and no other
+  pub fails-by : (which : Lost) (h : book.Relocates b d f n rg may (steps.Fault which)) → FailAtEnd (calls_by b d f n rg may (steps.Fault which) h)
+  unfolding calls_by
+  fails-by lost.None h = record { before = fetch_at h.is.from false ∷ []; last = program_at h.is.to true; calls_are = refl; well = refl; failed = refl }
+  fails-by (lost.Aside unit) h = record { before = []; last = fetch_at h.is.from true; calls_are = refl; well = refl; failed = refl }
+  fails-by (lost.Retired unit) h = record { before = []; last = erase_at unit true; calls_are = refl; well = refl; failed = refl }
 
 -- a step that found no free unit leaves a group that is worn out
-pub worn-made : (handed : Counts) (b d : BookSeen) (f n : FlashState) (rg : ℕ) (Image : ℕ → List Cell → Type 0) → Runs f n Image → Stands f b → rg < b.config.groups → IsKnown d → IsLedger handed d n → book.Relocates b d f n rg true steps.Starved → IsWornOut handed n (state_in d).is_lost rg
-worn-made handed b d f n rg Image run stands low known ledger h =
-    worn-out handed d n rg (subst (λ (c : DriveConfig). rg < c.groups) (sym h.longer.config_is) low) known.units (run.geometry ∙ stands.geometry ∙ ap geometry_of (sym h.longer.config_is)) (none-free_starved b d f n rg true h) ledger
+pub worn-made : (handed : Counts) (b d : BookSeen) (f n : FlashState) (rg : ℕ) (may : Bool) (Image : ℕ → List Cell → Type 0) → Runs f n Image → Stands f b → rg < b.config.groups → IsKnown d → IsLedger handed d n → book.Relocates b d f n rg may steps.Starved → IsWornOut handed n (state_in d).is_lost rg
+worn-made handed b d f n rg may Image run stands low known ledger h =
+    worn-out handed d n rg (subst (λ (c : DriveConfig). rg < c.groups) (sym h.longer.config_is) low) known.units (run.geometry ∙ stands.geometry ∙ ap geometry_of (sym h.longer.config_is)) (none-free_starved b d f n rg may h) ledger
 
 -- by the history before it and its entries
 pub worn-told : (handed : Counts) (n : FlashState) (b d : BookSeen) (es : List Entry) (rg : ℕ) → IsLonger b d es → IsWornOut handed n (state_in d).is_lost rg → IsWornOut handed n (state_of b.config b.found (b.entries ++ es)).is_lost rg
@@ -175,46 +185,57 @@ worn-told handed n b d es rg longer worn =
     (subst (λ (x : Found). IsWornOut handed n (state_of b.config x d.entries).is_lost rg) longer.found_is
     (subst (λ (c : DriveConfig). IsWornOut handed n (state_of c d.found d.entries).is_lost rg) longer.config_is worn))
 
--- the history is longer by its entries
-pub longer-made : (b d : BookSeen) (f n : FlashState) (rg : ℕ) (x : Advance) (h : Collects b d f n rg x) → IsLonger b d (entries_made b d f n rg x h)
-unfolding entries_made
-longer-made b d f n rg advance.Nothing h = h.longer
-longer-made b d f n rg advance.Copied h = h.1.longer
-longer-made b d f n rg advance.Moved h = h.moved.longer
-longer-made b d f n rg advance.Erased h = h.1.longer
-longer-made b d f n rg advance.Starved h = h.longer
-longer-made b d f n rg advance.Fault h = h.1.longer
+-- ---- calls in the system units
 
--- they are those of relocation in the group
-pub inside-made : (b d : BookSeen) (f n : FlashState) (rg : ℕ) → AreUnitsOf b.config (state_in b) b.pages → AreJoined b.pages → IsGroup b.pages.units rg → (x : Advance) (h : Collects b d f n rg x) → AreRelocationIn b.config rg (entries_made b d f n rg x h)
-unfolding entries_made
-inside-made b d f n rg units joined group advance.Nothing h = told-inside b d f n rg true steps.Nothing units joined group h
-inside-made b d f n rg units joined group advance.Copied h = told-inside b d f n rg true (steps.Copied h.0) units joined group h.1
-inside-made b d f n rg units joined group advance.Moved h = moved-inside b rg
-inside-made b d f n rg units joined group advance.Erased h = told-inside b d f n rg true (steps.Erased h.0) units joined group h.1
-inside-made b d f n rg units joined group advance.Starved h = told-inside b d f n rg true steps.Starved units joined group h
-inside-made b d f n rg units joined group advance.Fault h = told-inside b d f n rg true (steps.Fault h.0) units joined group h.1
+-- calls in the units behind those of data: no page of data changed
+pub record IsPrefix (b : BookSeen) (old now : FlashState) (calls : List Call) : Type 0 where
+  pub made : MakesCalls old now calls
+  pub behind : AreBehindData old.geometry calls
+  pub programs : now.programs ≡ old.programs
+  pub same : IsTrue old.told → SameDataPages b.config old.cells now.cells
 
--- ---- steps of relocation
+-- so are those of a saving
+pub saving-prefix : (b : BookSeen) (e : Entry) (s now : JournalState) (firm : ℕ) (f n : FlashState) (answer : Saved) → IsSafe b s firm f → (h : SavesEntry b.config b.found b.entries e s now f n answer) → IsPrefix b f n h.calls.calls
+saving-prefix b e s now firm f n answer safe h = record { made = h.calls.made; behind = h.calls.system; programs = h.calls.programs; same = saving-same b.config b.found b.entries e b.pages.units s now firm f n answer safe h }
 
-pub relocates-made : {F : Type 0} (state : F → FlashState) (old new : Seen F) (rg : ℕ) (Image : ℕ → List Cell → Type 0) (x : Advance) → Runs (state old.flash) (state new.flash) Image → Stands (state old.flash) old.book → rg < old.book.config.groups → IsGroup old.book.pages.units rg → new.handed ≡ old.handed → (h : Collects old.book new.book (state old.flash) (state new.flash) rg x) →
-    Relocates state old new rg (entries_made old.book new.book (state old.flash) (state new.flash) rg x h) (calls_made old.book new.book (state old.flash) (state new.flash) rg x h)
-relocates-made state old new rg Image x run stands low group handed h =
-    let f = state old.flash in
-    let n = state new.flash in
-    let longer = longer-made old.book new.book f n rg x h in
-    let inside = inside-made old.book new.book f n rg stands.known.units stands.known.joined group x h in
-    record {
-      extends = record { book = longer; handed_is = handed; matches = matches-made old.book new.book f n rg Image stands low run x h };
-      inside = inside;
-      kept = keeps-longer old.book new.book rg (entries_made old.book new.book f n rg x h) longer inside;
-    }
+-- of a checkpoint
+pub written-prefix : (b : BookSeen) (s now : JournalState) (firm : ℕ) (f n : FlashState) (answer : Wrote) → IsSafe b s firm f → (h : SavesDrive b.config b.found b.entries s now f n answer) → IsPrefix b f n h.calls.calls
+written-prefix b s now firm f n answer safe h = record { made = h.calls.made; behind = h.calls.system; programs = h.calls.programs; same = checkpoint-same b.config b.found b.entries b.pages.units s now firm f n answer safe h }
+
+-- and of one that ends a doubt
+pub settled-prefix : (b : BookSeen) (s now : JournalState) (firm : ℕ) (f n : FlashState) (answer : Wrote) → IsSafe b s firm f → (h : SettlesDrive b.config b.found b.entries s now f n answer) → IsPrefix b f n h.calls.calls
+settled-prefix b s now firm f n answer safe h = record { made = h.calls.made; behind = h.calls.system; programs = h.calls.programs; same = settling-same b.config b.found b.entries b.pages.units s now firm f n answer safe h }
+
+-- no call is such
+pub resting-prefix : (b : BookSeen) (f n : FlashState) → StaysUncalled f n → IsPrefix b f n []
+resting-prefix b f n h = record { made = uncalled-calls f n h; behind = All-nil (λ (call : Call). data_units f.geometry ≤ call.at.unit); programs = h.uncalled.programs; same = uncalled-same b.config f n h }
+
+-- beside entries that tell of no page and no erase, and of a failure only where a call failed
+pub prefix-matches : (b : BookSeen) (f n : FlashState) (calls : List Call) (es : List Entry) → f.geometry ≡ geometry_of b.config → media_blocks es ≡ 0 → (list_any tells_failure es ≡ true → list_any has_failed calls ≡ true) → ErasesNoUnit es → IsPrefix b f n calls → Matches f n es calls
+prefix-matches b f n calls es geometry none fails erases h = record {
+  made = h.made;
+  programs = h.programs ∙ sym (ap (counted_more f.programs) none ∙ counted_more-none f.programs);
+  failed = fails;
+  erased = λ told. erased-none f.geometry n.cells es erases;
+  emptied = emptied-system b f n calls geometry h.behind h.programs h.same es;
+}
+
+-- a book stands behind them as it did
+pub prefix-stands : (b : BookSeen) (f n : FlashState) (calls : List Call) → Stands f b → IsPrefix b f n calls → Stands n b
+prefix-stands b f n calls stands h = record {
+  known = stands.known;
+  geometry = h.made.run.geometry ∙ stands.geometry;
+  stored = λ tells.
+      let told : IsTrue f.told = sym h.made.run.told ∙ tells in
+      subst (λ (g : Geometry). HoldsWritten g n.cells (written_in b) b.pages.units) (sym (h.made.run.geometry ∙ stands.geometry))
+      (holds-saved b f.cells n.cells (h.same told) (record { known = stands.known; holds = subst (λ (g : Geometry). HoldsWritten g f.cells (written_in b) b.pages.units) stands.geometry (stands.stored told) })).holds;
+}
 
 -- entries that tell of no erase, one behind another
 pub erases-none : (es fs : List Entry) → ErasesNoUnit es → ErasesNoUnit fs → ErasesNoUnit (es ++ fs)
 erases-none es fs p q unit = list_any-append (empties unit) es fs ∙ ap (λ (k : Bool). k || list_any (empties unit) fs) (p unit) ∙ q unit
 
-matches-joined : (a b c : FlashState) (es fs : List Entry) (xs ys : List Call) → ErasesNoUnit es → Matches a b es xs → Matches b c fs ys → Matches a c (es ++ fs) (xs ++ ys)
+pub matches-joined : (a b c : FlashState) (es fs : List Entry) (xs ys : List Call) → ErasesNoUnit es → Matches a b es xs → Matches b c fs ys → Matches a c (es ++ fs) (xs ++ ys)
 matches-joined a b c es fs xs ys none p q = record {
   made = calls-joined a b c xs ys p.made q.made;
   programs = q.programs ∙ ap (λ (k : ℕ). counted_more k (media_blocks fs)) p.programs ∙ counted_more-add a.programs (media_blocks es) (media_blocks fs) ∙ ap (counted_more a.programs) (sym (sum_by-append media_blocks_of es fs));
@@ -230,6 +251,9 @@ matches-joined a b c es fs xs ys none p q = record {
     either : (x y u v : Bool) → (IsTrue x → IsTrue u) → (IsTrue y → IsTrue v) → x || y ≡ true → u || v ≡ true
     either true y u v first second e = ap (λ (k : Bool). k || v) (first refl)
     either false y u v first second e = ap (λ (k : Bool). u || k) (second e) ∙ or-true u
+
+pub longer-none : (b : BookSeen) → IsLonger b b []
+longer-none b = record { config_is = refl; found_is = refl; opened_is = refl; entries_are = sym (append-nil b.entries); spare_is = refl; spent_is = refl; room_is = omega arith }
 
 pub longer-joined : (a b c : BookSeen) (es fs : List Entry) → IsLonger a b es → IsLonger b c fs → IsLonger a c (es ++ fs)
 longer-joined a b c es fs p q = record {

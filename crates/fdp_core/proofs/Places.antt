@@ -100,20 +100,3 @@ shut-follows handed f n b ticket g spot moment joined was later is goes asked fa
     let there : IsTrue (is_there p.state g) = keeps.there g ∙ goes.there in
     let new : IsNewMoment p.state moment = subst (λ (xs : List ℕ). Contains xs moment → ⊥) (sym keeps.media) (moment-new handed b f n moment was later failed (moments refl)) in
     end-follows n.told b.config p ticket.queue g (bare statuses.WRITE_FAULT false) moment (orderly.state.writes ticket.queue g going) going (inr (inr (inr (inr (there, asked, new, refl)))))
-
-pub fails-to-place : {F : Type 0} (state : F → FlashState) (old new : Seen F) (ticket : Ticket) (g : Going) (spot : Spot) (moment : ℕ) (done : Done) → 0 < old.book.spare → new.handed ≡ old.handed → IsFlashFormed (state new.flash) → IsNextSpot old.book ticket g spot →
-    ((es : List Entry) → IsTrue (state old.flash).told → OnlyErasesEmpty (state old.flash).geometry (state old.flash).cells (state new.flash).cells es) → MakesCalls (state old.flash) (state new.flash) (program_at spot true ∷ []) → (state new.flash).programs ≡ (state old.flash).programs → moment ≡ (state new.flash).moment → ShutsAndEnds (begun old.book) new.book ticket g spot statuses.WRITE_FAULT moment done → FailsToPlace state old new ticket g done
-fails-to-place state old new ticket g spot moment done spare handed formed goes emptied made programs moment_is shuts = record {
-  spot = spot;
-  goes = goes;
-  completes = completes state old new (entries.Shut (record { rg = g.rg; ruh = g.ruh }) ∷ []) ticket.queue g.number g.command (bare statuses.WRITE_FAULT false) moment (program_at spot true ∷ []) done spare (record {
-    longer = shuts.completes.step;
-    done_is = shuts.completes.done_is;
-    handed = handed;
-    matches = record { made = made; programs = programs ∙ sym (counted_more-none (state old.flash).programs); failed = λ _. refl; erased = λ told. erased-none (state old.flash).geometry (state new.flash).cells _ (λ unit. refl); emptied = emptied _ };
-    moment_is = moment_is;
-    failed = refl;
-    media = λ _. subst (FailedAt (state old.flash) (state new.flash)) (sym moment_is) (failed-last (state old.flash) (state new.flash) [] (program_at spot true) formed made refl);
-  });
-  reply_is = ap (λ (d : Done). d.reply) shuts.completes.done_is;
-}

@@ -225,7 +225,7 @@ sound-placed handed f n b d block now ticket g spot index spare payload last so 
           (programmed.cells tells ∙ ap (λ (xs : List ℕ). slice_set f.cells (page_number f.geometry spot) (Whole xs (payload_block (length block) payload index))) (sym (spare-of page))))
           (apart-begun f b so.apart) last placed;
       ledger = ledger-placed handed (begun b) d f n ticket g spot last spare (payload_block (length block) payload index) joined.joined joined.units so.geometry so.stored
-          (spot-begun b ticket g spot is.next) placed programmed made (ledger-alike handed b (begun b) f refl refl refl refl so.ledger);
+          (spot-begun b ticket g spot is.next) placed programmed made (ledger-alike handed b (begun b) f refl refl refl refl refl so.ledger);
       buffer = size ∙ so.buffer ∙ ap (λ (c : DriveConfig). c.block) (sym placed.step.config_is);
     }
 
@@ -259,6 +259,6 @@ sound-shut handed f n b d block now ticket g spot spare bytes status moment done
       apart = apart-shut f n (begun b) d ticket g w.0 spot bytes so.geometry (known-begun b joined) led so.stored ticket_is w.1 (spot-begun b ticket g spot is) kept.told
           (λ tells. subst (λ (xs : List ℕ). ProgramMayLeave f.geometry f.cells spot xs bytes n.cells) (sym own) (failed.left tells)) (apart-begun f b so.apart) status moment done shuts;
       ledger = ledger-shut handed (begun b) d f n ticket g spot status moment done spare bytes joined.joined joined.units so.geometry so.stored
-          (spot-begun b ticket g spot is) shuts failed moment_is (ledger-alike handed b (begun b) f refl refl refl refl so.ledger);
+          (spot-begun b ticket g spot is) shuts failed moment_is (ledger-alike handed b (begun b) f refl refl refl refl refl so.ledger);
       buffer = size ∙ so.buffer ∙ ap (λ (c : DriveConfig). c.block) (sym shuts.completes.step.config_is);
     }

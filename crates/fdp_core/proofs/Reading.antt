@@ -27,6 +27,7 @@ use Rattle.fdp_book.specs.Reading.{IsPageOf, StandsAt}
 use Rattle.fdp_core.specs.ReadSteps.{blocks_from}
 use Rattle.fdp_core.specs.Seen.{HoldsHistory}
 use Rattle.fdp_calls.proofs.Made.{calls-joined, calls-none}
+use Rattle.fdp_flash.proofs.Runs.{no_run, runs_joined, runs_weakened}
 
 -- ---- calls that read, one after another
 
@@ -40,11 +41,13 @@ kept-joined a b c p q = record {
 }
 
 pub read-none : (a : FlashState) → IsReadFrom a a
-read-none a = record { kept = record { geometry = refl; told = refl; reliable = refl; moment = omega arith; faults = omega arith }; programs = refl; cells = λ _. refl }
+read-none a = record { kept = record { geometry = refl; told = refl; reliable = refl; moment = omega arith; faults = omega arith }; stops = no_run a (λ m image. image ≡ a.cells); programs = refl; cells = λ _. refl }
 
 pub read-joined : (a b c : FlashState) → IsReadFrom a b → IsReadFrom b c → IsReadFrom a c
 read-joined a b c p q = record {
   kept = kept-joined a b c p.kept q.kept;
+  stops = runs_joined a b c (λ m image. image ≡ a.cells) p.stops
+      (runs_weakened b c (λ m image. image ≡ b.cells) (λ m image. image ≡ a.cells) q.stops (λ told m image above most same. same ∙ p.cells (sym p.kept.told ∙ told)));
   programs = q.programs ∙ p.programs;
   cells = λ tells. q.cells (p.kept.told ∙ tells) ∙ p.cells tells;
 }

@@ -1,23 +1,23 @@
 -- What a step of relocation leaves of how a group stands for its history.
-use Rattle.std.proofs.Common.{◌≡◌, ℕ, ◌≤◌, ◌<◌, true, List, [], ◌∷◌, length, sym, ◌∙◌, ap, subst, arith}
+use Rattle.std.proofs.Common.{◌≡◌, ℕ, ◌≤◌, ◌<◌, true, List, [], ◌∷◌, length, sym, ◌∙◌, ap, subst, arith, Bool, inl, inr, refl, not}
 use Rattle.std.specs.Prelude.{IsTrue}
 use Rattle.fdp_base.specs.declared.config.DriveConfig.{DriveConfig}
 use Rattle.fdp_base.specs.declared.config.Geometry.{Geometry}
 use Rattle.fdp_base.specs.declared.entry.Entry.{Entry}
 use Rattle.fdp_base.specs.Placement.{geometry_of}
 use Rattle.fdp_book.specs.Book.{BookSeen, IsLonger, state_in, written_in}
-use Rattle.fdp_book.specs.Relocating.{MayFollow, Relocates, told_by}
+use Rattle.fdp_book.specs.Relocating.{MayFollow, MovesPass, Relocates, told_by}
 use Rattle.fdp_collector.specs.declared.step.Lost.TheVariants as lost
 use Rattle.fdp_collector.specs.declared.step.Step.{Step}
 use Rattle.fdp_collector.specs.declared.step.Step.TheVariants as steps
 use Rattle.fdp_core.specs.Seen.{HoldsHistory, IsLegalOver}
 use Rattle.fdp_core.specs.Sound.{IsSound}
-use Rattle.fdp_core.proofs.Apart.{apart-collected}
+use Rattle.fdp_core.proofs.Apart.{apart-relocated, apart-moved}
 use Rattle.fdp_core.proofs.Pushed.{legal-none, legal-one}
 use Rattle.fdp_flash.specs.declared.cell.Cell.{Cell}
-use Rattle.fdp_flash.specs.FlashState.{FlashState}
+use Rattle.fdp_flash.specs.FlashState.{Call, FlashState}
 use Rattle.fdp_flash.specs.Runs.{Runs}
-use Rattle.fdp_isolation.specs.Laned.{IsKnown}
+use Rattle.fdp_isolation.specs.Laned.{AreLaned, IsKnown}
 use Rattle.fdp_ledger.specs.declared.counts.Counts.{Counts}
 use Rattle.fdp_ledger.specs.Ledger.{IsLedger}
 use Rattle.fdp_ledger.proofs.Moved.{ledger-moved}
@@ -27,7 +27,18 @@ use Rattle.fdp_locations.specs.Stored.{HoldsWritten}
 use Rattle.fdp_pages.specs.Joined.{AreJoined}
 use Rattle.fdp_relocation.specs.declared.advance.Advance.{Advance}
 use Rattle.fdp_relocation.specs.declared.advance.Advance.TheVariants as advance
-use Rattle.fdp_relocation.specs.Collected.{Collects}
+use Rattle.fdp_relocation.specs.Collected.{Collects, Moves, SavesMove, Stage, Steps, StepsSettled}
+use Rattle.fdp_core.proofs.Passing.{longer-none, IsPrefix, resting-prefix, saving-prefix, settled-prefix, prefix-stands}
+use Rattle.fdp_flash.proofs.Runs.{no_run}
+use Rattle.fdp_saving.specs.declared.saved.Saved.{Saved}
+use Rattle.fdp_saving.specs.declared.saved.Saved.TheVariants as savings
+use Rattle.fdp_flash.specs.declared.answer.Wrote.TheVariants as wrote
+use Rattle.fdp_survival.specs.Books.{IsSafe}
+use Rattle.fdp_durability.specs.Saved.{SettlesDrive}
+use Rattle.fdp_flash.specs.declared.answer.Wrote.{Wrote}
+use Rattle.fdp_isolation.proofs.Saved.{laned-saved}
+use Rattle.fdp_ledger.proofs.System.{ledger-system}
+use Rattle.fdp_ledger.proofs.Called.{after-made}
 
 -- the same entries may follow, one at most
 legal-told : (f n : FlashState) (b d : BookSeen) (es : List Entry) → length es ≤ 1 → IsLonger b d es → n.told ≡ f.told → f.moment ≤ n.moment → IsLegalOver f b → MayFollow b es → IsLegalOver n d
@@ -51,41 +62,108 @@ pub record IsLeft (f n : FlashState) (b d : BookSeen) : Type 0 where
   pub config_is : d.config ≡ b.config
   pub legal : n.told ≡ f.told → f.moment ≤ n.moment → IsLegalOver f b → IsLegalOver n d
 
-left-told : (f n : FlashState) (b d : BookSeen) (rg : ℕ) (step : Step) → Relocates b d f n rg true step → IsLeft f n b d
-left-told f n b d rg step h = record { config_is = h.longer.config_is; legal = λ told later legal. legal-told f n b d (told_by rg step) (one-at-most rg step) h.longer told later legal h.follows }
+left-told : (f n : FlashState) (b d : BookSeen) (rg : ℕ) (may : Bool) (step : Step) → Relocates b d f n rg may step → IsLeft f n b d
+left-told f n b d rg may step h = record { config_is = h.longer.config_is; legal = λ told later legal. legal-told f n b d (told_by rg step) (one-at-most rg step) h.longer told later legal h.follows }
 
-left : (f n : FlashState) (b d : BookSeen) (rg : ℕ) (x : Advance) → Collects b d f n rg x → IsLeft f n b d
-left f n b d rg advance.Nothing h = left-told f n b d rg steps.Nothing h
-left f n b d rg advance.Copied h = left-told f n b d rg (steps.Copied h.0) h.1
-left f n b d rg advance.Moved h = record { config_is = h.moved.longer.config_is; legal = λ told later legal. legal-one f n b d _ h.moved.longer told later legal (λ _. h.moved.follows n.told) }
-left f n b d rg advance.Erased h = left-told f n b d rg (steps.Erased h.0) h.1
-left f n b d rg advance.Starved h = left-told f n b d rg steps.Starved h
-left f n b d rg advance.Fault h = left-told f n b d rg (steps.Fault h.0) h.1
+-- ---- each part of a step
 
-module _ (handed : Counts) (f n : FlashState) (b d : BookSeen) (rg : ℕ) (Image : ℕ → List Cell → Type 0) (low : rg < b.config.groups) (joined : AreJoined b.pages) (units : AreUnitsOf b.config (state_in b) b.pages) (geometry : f.geometry ≡ geometry_of b.config) (stored : HoldsHistory f b) (run : Runs f n Image) (was : IsLedger handed b f) where
-  by-step : (step : Step) → Relocates b d f n rg true step → IsLedger handed d n
-  by-step step h = ledger-relocated handed b d f n rg true step Image low joined units geometry stored h run was
-
-  by-answer : (x : Advance) → Collects b d f n rg x → IsLedger handed d n
-  by-answer advance.Nothing h = by-step steps.Nothing h
-  by-answer advance.Copied h = by-step (steps.Copied h.0) h.1
-  by-answer advance.Moved h = ledger-moved handed b d f n rg Image joined h.moved h.flash run was
-  by-answer advance.Erased h = by-step (steps.Erased h.0) h.1
-  by-answer advance.Starved h = by-step steps.Starved h
-  by-answer advance.Fault h = by-step (steps.Fault h.0) h.1
-
-pub counted : (handed : Counts) (f n : FlashState) (b d : BookSeen) (rg : ℕ) (x : Advance) (Image : ℕ → List Cell → Type 0) {block : List ℕ} → rg < b.config.groups → AreJoined b.pages → AreUnitsOf b.config (state_in b) b.pages → IsSound handed f b block → Collects b d f n rg x → Runs f n Image → IsLedger handed d n
-counted handed f n b d rg x Image low joined units so h run = by-answer handed f n b d rg Image low joined units so.geometry so.stored run so.ledger x h
-
-pub sound-collected : (handed : Counts) (f n : FlashState) (b d : BookSeen) (rg : ℕ) (x : Advance) (Image : ℕ → List Cell → Type 0) (block now : List ℕ) →
-    rg < b.config.groups → IsKnown b → IsSound handed f b block → Collects b d f n rg x → Runs f n Image → (IsTrue f.told → HoldsWritten f.geometry n.cells (written_in d) d.pages.units) → length now ≡ length block → IsSound handed n d now
-sound-collected handed f n b d rg x Image block now low known so h run stored size =
-    let was = left f n b d rg x h in
+-- a step of relocation of the book
+sound-stepped : (handed : Counts) (f n : FlashState) (b d : BookSeen) (rg : ℕ) (may : Bool) (step : Step) (Image : ℕ → List Cell → Type 0) (block now : List ℕ) → rg < b.config.groups → IsKnown b → IsSound handed f b block → Relocates b d f n rg may step → Runs f n Image
+    → (IsTrue n.told → HoldsWritten n.geometry n.cells (written_in d) d.pages.units) → length now ≡ length block → IsSound handed n d now
+sound-stepped handed f n b d rg may step Image block now low known so h run stored size =
+    let was = left-told f n b d rg may step h in
     record {
       geometry = run.geometry ∙ so.geometry ∙ ap geometry_of (sym was.config_is);
       legal = was.legal run.told run.later so.legal;
-      stored = λ tells. subst (λ (g : Geometry). HoldsWritten g n.cells (written_in d) d.pages.units) (sym run.geometry) (stored (sym run.told ∙ tells));
-      apart = apart-collected f n b d rg low so.geometry known so.stored run.told so.apart x h;
-      ledger = counted handed f n b d rg x Image low known.joined known.units so h run;
+      stored = stored;
+      apart = apart-relocated f n b d rg low so.geometry known so.stored run.told so.apart may step h;
+      ledger = ledger-relocated handed b d f n rg may step Image low known.joined known.units so.geometry so.stored h run so.ledger;
       buffer = size ∙ so.buffer ∙ ap (λ (c : DriveConfig). c.block) (sym was.config_is);
     }
+
+-- calls in the system units
+pub sound-prefix : (handed : Counts) (f n : FlashState) (b : BookSeen) (calls : List Call) (block : List ℕ) → IsKnown b → IsPrefix b f n calls → IsSound handed f b block → IsSound handed n b block
+sound-prefix handed f n b calls block known h so =
+    let stands = prefix-stands b f n calls (record { known = known; geometry = so.geometry; stored = so.stored }) h in
+    record {
+      geometry = stands.geometry;
+      legal = legal-none f n b b (longer-none b) h.made.run.told h.made.run.later so.legal;
+      stored = stands.stored;
+      apart = λ tells opened. let told : IsTrue f.told = sym h.made.run.told ∙ tells in laned-saved b f.cells n.cells (h.same told) (so.apart told opened);
+      ledger = ledger-system b f n calls so.geometry h.behind h.programs h.same handed known.units (after-made f n calls h.made) so.ledger;
+      buffer = so.buffer;
+    }
+
+-- a move, which calls no flash
+sound-moved : (handed : Counts) (f : FlashState) (b d : BookSeen) (rg : ℕ) (block now : List ℕ) → IsKnown b → IsSound handed f b block → MovesPass b d rg → (IsTrue f.told → HoldsWritten f.geometry f.cells (written_in d) d.pages.units) → length now ≡ length block → IsSound handed f d now
+sound-moved handed f b d rg block now known so h stored size = record {
+  geometry = so.geometry ∙ ap geometry_of (sym h.longer.config_is);
+  legal = legal-one f f b d _ h.longer refl (omega arith) so.legal (λ _. h.follows f.told);
+  stored = stored;
+  apart = apart-moved f b d rg known h so.apart;
+  ledger = ledger-moved handed b d f f rg (λ m image. Unit {0}) known.joined h (record { moment = refl; faults = refl; programs = refl; cells = λ told. refl; calls = λ tells. refl }) (no_run f (λ m image. Unit {0})) so.ledger;
+  buffer = size ∙ so.buffer ∙ ap (λ (c : DriveConfig). c.block) (sym h.longer.config_is);
+}
+
+-- a buffer of the same size
+sound-filled : (handed : Counts) (f : FlashState) (b : BookSeen) (block now : List ℕ) → length now ≡ length block → IsSound handed f b block → IsSound handed f b now
+sound-filled handed f b block now size so = record { geometry = so.geometry; legal = so.legal; stored = so.stored; apart = so.apart; ledger = so.ledger; buffer = size ∙ so.buffer }
+
+-- ---- a step
+
+module _ {F : Type 0} (state : F → FlashState) (handed : Counts) (old new : Stage F) (rg : ℕ) (block now : List ℕ) (low : rg < old.book.config.groups) (known : IsKnown old.book) (safe : IsSafe old.book old.keeper.saver old.keeper.firm (state old.flash)) (so : IsSound handed (state old.flash) old.book block)
+    (stored : IsTrue (state new.flash).told → HoldsWritten (state new.flash).geometry (state new.flash).cells (written_in new.book) new.book.pages.units) (size : length now ≡ length block) where
+  stepped : (step : Step) → Steps state old new rg step → IsSound handed (state new.flash) new.book now
+  stepped step h = sound-stepped handed (state old.flash) (state new.flash) old.book new.book rg (not old.keeper.saver.in_doubt) step _ block now low known so h.made h.run stored size
+
+  settled : (step : Step) → StepsSettled state old new rg step → IsSound handed (state new.flash) new.book now
+  settled step h =
+      sound-stepped handed (state h.middle) (state new.flash) old.book new.book rg true step _ block now low known
+      (sound-prefix handed (state old.flash) (state h.middle) old.book h.settled.saves.calls.calls block known (settled-prefix old.book old.keeper.saver new.keeper.saver old.keeper.firm (state old.flash) (state h.middle) wrote.Done safe h.settled.saves) so) h.made h.run stored size
+
+  moved : (answer : Saved) → Moves state old new rg answer → IsSound handed (state new.flash) new.book now
+  moved answer h = chosen h.saved where
+    chosen : SavesMove state old new rg answer → IsSound handed (state new.flash) new.book now
+    chosen (inl none) = sound-moved handed (state new.flash) old.book new.book rg block now known (sound-prefix handed (state old.flash) (state new.flash) old.book [] block known (resting-prefix old.book (state old.flash) (state new.flash) none.3) so) h.moved stored size
+    chosen (inr some) =
+        let saves = some.1.saves in
+        let prefix = saving-prefix old.book _ old.keeper.saver new.keeper.saver old.keeper.firm (state old.flash) (state new.flash) answer safe saves in
+        sound-moved handed (state new.flash) old.book new.book rg block now known (sound-prefix handed (state old.flash) (state new.flash) old.book saves.calls.calls block known prefix so) h.moved stored size
+
+  pub sound-collected : (x : Advance) → Collects state old new rg x → IsSound handed (state new.flash) new.book now
+  sound-collected advance.Nothing h = stepped steps.Nothing h
+  sound-collected advance.Copied h = stepped (steps.Copied h.0) h.1
+  sound-collected advance.Moved h = moved savings.Done h
+  sound-collected advance.Erased (unit, inl h) = stepped (steps.Erased unit) h
+  sound-collected advance.Erased (unit, inr h) = settled (steps.Erased unit) h
+  sound-collected advance.Starved h = stepped steps.Starved h
+  sound-collected advance.Fault (inl h) = stepped (steps.Fault h.0) h.1
+  sound-collected advance.Fault (inr (inl h)) = settled (steps.Fault (lost.Retired h.0)) h.1
+  sound-collected advance.Fault (inr (inr (inl h))) =
+      subst (λ (d : BookSeen). IsSound handed (state new.flash) d now) (sym h.book)
+      (sound-filled handed (state new.flash) old.book block now size
+      (sound-prefix handed (state old.flash) (state new.flash) old.book h.failed.saves.calls.calls block known (settled-prefix old.book old.keeper.saver new.keeper.saver old.keeper.firm (state old.flash) (state new.flash) wrote.Failed safe h.failed.saves) so))
+  sound-collected advance.Fault (inr (inr (inr h))) = moved h.0 h.2
+
+-- ---- the flash
+
+-- whether it tells of its cells does not change
+pub told-collected : {F : Type 0} (state : F → FlashState) (old new : Stage F) (rg : ℕ) (x : Advance) → Collects state old new rg x → (state new.flash).told ≡ (state old.flash).told
+told-collected {F} state old new rg = of where
+  moved : (answer : Saved) → Moves state old new rg answer → (state new.flash).told ≡ (state old.flash).told
+  moved answer h = elim h.saved [
+    | inl none ↦ none.3.run.told
+    | inr some ↦ some.1.saves.calls.made.run.told
+  ]
+
+  of : (x : Advance) → Collects state old new rg x → (state new.flash).told ≡ (state old.flash).told
+  of advance.Nothing h = h.run.told
+  of advance.Copied h = h.1.run.told
+  of advance.Moved h = moved savings.Done h
+  of advance.Erased (unit, inl h) = h.run.told
+  of advance.Erased (unit, inr h) = h.run.told ∙ h.settled.saves.calls.made.run.told
+  of advance.Starved h = h.run.told
+  of advance.Fault (inl h) = h.1.run.told
+  of advance.Fault (inr (inl h)) = h.1.run.told ∙ h.1.settled.saves.calls.made.run.told
+  of advance.Fault (inr (inr (inl h))) = h.failed.saves.calls.made.run.told
+  of advance.Fault (inr (inr (inr h))) = moved h.0 h.2

@@ -28,7 +28,7 @@ use Rattle.fdp_calls.proofs.Made.{failed-last}
 use Rattle.fdp_collector.specs.Step.{IsUncalled}
 use Rattle.fdp_core.specs.Answers.{EndsCrowded, EndsInPass, EndsStarved, MakesRoom}
 use Rattle.fdp_core.specs.Ending.{Ends, MayEnd}
-use Rattle.fdp_core.specs.Passes.{FailsInPass, FailsLast, MakesNone, MakesPass, Relocates, Starves}
+use Rattle.fdp_core.specs.Passes.{FailsInPass, MakesNone, MakesPass, Relocates, Starves}
 use Rattle.fdp_core.specs.Seen.{Seen}
 use Rattle.fdp_core.specs.Steps.{Completes, Matches}
 use Rattle.fdp_core.proofs.Grown.{adds, completes, host, steps-behind}
@@ -57,6 +57,7 @@ use Rattle.fdp_rules.proofs.Pushes.{state_of-push}
 use Rattle.fdp_trails.specs.Crowded.{IsCrowded}
 use Rattle.fdp_trails.proofs.Crowding.{crowded-exceeds}
 use Rattle.fdp_book.proofs.Longer.{state-as, state-self}
+use Rattle.fdp_saving.specs.Calls.{FailAtEnd}
 
 -- ---- a worn group has no budget
 
@@ -122,7 +123,7 @@ none-media c rg (e ∷ es) inside =
 
 -- the step from its begin on
 abbrev pub begun_seen : {F : Type 0} → Seen F → Seen F
-begun_seen s = record { book = begun s.book; handed = s.handed; flash = s.flash }
+begun_seen s = record { book = begun s.book; keeper = s.keeper; handed = s.handed; flash = s.flash }
 
 matches-host : (f n : FlashState) (es : List Entry) (calls : List Call) (queue number moment : ℕ) (command : Command) (reply : Reply) → Matches f n es calls → list_any has_failed calls ≡ is_media_error reply.status → Matches f n (es ++ host queue number command reply moment ∷ []) calls
 matches-host f n es calls queue number moment command reply h same = record {
@@ -159,7 +160,7 @@ behind {F} state old mid new rg es calls ticket g status done spare r ended fail
       handed = ended.handed_is ∙ r.extends.handed_is;
       matches = subst (λ (x : F). Matches (state old.flash) (state x) (es ++ host ticket.queue g.number g.command (bare status false) (state mid.flash).moment ∷ []) calls) (sym ended.uncalled)
           (matches-host (state old.flash) (state mid.flash) es calls ticket.queue g.number (state mid.flash).moment g.command (bare status false) r.extends.matches failed);
-      moment_is = sym (ap (λ (x : F). (state x).moment) ended.uncalled);
+      moment_is = λ _. sym (ap (λ (x : F). (state x).moment) ended.uncalled);
       failed = failed;
       media = λ error. subst (λ (x : F). FailedAt (state old.flash) (state x) (state mid.flash).moment) (sym ended.uncalled) (media error);
     })
@@ -256,10 +257,10 @@ ends-starved {F} state old mid new ticket g done spare wants orderly is h ended 
 
 -- a call failed
 
-some-failed : (calls : List Call) → FailsLast calls → list_any has_failed calls ≡ true
+some-failed : (calls : List Call) → FailAtEnd calls → list_any has_failed calls ≡ true
 some-failed calls h = ap (list_any has_failed) h.calls_are ∙ list_any-append has_failed h.before (h.last ∷ []) ∙ ap (λ (k : Bool). k || (h.last.failed || false)) h.well ∙ ap (λ (k : Bool). k || false) h.failed
 
-failed-now : (f n : FlashState) (es : List Entry) (calls : List Call) → IsFlashFormed n → Matches f n es calls → FailsLast calls → FailedAt f n n.moment
+failed-now : (f n : FlashState) (es : List Entry) (calls : List Call) → IsFlashFormed n → Matches f n es calls → FailAtEnd calls → FailedAt f n n.moment
 failed-now f n es calls formed h fails = failed-last f n fails.before fails.last formed (subst (MakesCalls f n) fails.calls_are h.made) fails.failed
 
 pub failed-may : {F : Type 0} (state : F → FlashState) (old mid : Seen F) (ticket : Ticket) (g : Going) → WantsUnit old.book g → IsFlashFormed (state mid.flash) → IsLedger old.handed (begun old.book) (state old.flash) → (h : FailsInPass state (begun_seen old) mid g.rg) → MayEnd state mid g statuses.WRITE_FAULT

@@ -53,23 +53,31 @@ held-still f n b d same owners written holds tells =
 
 -- ---- an entry more that writes no page
 
-pub sound-told : (handed : Counts) (f n : FlashState) (b d : BookSeen) (e : Entry) (block now : List ℕ) →
-    IsSound handed f b block → IsSameFlash f n → IsLonger b d (e ∷ []) → ChangesOwners b.pages d.pages →
-    written_after b.config (state_in b) (written_in b) e ≡ written_in b →
+pub sound-entry : (handed : Counts) (f n : FlashState) (b d : BookSeen) (e : Entry) (block now : List ℕ) →
+    IsSound handed f b block → IsSameFlash f n → IsLonger b d (e ∷ []) → HoldsHistory n d →
     ((IsTrue (is_media_reply e) → HasMoments n) → Follows n.told b.config (point_in b) e) → IsLedger handed d n → KeepsApart n d →
     length now ≡ length block → IsSound handed n d now
-sound-told handed f n b d e block now so same longer owners written follows ledger apart size = record {
+sound-entry handed f n b d e block now so same longer stored follows ledger apart size = record {
   geometry = same.geometry ∙ so.geometry ∙ ap geometry_of (sym longer.config_is);
   legal = legal-one f n b d e longer same.told same.moment so.legal follows;
-  stored = held-still f n b d same owners (written-one b d e longer ∙ written) so.stored;
+  stored = stored;
   apart = apart;
   ledger = ledger;
   buffer = size ∙ so.buffer ∙ ap (λ (c : DriveConfig). c.block) (sym longer.config_is);
 }
 
+-- and where only owners change
+pub sound-told : (handed : Counts) (f n : FlashState) (b d : BookSeen) (e : Entry) (block now : List ℕ) →
+    IsSound handed f b block → IsSameFlash f n → IsLonger b d (e ∷ []) → ChangesOwners b.pages d.pages →
+    written_after b.config (state_in b) (written_in b) e ≡ written_in b →
+    ((IsTrue (is_media_reply e) → HasMoments n) → Follows n.told b.config (point_in b) e) → IsLedger handed d n → KeepsApart n d →
+    length now ≡ length block → IsSound handed n d now
+sound-told handed f n b d e block now so same longer owners written =
+    sound-entry handed f n b d e block now so same longer (held-still f n b d same owners (written-one b d e longer ∙ written) so.stored)
+
 -- a step that has begun has changed nothing yet
 pub apart-begun : (f : FlashState) (b : BookSeen) → KeepsApart f b → KeepsApart f (begun b)
-apart-begun f b apart tells = laned-alike b (begun b) f.cells refl refl refl refl (apart tells)
+apart-begun f b apart tells opened = laned-alike b (begun b) f.cells refl refl refl refl (apart tells opened)
 
 pub sound-begun : (handed : Counts) (f : FlashState) (b : BookSeen) (block : List ℕ) → IsSound handed f b block → IsSound handed f (begun b) block
-sound-begun handed f b block so = record { geometry = so.geometry; legal = so.legal; stored = so.stored; apart = apart-begun f b so.apart; ledger = ledger-alike handed b (begun b) f refl refl refl refl so.ledger; buffer = so.buffer }
+sound-begun handed f b block so = record { geometry = so.geometry; legal = so.legal; stored = so.stored; apart = apart-begun f b so.apart; ledger = ledger-alike handed b (begun b) f refl refl refl refl refl so.ledger; buffer = so.buffer }

@@ -1,5 +1,5 @@
 -- What the calls of a group answer, each with its cause.
-use Rattle.std.specs.Prelude.{◌≡◌, ◌⊎◌, ℕ, ◌+◌, ◌<◌, ◌≤◌, true, false, IsTrue, IsFalse, List, [], ◌∷◌, ◌++◌, None, Some, option_map}
+use Rattle.std.specs.Prelude.{◌≡◌, ◌≢◌, ◌⊎◌, ℕ, ◌+◌, ◌<◌, ◌≤◌, true, false, IsTrue, IsFalse, List, [], ◌∷◌, ◌++◌, None, Some, length, option_map}
 use Rattle.std.specs.List.{list_any}
 use Rattle.fdp_base.specs.declared.command.Command.{Command}
 use Rattle.fdp_base.specs.declared.command.Command.TheVariants as commands
@@ -11,10 +11,11 @@ use Rattle.fdp_base.specs.declared.entry.Reply.{Reply}
 use Rattle.fdp_base.specs.declared.entry.Spot.{Spot}
 use Rattle.fdp_base.specs.declared.status.Status.{Status}
 use Rattle.fdp_base.specs.declared.status.TheConstants.Status as statuses
-use Rattle.fdp_base.specs.CommandKinds.{blocks_written, write_of}
+use Rattle.fdp_base.specs.CommandKinds.{blocks_written, is_saved, write_of}
 use Rattle.fdp_book.specs.declared.ticket.Done.{Done}
 use Rattle.fdp_book.specs.declared.ticket.Ticket.{Ticket}
 use Rattle.fdp_book.specs.Book.{BookSeen, point_in, position_in, state_in}
+use Rattle.fdp_book.specs.Commanded.{applied_reply}
 use Rattle.fdp_book.specs.Relocating.{told_by}
 use Rattle.fdp_book.specs.Tickets.{IsNextSpot, IsTicketOf, WantsUnit}
 use Rattle.fdp_calls.specs.Calls.{erase_at, fetch_at, has_failed, program_at}
@@ -26,10 +27,13 @@ use Rattle.fdp_core.specs.declared.answer.Begun.TheVariants as begun
 use Rattle.fdp_core.specs.declared.answer.Placed.{Placed}
 use Rattle.fdp_core.specs.declared.answer.Placed.TheVariants as placed
 use Rattle.fdp_core.specs.Fetches.{Fetches}
-use Rattle.fdp_core.specs.Passes.{FailsLast, HasNoPass}
+use Rattle.fdp_core.specs.Passes.{HasNoPass}
 use Rattle.fdp_core.specs.Seen.{Seen}
-use Rattle.fdp_core.specs.Steps.{Adds, Completes}
+use Rattle.fdp_core.specs.Steps.{Adds, Completes, Matches}
+use Rattle.fdp_flash.specs.declared.answer.Wrote.{Wrote}
+use Rattle.fdp_flash.specs.declared.answer.Wrote.TheVariants as wrote
 use Rattle.fdp_flash.specs.FlashState.{Call, FlashState}
+use Rattle.fdp_journal.specs.JournalState.{JournalState}
 use Rattle.fdp_ledger.specs.WornOut.{IsWornOut}
 use Rattle.fdp_pages.specs.PageTables.{passes_at}
 use Rattle.fdp_passes.specs.declared.due.Due.{Due}
@@ -38,16 +42,21 @@ use Rattle.fdp_passes.specs.Due.{IsDue}
 use Rattle.fdp_relocation.specs.declared.advance.Advance.{Advance}
 use Rattle.fdp_relocation.specs.declared.advance.Advance.TheVariants as advance
 use Rattle.fdp_relocation.specs.Entries.{AreRelocationIn}
-use Rattle.fdp_rules.specs.Answer.{bare}
+use Rattle.fdp_rules.specs.Answer.{IsSuccess, bare}
 use Rattle.fdp_rules.specs.Change.{one_more_placed, started}
 use Rattle.fdp_rules.specs.History.{state_of}
-use Rattle.fdp_rules.specs.PlainState.{Going}
+use Rattle.fdp_rules.specs.PlainState.{Going, PlainState}
 use Rattle.fdp_rules.specs.Refusal.{refusal_of}
 use Rattle.fdp_rules.specs.Room.{roomiest}
 use Rattle.fdp_rules.specs.Sites.{is_there, moved_blocks}
 use Rattle.fdp_rules.specs.Step.{MaySucceed, exceeds_budget, goes_to}
 use Rattle.fdp_rules.specs.Target.{Target}
+use Rattle.fdp_saving.specs.declared.saved.Saved.{Saved}
+use Rattle.fdp_saving.specs.declared.saved.Saved.TheVariants as savings
+use Rattle.fdp_saving.specs.Calls.{AreCallsOfCheckpoint, AreCallsOfRenewal, AreCallsOfSaving, FailAtEnd}
+use Rattle.fdp_snapshot.specs.declared.state.Summary.{Summary}
 use Rattle.fdp_units.specs.UnitTable.{HasNoFree, toil_of}
+use Rattle.fdp_core.specs.Advancing.{ComesTo}
 
 -- ---- the first step of a command
 
@@ -79,13 +88,37 @@ pub record ReadsBlocks {F : Type 0} (state : F → FlashState) (old new : Seen F
   pub fetches : Fetches old.book read calls (list_any has_failed calls)
   pub cells : IsTrue (state old.flash).told → (state new.flash).cells ≡ (state old.flash).cells
 
--- the first step completes a command: it is refused, or it is a read
+-- a command that is not refused, and neither read nor saved, is answered with its success; the flash is not called
+pub record Succeeds {F : Type 0} (state : F → FlashState) (old new : Seen F) (command : Command) (calls : List Call) (reply : Reply) : Type 0 where
+  pub accepted : refusal_of old.book.config (point_in old.book) command ≡ None
+  pub unsaved : IsFalse (is_saved command)
+  pub success : IsSuccess (state old.flash).told old.book.config (point_in old.book) command reply
+  pub none : calls ≡ []
+  pub uncalled : new.flash ≡ old.flash
+
+-- The reply to a command whose change was to be saved, by the answer of the saving: success where it was saved; Write Fault, the change made all
+-- the same, where the program of its record failed; Write Fault and no change where a checkpoint had to come first and failed.
+abbrev pub reply_to_change : PlainState → Command → Saved → Reply
+reply_to_change s command savings.Done = applied_reply s command statuses.SUCCESS
+reply_to_change s command (savings.Doubtful moment) = bare statuses.WRITE_FAULT true
+reply_to_change s command (savings.Unsaved moment) = bare statuses.WRITE_FAULT false
+
+-- the change of a command that is not refused is saved, by calls of the system areas, and its reply follows the answer of the saving
+pub record SavesChange {F : Type 0} (old : Seen F) (command : Command) (calls : List Call) (reply : Reply) : Type 0 where
+  pub accepted : refusal_of old.book.config (point_in old.book) command ≡ None
+  pub saves : IsTrue (is_saved command)
+  pub summary : Summary
+  pub answer : Saved
+  pub saved : AreCallsOfSaving old.keeper.saver summary answer calls
+  pub reply_is : reply ≡ reply_to_change (state_in old.book) command answer
+
+-- the first step completes a command: it is refused; it is a read; it is answered; or its change is saved
 pub record EndsAtOnce {F : Type 0} (state : F → FlashState) (old new : Seen F) (queue number : ℕ) (command : Command) (done : Done) : Type 0 where
   pub calls : List Call
   pub completes : Completes state old new [] queue number command calls done
-  pub came : Refuses old new command calls done.reply ⊎ ReadsBlocks state old new command calls
+  pub came : Refuses old new command calls done.reply ⊎ ReadsBlocks state old new command calls ⊎ Succeeds state old new command calls done.reply ⊎ SavesChange old command calls done.reply
 
--- the first step of a command refuses it, reads for it or, for a write that is not refused, starts it
+-- the first step of a command completes it or, for a write that is not refused, starts it
 abbrev pub Begins : {F : Type 0} → (F → FlashState) → Seen F → Seen F → ℕ → ℕ → Command → Begun → Type 0
 Begins state old new queue number command (begun.Ended done) = EndsAtOnce state old new queue number command done
 Begins state old new queue number command (begun.Going ticket) = Starts state old new queue number command ticket
@@ -150,14 +183,19 @@ pub record EndsInPass {F : Type 0} (state : F → FlashState) (old new : Seen F)
   pub calls : List Call
   pub inside : AreRelocationIn old.book.config g.rg before
   pub completes : Completes state old new before ticket.queue g.number g.command calls done
-  pub fails : FailsLast calls
+  pub fails : FailAtEnd calls
   pub reply_is : done.reply ≡ bare statuses.WRITE_FAULT false
 
--- the one call, which was to program the next page of a write, failed: the handle is shut, and the write ends with Write Fault
+-- the program of the next page of a write failed: the handle is shut, which is saved, whether that fails or not; and the write ends with
+-- Write Fault
 pub record FailsToPlace {F : Type 0} (state : F → FlashState) (old new : Seen F) (ticket : Ticket) (g : Going) (done : Done) : Type 0 where
   pub spot : Spot
   pub goes : IsNextSpot old.book ticket g spot
-  pub completes : Completes state old new (entries.Shut (record { rg = g.rg; ruh = g.ruh }) ∷ []) ticket.queue g.number g.command (program_at spot true ∷ []) done
+  pub summary : Summary
+  pub answer : Saved
+  pub calls : List Call
+  pub saved : AreCallsOfSaving old.keeper.saver summary answer calls
+  pub completes : Completes state old new (entries.Shut (record { rg = g.rg; ruh = g.ruh }) ∷ []) ticket.queue g.number g.command (program_at spot true ∷ calls) done
   pub reply_is : done.reply ≡ bare statuses.WRITE_FAULT false
 
 -- a write ends in place of its next page: its namespace is gone; it wants a unit and gets none, or a call for that failed; or the program
@@ -176,65 +214,74 @@ Places state old new ticket g (placed.More next) = (PlacesPage state old new tic
 Places state old new ticket g (placed.Ready next) = PlacesPage state old new ticket g next × (g.placed + 1 ≡ blocks_written g.command)
 Places state old new ticket g (placed.Ended done) = EndsInPlacing state old new ticket g done
 
--- a write whose pages are placed ends: its namespace is gone; it exceeds its budget; or it succeeds
+-- ---- the end of a write
+
+-- the change of a write was saved with this answer, by calls of the system areas, and the write ends with this reply
+pub record EndsSaved {F : Type 0} (state : F → FlashState) (old new : Seen F) (ticket : Ticket) (g : Going) (answer : Saved) (reply : Reply) (done : Done) : Type 0 where
+  pub summary : Summary
+  pub calls : List Call
+  pub saved : AreCallsOfSaving old.keeper.saver summary answer calls
+  pub completes : Completes state old new [] ticket.queue g.number g.command calls done
+  pub reply_is : done.reply ≡ reply
+
+-- How a write that may succeed ends, by the saving of its change: with Success where it was saved; with Write Fault, the change made all the
+-- same, where the program of its record failed; with Write Fault and no change where a checkpoint had to come first and failed.
+abbrev pub SavesWrite : {F : Type 0} → (F → FlashState) → Seen F → Seen F → Ticket → Going → Done → Type 0
+SavesWrite state old new ticket g done =
+    EndsSaved state old new ticket g savings.Done (bare statuses.SUCCESS true) done
+    ⊎ ((moment : ℕ) × EndsSaved state old new ticket g (savings.Doubtful moment) (bare statuses.WRITE_FAULT true) done)
+    ⊎ ((moment : ℕ) × EndsSaved state old new ticket g (savings.Unsaved moment) (bare statuses.WRITE_FAULT false) done)
+
+-- a write whose pages are placed ends: its namespace is gone; it exceeds its budget; or it may succeed, and its change is saved
 abbrev pub Commits : {F : Type 0} → (F → FlashState) → Seen F → Seen F → Ticket → Going → Done → Type 0
 Commits state old new ticket g done =
     (IsFalse (is_there (state_in old.book) g) × EndsAlone state old new ticket g (bare statuses.INVALID_NAMESPACE false) done)
     ⊎ (IsTrue (is_there (state_in old.book) g) × IsTrue (exceeds_budget old.book.config (state_in old.book) g) × EndsAlone state old new ticket g (bare statuses.CAPACITY_EXCEEDED false) done)
-    ⊎ (MaySucceed old.book.config (point_in old.book) g × EndsAlone state old new ticket g (bare statuses.SUCCESS true) done)
+    ⊎ (MaySucceed old.book.config (point_in old.book) g × SavesWrite state old new ticket g done)
+
+-- ---- the whole drive
+
+-- a checkpoint was written: it is a step that adds no entry, and each entry is firm
+pub record SavesAll {F : Type 0} (state : F → FlashState) (old new : Seen F) : Type 0 where
+  pub summary : Summary
+  pub calls : List Call
+  pub saved : AreCallsOfCheckpoint old.keeper.saver summary wrote.Done calls
+  pub matches : Matches (state old.flash) (state new.flash) [] calls
+  pub handed_is : new.handed ≡ old.handed
+  pub book : new.book ≡ record old.book { spare = new.book.spare; spent = new.book.spent; room = new.book.room; may_move = new.book.may_move }
+  pub spent_is : new.book.spent ≡ old.book.spent + 1
+  pub spare_is : new.book.spare + 1 ≡ old.book.spare
+  pub firm : new.keeper.firm ≡ length new.book.entries
+
+-- a call of a checkpoint failed, the last one
+pub record FailsToSave {F : Type 0} (state : F → FlashState) (old new : Seen F) : Type 0 where
+  pub summary : Summary
+  pub calls : List Call
+  pub saved : AreCallsOfCheckpoint old.keeper.saver summary wrote.Failed calls
+  pub matches : Matches (state old.flash) (state new.flash) [] calls
+  pub fails : FailAtEnd calls
+  pub handed_is : new.handed ≡ old.handed
+  pub book : new.book ≡ old.book
+
+-- The whole drive was saved: each entry is firm, and it was a step. Or a call of that failed, the last one; it was no step.
+abbrev pub Checkpoints : {F : Type 0} → (F → FlashState) → Seen F → Seen F → Wrote → Type 0
+Checkpoints state old new wrote.Done = SavesAll state old new
+Checkpoints state old new wrote.Failed = FailsToSave state old new
 
 -- ---- relocation
 
--- what is due in a group
-abbrev pub IsDueIn : BookSeen → ℕ → Due → Type 0
-IsDueIn b rg x = IsDue (passes_at b.pages rg) b.pages.units b.pages.owners rg x
-
--- the next live page of the victim was copied, by a fetch and a program
-pub record CollectsCopy {F : Type 0} (state : F → FlashState) (old new : Seen F) (rg : ℕ) : Type 0 where
-  pub copy : Copied
-  pub due : IsDueIn old.book rg (due.Copy copy.from)
-  pub step : Adds state old new (entries.Copied copy ∷ []) (fetch_at copy.from false ∷ program_at copy.to false ∷ [])
-
--- the copies of the pass under way were moved: the entry lists the blocks among them
-pub record CollectsMove {F : Type 0} (state : F → FlashState) (old new : Seen F) (rg : ℕ) : Type 0 where
-  pub due : IsDueIn old.book rg due.Move
-  pub step : Adds state old new (entries.Moved (record { rg = rg; blocks = moved_blocks (point_in old.book) rg }) ∷ []) []
-  pub flash : IsUncalled (state old.flash) (state new.flash)
-
--- the victim was erased
-pub record CollectsErase {F : Type 0} (state : F → FlashState) (old new : Seen F) (rg : ℕ) : Type 0 where
-  pub unit : ℕ
-  pub due : IsDueIn old.book rg (due.Erase unit)
-  pub step : Adds state old new (entries.Erased (record { unit = unit }) ∷ []) (erase_at unit false ∷ [])
-
--- nothing was due, and nothing was done
-pub record CollectsNothing {F : Type 0} (state : F → FlashState) (old new : Seen F) (rg : ℕ) : Type 0 where
-  pub due : IsDueIn old.book rg due.Nothing
-  pub step : Adds state old new [] []
-  pub pages : new.book.pages ≡ old.book.pages
-  pub flash : IsUncalled (state old.flash) (state new.flash)
-
--- a copy was due, and no unit is free for it: the group is worn out
-pub record CollectsWorn {F : Type 0} (state : F → FlashState) (old new : Seen F) (rg : ℕ) : Type 0 where
-  pub from : Spot
-  pub due : IsDueIn old.book rg (due.Copy from)
-  pub free : HasNoFree old.book.pages.units rg
-  pub step : Adds state old new (entries.Worn (record { rg = rg }) ∷ []) []
-  pub worn : IsWornOut old.handed (state new.flash) (state_of old.book.config old.book.found (old.book.entries ++ entries.Worn (record { rg = rg }) ∷ [])).is_lost rg
-  pub flash : IsUncalled (state old.flash) (state new.flash)
-
--- the last call failed; the entry tells what became of the unit, if it was lost
-pub record CollectsFault {F : Type 0} (state : F → FlashState) (old new : Seen F) (rg : ℕ) : Type 0 where
-  pub lost : Lost
+-- the next step of relocation in a group: these entries were added, with these calls, which the answer comes of; a group that is worn out is told
+-- to be
+pub record CollectsStep {F : Type 0} (state : F → FlashState) (old new : Seen F) (rg : ℕ) (x : Advance) : Type 0 where
+  pub es : List Entry
   pub calls : List Call
-  pub step : Adds state old new (told_by rg (steps.Fault lost)) calls
-  pub fails : FailsLast calls
+  pub came : ComesTo old.book old.keeper.saver new.book rg x es calls
+  pub step : Adds state old new es calls
 
--- the next step of relocation in a group
 abbrev pub Collects : {F : Type 0} → (F → FlashState) → Seen F → Seen F → ℕ → Advance → Type 0
-Collects state old new rg advance.Copied = CollectsCopy state old new rg
-Collects state old new rg advance.Moved = CollectsMove state old new rg
-Collects state old new rg advance.Erased = CollectsErase state old new rg
-Collects state old new rg advance.Nothing = CollectsNothing state old new rg
-Collects state old new rg advance.Starved = CollectsWorn state old new rg
-Collects state old new rg advance.Fault = CollectsFault state old new rg
+Collects state old new rg advance.Copied = CollectsStep state old new rg advance.Copied
+Collects state old new rg advance.Moved = CollectsStep state old new rg advance.Moved
+Collects state old new rg advance.Erased = CollectsStep state old new rg advance.Erased
+Collects state old new rg advance.Nothing = CollectsStep state old new rg advance.Nothing × IsUncalled (state old.flash) (state new.flash)
+Collects state old new rg advance.Starved = CollectsStep state old new rg advance.Starved × IsWornOut old.handed (state new.flash) (state_in new.book).is_lost rg
+Collects state old new rg advance.Fault = CollectsStep state old new rg advance.Fault

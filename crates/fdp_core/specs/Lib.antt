@@ -7,3 +7,6 @@ pub mod Passes
 pub mod Answers
 pub mod Ending
 pub mod Sound
+pub mod Stops
+pub mod Advancing
+pub mod Loading

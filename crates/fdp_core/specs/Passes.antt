@@ -16,6 +16,7 @@ use Rattle.fdp_pages.specs.PageTables.{copies_at, is_under_way, passes_at}
 use Rattle.fdp_passes.specs.Due.{next_in}
 use Rattle.fdp_relocation.specs.Entries.{AreRelocationIn, KeepsState}
 use Rattle.fdp_relocation.specs.Toil.{wanted_at, work}
+use Rattle.fdp_saving.specs.Calls.{FailAtEnd}
 use Rattle.fdp_units.specs.DataUnits.{is_free}
 use Rattle.fdp_units.specs.UnitTable.{HasNoVictim, count_in, toil_of}
 
@@ -23,14 +24,6 @@ use Rattle.fdp_units.specs.UnitTable.{HasNoVictim, count_in, toil_of}
 pub record HasNoPass (b : BookSeen) (rg : ℕ) : Type 0 where
   pub none : (passes_at b.pages rg).pass ≡ None
   pub gains : HasNoVictim b.pages.units rg
-
--- calls of which just the last failed
-pub record FailsLast (calls : List Call) : Type 0 where
-  pub before : List Call
-  pub last : Call
-  pub calls_are : calls ≡ before ++ last ∷ []
-  pub well : list_any has_failed before ≡ false
-  pub failed : last.failed ≡ true
 
 -- steps of relocation in a group
 pub record Relocates {F : Type 0} (state : F → FlashState) (old new : Seen F) (rg : ℕ) (es : List Entry) (calls : List Call) : Type 0 where
@@ -68,7 +61,7 @@ pub record FailsInPass {F : Type 0} (state : F → FlashState) (old new : Seen F
   pub es : List Entry
   pub calls : List Call
   pub relocates : Relocates state old new rg es calls
-  pub fails : FailsLast calls
+  pub fails : FailAtEnd calls
   pub room : 0 < new.book.room
 
 -- how a pass within a step ends

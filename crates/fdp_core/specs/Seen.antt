@@ -1,29 +1,30 @@
 -- A group as contracts see it, and its flash beside its history.
 use Rattle.std.specs.Prelude.{◌≡◌, ◌+◌, ◌^◌, ◌<◌, IsTrue}
 use Rattle.std.specs.List.{list_any}
-use Rattle.fdp_base.specs.declared.config.DriveConfig.{DriveConfig}
 use Rattle.fdp_base.specs.Placement.{geometry_of}
-use Rattle.fdp_book.specs.Book.{BookSeen, IsFirst, written_in}
+use Rattle.fdp_book.specs.Book.{BookSeen, written_in}
 use Rattle.fdp_flash.specs.FlashState.{FlashState}
+use Rattle.fdp_isolation.specs.Begun.{OpenedApart}
+use Rattle.fdp_keeper.specs.Keeper.{KeeperSeen}
 use Rattle.fdp_isolation.specs.Laned.{AreLaned, IsKnown}
 use Rattle.fdp_ledger.specs.declared.counts.Counts.{Counts}
-use Rattle.fdp_ledger.specs.Counted.{counts_of}
 use Rattle.fdp_ledger.specs.Told.{is_media_reply}
 use Rattle.fdp_locations.specs.Stored.{HoldsWritten}
+use Rattle.fdp_relocation.specs.Collected.{Stage}
 use Rattle.fdp_rules.specs.Legal.{IsLegal}
 
 pub record Seen (F : Type 0) : Type 0 where
   -- the history, what is kept of the pages, and the steps for which there is room
   pub book : BookSeen
+  -- what saves the drive: its system areas, what a checkpoint says, and how many entries of the history are firm
+  pub keeper : KeeperSeen
   -- what the flash had counted when it was handed in
   pub handed : Counts
   pub flash : F
 
--- a group before its first command
-pub record IsNewOver {F : Type 0} (state : F → FlashState) (c : DriveConfig) (flash : F) (group : Seen F) : Type 0 where
-  pub book : IsFirst c group.book
-  pub handed_is : group.handed ≡ counts_of (state flash)
-  pub flash_is : group.flash ≡ flash
+-- the parts with which relocation works
+abbrev pub stage_of : {F : Type 0} → Seen F → Stage F
+stage_of s = record { book = s.book; keeper = s.keeper; flash = s.flash }
 
 -- the count of calls stands below its last value, so that each call has a moment of its own
 abbrev pub HasMoments : FlashState → Type 0
@@ -37,9 +38,9 @@ IsLegalOver flash b = (IsTrue (list_any is_media_reply b.entries) → HasMoments
 abbrev pub HoldsHistory : FlashState → BookSeen → Type 0
 HoldsHistory flash b = IsTrue flash.told → HoldsWritten flash.geometry flash.cells (written_in b) b.pages.units
 
--- where the cells are told, data stands apart in them
+-- where the cells are told, and kept the data apart when the run began, data stands apart in them
 abbrev pub KeepsApart : FlashState → BookSeen → Type 0
-KeepsApart flash b = IsTrue flash.told → AreLaned b flash.cells
+KeepsApart flash b = IsTrue flash.told → OpenedApart b.config b.found b.opened → AreLaned b flash.cells
 
 -- a book in order, over a flash that is cut as configured and holds the history
 pub record Stands (flash : FlashState) (b : BookSeen) : Type 0 where

@@ -1,11 +1,14 @@
 -- How the parts of a group stand for its history.
-use Rattle.std.specs.Prelude.{◌≡◌, ℕ, List, length}
+use Rattle.std.specs.Prelude.{◌≡◌, ℕ, ◌+◌, ◌^◌, ◌≤◌, true, List, length}
+use Rattle.fdp_base.specs.Counts.{Rose}
 use Rattle.fdp_base.specs.Placement.{geometry_of}
 use Rattle.fdp_book.specs.Book.{BookSeen}
 use Rattle.fdp_core.specs.Seen.{HoldsHistory, IsLegalOver, KeepsApart}
 use Rattle.fdp_flash.specs.FlashState.{FlashState}
+use Rattle.fdp_keeper.specs.Keeper.{IsKeeperOf, KeeperSeen}
 use Rattle.fdp_ledger.specs.declared.counts.Counts.{Counts}
 use Rattle.fdp_ledger.specs.Ledger.{IsLedger}
+use Rattle.fdp_survival.specs.Books.{IsSafe}
 
 -- the flash is cut as configured; the history is legal, and the flash holds it, keeps data apart, and has counted what it tells; there is a buffer for a block
 pub record IsSound (handed : Counts) (flash : FlashState) (b : BookSeen) (block : List ℕ) : Type 0 where
@@ -15,3 +18,16 @@ pub record IsSound (handed : Counts) (flash : FlashState) (b : BookSeen) (block 
   pub apart : KeepsApart flash b
   pub ledger : IsLedger handed b flash
   pub buffer : length block ≡ b.config.block
+
+-- What saves the drive stands for its history, and no stop loses a firm entry. The epoch of the system areas is far below the last value, and
+-- they are in doubt only where a fault was counted.
+pub record IsKept (handed : Counts) (flash : FlashState) (b : BookSeen) (k : KeeperSeen) : Type 0 where
+  pub keeper : IsKeeperOf b k
+  pub safe : IsSafe b k.saver k.firm flash
+  pub epochs : k.saver.stamp.epoch ≤ 2 ^ 62 + length b.entries + b.spent
+  pub doubt : k.saver.in_doubt ≡ true → Rose handed.faults flash.faults
+
+-- both
+pub record IsWhole (handed : Counts) (flash : FlashState) (b : BookSeen) (k : KeeperSeen) (block : List ℕ) : Type 0 where
+  pub sound : IsSound handed flash b block
+  pub kept : IsKept handed flash b k

@@ -1,7 +1,9 @@
 -- What a step of a group adds to its history.
-use Rattle.std.specs.Prelude.{◌≡◌, ℕ, ◌+◌, IsTrue, List, [], ◌∷◌, ◌++◌}
+use Rattle.std.specs.Prelude.{◌≡◌, ◌≢◌, ℕ, ◌+◌, false, IsTrue, List, [], ◌∷◌, ◌++◌}
 use Rattle.std.specs.List.{list_any}
 use Rattle.fdp_base.specs.declared.command.Command.{Command}
+use Rattle.fdp_base.specs.declared.command.Command.TheVariants as commands
+use Rattle.fdp_base.specs.declared.command.GetLog.{GetLog}
 use Rattle.fdp_base.specs.declared.entry.Entry.{Entry}
 use Rattle.fdp_base.specs.declared.entry.Entry.TheVariants as entries
 use Rattle.fdp_base.specs.CommandKinds.{IsWellFormed}
@@ -9,7 +11,6 @@ use Rattle.fdp_book.specs.declared.ticket.Done.{Done}
 use Rattle.fdp_book.specs.Book.{BookSeen, IsLonger, position_in, state_in}
 use Rattle.fdp_book.specs.Room.{RoomSeen, room_for}
 use Rattle.fdp_book.specs.Stages.{IsFree}
-use Rattle.fdp_book.specs.Steps.{IsServed}
 use Rattle.fdp_calls.specs.Calls.{FailedAt, MakesCalls, counted_more, has_failed}
 use Rattle.fdp_core.specs.Seen.{Seen}
 use Rattle.fdp_flash.specs.FlashState.{Call, FlashState}
@@ -19,10 +20,10 @@ use Rattle.fdp_rules.specs.Change.{is_media_error}
 use Rattle.fdp_rules.specs.Step.{IsQueue}
 use Rattle.fdp_rules.specs.Totals.{media_blocks}
 
--- a command may be begun in a queue under a number, with this room
+-- a command may be begun in a queue under a number, with this room: any but a log
 pub record MayBegin {F : Type 0} (group : Seen F) (queue number : ℕ) (command : Command) (room : RoomSeen) : Type 0 where
   pub queue_is : IsQueue group.book.config queue
-  pub served : IsServed command
+  pub served : (log : GetLog) → command ≢ commands.Log log
   pub formed : IsWellFormed group.book.config command
   pub free : IsFree (state_in group.book) queue number
   pub room_is : room ≡ room_for command group.book.config
@@ -63,11 +64,11 @@ pub record Extends {F : Type 0} (state : F → FlashState) (old new : Seen F) (e
   pub handed_is : new.handed ≡ old.handed
   pub matches : Matches (state old.flash) (state new.flash) es calls
 
--- A step completes a command: it adds its Host entry, behind other entries, with the flash's moment. A call of the step failed exactly where
--- the reply tells of a media error, and then one failed at that moment.
+-- A step completes a command: it adds its Host entry, behind other entries. A call of the step failed exactly where the reply tells of a
+-- media error, and then one failed at the moment of the entry; else that is the flash's moment.
 pub record Completes {F : Type 0} (state : F → FlashState) (old new : Seen F) (before : List Entry) (queue number : ℕ) (command : Command) (calls : List Call) (done : Done) : Type 0 where
   pub step : Adds state old new (before ++ entries.Host (record { queue = queue; number = number; command = command; reply = done.reply; moment = done.moment }) ∷ []) calls
   pub position_is : done.position ≡ position_in new.book
-  pub moment_is : done.moment ≡ (state new.flash).moment
+  pub moment_is : is_media_error done.reply.status ≡ false → done.moment ≡ (state new.flash).moment
   pub failed_is : list_any has_failed calls ≡ is_media_error done.reply.status
   pub media : IsTrue (is_media_error done.reply.status) → FailedAt (state old.flash) (state new.flash) done.moment

@@ -1,13 +1,16 @@
 ghost use Rattle.std.specs.Prelude.{◌≡◌, ◌↔◌, ◌+◌, ◌*◌, ◌≤◌, ◌<◌, ◌^◌, IsTrue, length, not, OnOk, OnErr, IfOk};
 ghost use Rattle.fdp_base.specs.Config.{IsValidConfig};
-ghost use Rattle.fdp_base.specs.Placement.{geometry_of};
 ghost use Rattle.fdp_book.specs.Book.{point_in, state_in};
 ghost use Rattle.fdp_book.specs.Stages.{IsFree, IsStage};
 ghost use Rattle.fdp_book.specs.Steps.{IsFlying};
-ghost use Rattle.fdp_core.specs.Seen.{HoldsHistory, IsLegalOver, IsNewOver};
-ghost use Rattle.fdp_flash.specs.Cells.{IsBlankFlash};
+ghost use Rattle.fdp_core.specs.Seen.{HoldsHistory, IsLegalOver};
+ghost use Rattle.fdp_image.specs.Kept.{AreFirm, StandsForBeginning};
+ghost use Rattle.fdp_keeper.specs.Keeper.{CanSave};
+ghost use Rattle.fdp_survival.specs.Books.{IsInOrder};
+ghost use Rattle.fdp_isolation.specs.Begun.{OpenedApart};
 ghost use Rattle.fdp_isolation.specs.Isolated.{IsIsolatedDrive};
 ghost use Rattle.fdp_ledger.specs.Counted.{CountedSince};
+ghost use Rattle.fdp_ledger.specs.Start.{start_of};
 ghost use Rattle.fdp_locations.specs.Located.{AreUnitsOf};
 ghost use Rattle.fdp_pages.specs.Joined.{AreJoined};
 ghost use Rattle.fdp_rules.specs.History.{totals_of};
@@ -17,14 +20,19 @@ ghost use Rattle.fdp_units.specs.UnitTable.{toil_of};
 use fdp_base::{DriveConfig, Entry, Totals};
 use fdp_book::{Book, Stage, Ticket};
 use fdp_flash::Flash;
-use fdp_ledger::{Counts, counts_of};
+use fdp_keeper::Keeper;
+use fdp_ledger::Counts;
 use fdp_trails::toil_is_what_can_be_won;
-use std::alloc::{AllocError, Global};
+use std::alloc::AllocError;
 use std::marker::Model;
 
+mod answer;
+mod change;
+mod checkpoint;
 mod collect;
 mod commit;
 mod end;
+mod load;
 mod pass;
 mod place;
 mod read;
@@ -35,6 +43,8 @@ mod start;
 pub struct Group<F: Flash> {
     flash: F,
     book: Book,
+    /// What saves the drive in the system areas of its flash.
+    keeper: Keeper,
     /// What the flash had counted when it was handed in.
     handed: Counts,
     /// A block on its way to the flash.
@@ -46,33 +56,11 @@ impl<F: Flash> Model for Group<F> {
 
     ghost Value = { Seen F };
 
-    ghost use Rattle.fdp_core.specs.Sound.{IsSound};
+    ghost use Rattle.fdp_core.specs.Sound.{IsWhole};
 
-    ghost view = { λ g. record { book = g.book; handed = g.handed; flash = g.flash } };
+    ghost view = { λ g. record { book = g.book; keeper = g.keeper; handed = g.handed; flash = g.flash } };
 
-    ghost invariant = { λ g. IsSound g.handed (F.state g.flash) g.book g.block.items };
-}
-
-impl<F: Flash + Drop> Group<F> {
-    /// The drive as its configuration makes it, over a flash that is blank. It takes a place for each block of its namespaces, and for
-    /// each page of data.
-    pub fn fresh(alloc: Global, flash: F, config: &DriveConfig) -> Result<Group<F>, AllocError>
-        requires config { IsValidConfig config.now }
-        requires geometry { (F.state flash).geometry ≡ geometry_of config.now }
-        requires blank { IsTrue (F.state flash).told → IsBlankFlash (geometry_of config.now) (F.state flash).cells }
-        ensures { IfOk result (λ group. IsNewOver F.state config.now flash group) }
-    {
-        let block = vec![in alloc; 0; config.block as usize]?;
-        let book = Book::fresh(alloc, config)?;
-        book.known();
-        let handed = counts_of(&flash);
-        Ok(Group {
-            flash,
-            book,
-            handed,
-            block,
-        })
-    }
+    ghost invariant = { λ g. IsWhole g.handed (F.state g.flash) g.book g.keeper g.block.items };
 }
 
 impl<F: Flash> Group<F> {
@@ -112,14 +100,23 @@ impl<F: Flash> Group<F> {
     /// The history, oldest entry first.
     pub fn entries(&self) -> &[Entry]
         ensures entries { result.now ≡ self.now.book.entries }
-        ensures few { length result.now ≤ 300 * self.now.book.spent }
+        ensures few { length result.now ≤ 300 * self.now.book.spent + 1 }
         ensures legal { IsLegalOver (F.state self.now.flash) self.now.book }
         ensures cells { HoldsHistory (F.state self.now.flash) self.now.book }
-        ensures apart { IsTrue (F.state self.now.flash).told → IsIsolatedDrive self.now.book.config (point_in self.now.book) self.now.book.entries (F.state self.now.flash).cells }
-        ensures counted { CountedSince self.now.handed (F.state self.now.flash) self.now.book.entries }
+        ensures apart { IsTrue (F.state self.now.flash).told → OpenedApart self.now.book.config self.now.book.found self.now.book.opened → IsIsolatedDrive self.now.book.config (point_in self.now.book) self.now.book.entries (F.state self.now.flash).cells }
+        ensures counted { CountedSince self.now.handed (F.state self.now.flash) (start_of self.now.book) self.now.book.entries }
+        ensures firm { AreFirm self.now.book.entries self.now.keeper.firm }
+        ensures stands { IsTrue (F.state self.now.flash).told → StandsForBeginning self.now.book.config self.now.book.found self.now.book.entries self.now.keeper.firm (F.state self.now.flash).cells }
     {
         self.book.known();
         self.book.entries()
+    }
+
+    /// How many entries no stop can lose, whatever the flash leaves: each completed change is among them.
+    pub fn firm(&self) -> u64
+        ensures { result ≡ self.now.keeper.firm }
+    {
+        self.keeper.firm()
     }
 
     /// The position of the first entry of this run.
@@ -180,19 +177,33 @@ impl<F: Flash> Group<F> {
         let _queue = ticket.give_up();
     }
 
+    /// What a saving needs is there: the book is in order, and what is kept to save the drive is that of its history and of its flash.
+    fn can_save(&self)
+        ensures order { IsInOrder self.now.book }
+        ensures can { CanSave self.now.book self.now.keeper (F.state self.now.flash) }
+    {
+        self.book.known();
+        self.book.counted();
+        // Read, so that its range is known.
+        let _spent = self.book.spent();
+    }
+
     /// Gives the flash and the history back.
     pub fn finish(self) -> (F, Vec<Entry>)
         ensures flash { result.0 ≡ self.flash }
         ensures entries { result.1.items ≡ self.book.entries }
         ensures legal { IsLegalOver (F.state self.flash) self.book }
         ensures cells { HoldsHistory (F.state self.flash) self.book }
-        ensures apart { IsTrue (F.state self.flash).told → IsIsolatedDrive self.book.config (point_in self.book) self.book.entries (F.state self.flash).cells }
-        ensures counted { CountedSince self.handed (F.state self.flash) self.book.entries }
+        ensures apart { IsTrue (F.state self.flash).told → OpenedApart self.book.config self.book.found self.book.opened → IsIsolatedDrive self.book.config (point_in self.book) self.book.entries (F.state self.flash).cells }
+        ensures counted { CountedSince self.handed (F.state self.flash) (start_of self.book) self.book.entries }
+        ensures firm { AreFirm self.book.entries self.keeper.firm }
+        ensures stands { IsTrue (F.state self.flash).told → StandsForBeginning self.book.config self.book.found self.book.entries self.keeper.firm (F.state self.flash).cells }
     {
         self.book.known();
         let Group {
             flash,
             book,
+            keeper: _,
             handed: _,
             block: _,
         } = self;

@@ -4,7 +4,11 @@
 
 mod answer;
 mod group;
+mod laws;
+mod loaded;
 
 pub use answer::{Begun, Placed};
 pub use fdp_relocation::Advance;
 pub use group::Group;
+pub use laws::a_saving_is_one_call;
+pub use loaded::NotLoaded;

@@ -1,5 +1,6 @@
 ghost use Rattle.std.specs.Prelude.{◌<◌};
 ghost use Rattle.fdp_core.specs.Answers.{Collects};
+ghost use Rattle.fdp_core.specs.Stops.{OutlastsStops};
 
 use super::Group;
 use fdp_flash::Flash;
@@ -11,7 +12,8 @@ impl<F: Flash> Group<F> {
     pub fn collect(&mut self, rg: u16) -> Advance
         requires group { rg < self.old.book.config.groups }
         requires spare { 0 < self.old.book.spare }
-        ensures { Collects F.state self.old self.new rg result }
+        ensures step { Collects F.state self.old self.new rg result }
+        ensures stops { OutlastsStops F.state self.old self.new }
     {
         self.book.begin();
         let advance = self.advance(rg);

@@ -5,7 +5,10 @@ ghost use Rattle.fdp_book.specs.Tickets.{IsTicketOf};
 ghost use Rattle.fdp_core.specs.Answers.{EndsAlone};
 ghost use Rattle.fdp_core.specs.Ending.{Ends, MayEnd};
 ghost use Rattle.fdp_rules.specs.Answer.{bare};
-ghost use Rattle.fdp_rules.specs.Change.{is_media_error};
+ghost use Rattle.fdp_rules.specs.Change.{is_media_error, is_status};
+ghost use Rattle.fdp_base.specs.declared.status.TheConstants.Status as statuses;
+ghost use Rattle.fdp_core.specs.Stops.{Outlasts, OutlastsStops};
+ghost use Rattle.fdp_survival.specs.Books.{IsSafe};
 ghost use Rattle.fdp_rules.specs.PlainState.{Going};
 
 use super::Group;
@@ -19,8 +22,10 @@ impl<F: Flash> Group<F> {
         requires going { IsFlying self.old.book ticket }
         requires spare { 0 < self.old.book.spare }
         requires fine { is_media_error status ≡ false }
+        requires failed { is_status status statuses.SUCCESS ≡ false }
         requires may { (g : Going) → IsTicketOf (state_in self.old.book) ticket g → MayEnd F.state self.old g status }
-        ensures { (g : Going) → IsTicketOf (state_in self.old.book) ticket g → EndsAlone F.state self.old self.new ticket g (bare status false) result }
+        ensures step { (g : Going) → IsTicketOf (state_in self.old.book) ticket g → EndsAlone F.state self.old self.new ticket g (bare status false) result }
+        ensures stops { OutlastsStops F.state self.old self.new }
     {
         self.book.begin();
         self.end(ticket, status)
@@ -30,8 +35,11 @@ impl<F: Flash> Group<F> {
     pub(super) fn end(&mut self, ticket: Ticket, status: Status) -> Done
         requires going { IsFlying self.old.book ticket }
         requires room { 0 < self.old.book.room }
+        requires failed { is_status status statuses.SUCCESS ≡ false }
         requires may { (g : Going) → IsTicketOf (state_in self.old.book) ticket g → MayEnd F.state self.old g status }
-        ensures { (g : Going) → IsTicketOf (state_in self.old.book) ticket g → Ends F.state self.old self.new ticket g status result }
+        ensures step { (g : Going) → IsTicketOf (state_in self.old.book) ticket g → Ends F.state self.old self.new ticket g status result }
+        ensures stops { Outlasts F.state self.old self.new }
+        ensures safe { IsSafe self.new.book self.new.keeper.saver self.new.keeper.firm (F.state self.new.flash) }
     {
         let moment = self.flash.moment();
         self.book.known();

@@ -1,13 +1,14 @@
-ghost use Rattle.std.specs.Prelude.{◌≡◌, ◌<◌, IsTrue};
+ghost use Rattle.std.specs.Prelude.{◌+◌, ◌≤◌, ◌<◌, IsTrue, length};
 ghost use Rattle.fdp_core.specs.Passes.{EndsPass, EndsRest, MayBeginPass, MayEndPass};
-ghost use Rattle.fdp_core.specs.Seen.{Stands};
-ghost use Rattle.fdp_flash.specs.Runs.{Runs};
+ghost use Rattle.fdp_core.specs.Seen.{Stands, stage_of};
+ghost use Rattle.fdp_core.specs.Stops.{Outlasts};
 ghost use Rattle.fdp_isolation.specs.Laned.{IsKnown};
-ghost use Rattle.fdp_ledger.specs.Ledger.{IsLedger};
 ghost use Rattle.fdp_pages.specs.PageTables.{passes_at};
 ghost use Rattle.fdp_passes.specs.declared.due.Due.TheVariants.{Move};
 ghost use Rattle.fdp_passes.specs.Due.{IsDue};
+ghost use Rattle.fdp_core.specs.Advancing.{Advances, TellsMore};
 ghost use Rattle.fdp_relocation.specs.Collected.{Collects};
+ghost use Rattle.fdp_survival.specs.Books.{IsSafe};
 
 use super::Group;
 use fdp_flash::Flash;
@@ -31,7 +32,9 @@ impl<F: Flash> Group<F> {
     /// most once.
     pub(super) fn make_pass(&mut self, rg: u16) -> PassEnd
         requires may { MayBeginPass self.old.book rg }
-        ensures { EndsPass F.state self.old self.new rg result }
+        ensures step { EndsPass F.state self.old self.new rg result }
+        ensures stops { Outlasts F.state self.old self.new }
+        ensures safe { IsSafe self.new.book self.new.keeper.saver self.new.keeper.firm (F.state self.new.flash) }
     {
         match self.advance(rg) {
             Advance::Copied => self.end_pass(rg),
@@ -46,7 +49,9 @@ impl<F: Flash> Group<F> {
     /// Ends the pass under way in a group.
     fn end_pass(&mut self, rg: u16) -> PassEnd
         requires may { MayEndPass self.old.book rg }
-        ensures { EndsRest F.state self.old self.new rg result }
+        ensures step { EndsRest F.state self.old self.new rg result }
+        ensures stops { Outlasts F.state self.old self.new }
+        ensures safe { IsSafe self.new.book self.new.keeper.saver self.new.keeper.firm (F.state self.new.flash) }
     {
         loop {
             match self.advance(rg) {
@@ -65,15 +70,23 @@ impl<F: Flash> Group<F> {
         requires group { rg < self.old.book.config.groups }
         requires room { 0 < self.old.book.room }
         requires may_move { IsDue (passes_at self.old.book.pages rg) self.old.book.pages.units self.old.book.pages.owners rg Move → IsTrue self.old.book.may_move }
-        ensures step { Collects self.old.book self.new.book (F.state self.old.flash) (F.state self.new.flash) rg result }
-        ensures handed { self.new.handed ≡ self.old.handed }
-        ensures run { Runs (F.state self.old.flash) (F.state self.new.flash) (λ m image. Unit {0}) }
+        ensures step { Advances F.state self.old self.new rg result }
+        ensures collects { Collects F.state (stage_of self.old) (stage_of self.new) rg result }
+        ensures told { TellsMore F.state self.old self.new rg result }
+        ensures stops { Outlasts F.state self.old self.new }
+        ensures safe { IsSafe self.new.book self.new.keeper.saver self.new.keeper.firm (F.state self.new.flash) }
+        ensures epochs { self.new.keeper.saver.stamp.epoch + length self.old.book.entries ≤ self.old.keeper.saver.stamp.epoch + length self.new.book.entries }
         ensures old { Stands (F.state self.old.flash) self.old.book }
         ensures new { IsKnown self.new.book }
-        ensures ledger { IsLedger self.new.handed self.new.book (F.state self.new.flash) }
     {
-        self.book.known();
-        let advance = collect(&mut self.book, &mut self.flash, &mut self.block, rg);
+        self.can_save();
+        let advance = collect(
+            &mut self.book,
+            &mut self.keeper,
+            &mut self.flash,
+            &mut self.block,
+            rg,
+        );
         self.book.known();
         advance
     }

@@ -3,13 +3,14 @@ ghost use Rattle.fdp_book.specs.Book.{state_in};
 ghost use Rattle.fdp_book.specs.Steps.{IsWaiting};
 ghost use Rattle.fdp_book.specs.Tickets.{ComesTo, IsTicketOf, WantsUnit};
 ghost use Rattle.fdp_core.specs.Answers.{Places};
+ghost use Rattle.fdp_core.specs.Stops.{OutlastsStops};
 ghost use Rattle.fdp_rules.specs.PlainState.{Going};
 
 use super::Group;
 use super::pass::PassEnd;
 use crate::answer::Placed;
 use fdp_base::{Spot, Status};
-use fdp_book::{NextPage, Ticket};
+use fdp_book::{NextPage, Ticket, WritePlace};
 use fdp_calls::{MediaError, program};
 use fdp_flash::Flash;
 
@@ -20,7 +21,8 @@ impl<F: Flash> Group<F> {
     pub fn place(&mut self, ticket: Ticket) -> Placed
         requires ticket { IsWaiting self.old.book ticket }
         requires spare { 0 < self.old.book.spare }
-        ensures { (g : Going) → IsTicketOf (state_in self.old.book) ticket g → Places F.state self.old self.new ticket g result }
+        ensures step { (g : Going) → IsTicketOf (state_in self.old.book) ticket g → Places F.state self.old self.new ticket g result }
+        ensures stops { OutlastsStops F.state self.old self.new }
     {
         match self.book.next_page(&ticket) {
             NextPage::Gone => Placed::Ended(self.end_alone(ticket, Status::INVALID_NAMESPACE)),
@@ -34,7 +36,8 @@ impl<F: Flash> Group<F> {
         requires ticket { IsWaiting self.old.book ticket }
         requires wants { (g : Going) → IsTicketOf (state_in self.old.book) ticket g → WantsUnit self.old.book g }
         requires spare { 0 < self.old.book.spare }
-        ensures { (g : Going) → IsTicketOf (state_in self.old.book) ticket g → Places F.state self.old self.new ticket g result }
+        ensures step { (g : Going) → IsTicketOf (state_in self.old.book) ticket g → Places F.state self.old self.new ticket g result }
+        ensures stops { OutlastsStops F.state self.old self.new }
     {
         self.book.known();
         let rg = self.book.group(&ticket);
@@ -53,9 +56,10 @@ impl<F: Flash> Group<F> {
         requires ticket { IsWaiting self.old.book ticket }
         requires next { (g : Going) → IsTicketOf (state_in self.old.book) ticket g → ComesTo self.old.book ticket g (NextPage.At spot index spare.now) }
         requires spare { 0 < self.old.book.spare }
-        ensures { (g : Going) → IsTicketOf (state_in self.old.book) ticket g → Places F.state self.old self.new ticket g result }
+        ensures step { (g : Going) → IsTicketOf (state_in self.old.book) ticket g → Places F.state self.old self.new ticket g result }
+        ensures stops { OutlastsStops F.state self.old self.new }
     {
-        self.book.known();
+        self.can_save();
         let payload = self.book.payload(&ticket);
         let programmed = program(
             &mut self.flash,
@@ -65,9 +69,9 @@ impl<F: Flash> Group<F> {
             index,
             &mut self.block,
         );
-        self.book.begin();
         match programmed {
             Ok(()) => {
+                self.book.begin();
                 let last = self.book.place(&ticket, spot);
                 self.book.known();
                 if last {
@@ -78,6 +82,10 @@ impl<F: Flash> Group<F> {
             }
             Err(MediaError) => {
                 let moment = self.flash.moment();
+                let WritePlace { rg, ruh } = self.book.place_of_write(&ticket);
+                // Whether the saving fails or not, the handle is shut.
+                let _saved = self.keeper.save_shut(&mut self.flash, &self.book, rg, ruh);
+                self.book.begin();
                 let status = Status::WRITE_FAULT;
                 let done = self.book.end_shut(ticket, spot, status, moment);
                 self.book.known();

@@ -10,6 +10,7 @@ ghost use Rattle.fdp_core.specs.Answers.{EndsAtOnce};
 ghost use Rattle.fdp_core.specs.Fetches.{FailsToFetch, MakesFetches, fetches_of, pages_of};
 ghost use Rattle.fdp_core.specs.ReadSteps.{ReadsAll, blocks_from};
 ghost use Rattle.fdp_core.specs.Seen.{HoldsHistory};
+ghost use Rattle.fdp_core.specs.Stops.{OutlastsStops};
 ghost use Rattle.fdp_rules.specs.Answer.{read_block};
 ghost use Rattle.fdp_rules.specs.Refusal.{refusal_of};
 ghost use Rattle.fdp_rules.specs.Step.{IsQueue};
@@ -37,7 +38,8 @@ impl<F: Flash> Group<F> {
         requires range { read.slba + read.count < 2 ^ 64 }
         requires room { room ≡ room_for command self.old.book.config }
         requires spare { 0 < self.old.book.spare }
-        ensures { EndsAtOnce F.state self.old self.new queue number command result }
+        ensures step { EndsAtOnce F.state self.old self.new queue number command result }
+        ensures stops { OutlastsStops F.state self.old self.new }
     {
         self.book.known();
         let replies = read_replies(&mut self.flash, &self.book, read, room);

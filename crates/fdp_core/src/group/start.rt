@@ -1,5 +1,6 @@
 ghost use Rattle.std.specs.Prelude.{◌<◌};
 ghost use Rattle.fdp_core.specs.Answers.{Begins};
+ghost use Rattle.fdp_core.specs.Stops.{OutlastsStops};
 ghost use Rattle.fdp_core.specs.Steps.{MayBegin};
 
 use super::Group;
@@ -9,12 +10,13 @@ use fdp_book::{FirstStep, Room};
 use fdp_flash::Flash;
 
 impl<F: Flash> Group<F> {
-    /// The first step of a write or a read: it refuses it, reads for it, or starts it. It looks at each group, and at each block
-    /// of the command.
+    /// The first step of a command: it refuses it, reads for it, answers it, saves its change and makes it, or, where it is a write, starts it.
+    /// It looks at each group, and at each block that the command names; a delete at each block of its namespace.
     pub fn start(&mut self, queue: u8, number: u16, command: Command, room: Room) -> Begun
         requires may { MayBegin self.old queue number command room }
         requires spare { 0 < self.old.book.spare }
-        ensures { Begins F.state self.old self.new queue number command result }
+        ensures step { Begins F.state self.old self.new queue number command result }
+        ensures stops { OutlastsStops F.state self.old self.new }
     {
         self.book.known();
         match self.book.first_step(&command) {
@@ -27,6 +29,9 @@ impl<F: Flash> Group<F> {
                 Begun::Ended(done)
             }
             FirstStep::Read(read) => Begun::Ended(self.read(queue, number, command, read, room)),
+            FirstStep::Answered => Begun::Ended(self.answer(queue, number, command, room)),
+            FirstStep::Saved => Begun::Ended(self.change(queue, number, command, room)),
+            FirstStep::Log(_) => unreachable!(),
             FirstStep::Write(admission) => {
                 self.book.begin();
                 let ticket = self.book.start(queue, number, command, admission, room);

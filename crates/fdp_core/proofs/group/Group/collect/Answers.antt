@@ -1,69 +1,131 @@
-use Rattle.std.proofs.Common.{◌≡◌, ◌<◌, ℕ, true, false, refl, sym, subst, ap, ◌∙◌}
-use Rattle.std.specs.Prelude.{IsTrue, ◌==◌}
-use Rattle.fdp_book.specs.Book.{BookSeen, state_in}
+use Rattle.std.proofs.Common.{◌≡◌, ◌<◌, ℕ, true, false, refl, sym, subst, ap, ◌∙◌, arith, List}
+use Rattle.std.specs.Prelude.{IsTrue, ◌==◌, ◌+◌, ◌≤◌, length}
+use Rattle.fdp_book.specs.Book.{BookSeen, IsLonger, state_in}
+use Rattle.fdp_core.specs.Advancing.{Advances, TellsMore}
 use Rattle.fdp_core.specs.Answers as answers
-use Rattle.fdp_core.specs.Seen.{Seen, Stands}
-use Rattle.fdp_core.specs.Sound.{IsSound}
+use Rattle.fdp_core.specs.Seen.{Seen, stage_of}
+use Rattle.fdp_core.specs.Sound.{IsWhole}
 use Rattle.fdp_core.specs.Steps.{IsGrown}
-use Rattle.fdp_core.proofs.Collecting.{cancelled, collected, grown-cancelled, grown-kept, may-still, sound-cancelled}
-use Rattle.fdp_core.proofs.Passing.{entries_made, longer-made}
-use Rattle.fdp_core.proofs.Sound.{begun, sound-begun}
-use Rattle.fdp_flash.specs.FlashState.{FlashState}
-use Rattle.fdp_flash.specs.Runs.{Runs}
-use Rattle.fdp_isolation.specs.Laned.{IsKnown}
-use Rattle.fdp_ledger.specs.Ledger.{IsLedger}
-use Rattle.fdp_locations.proofs.Others.{is-group}
+use Rattle.fdp_core.specs.Stops.{Outlasts, OutlastsStops}
+use Rattle.fdp_core.proofs.Collecting.{cancelled, cancelled-epochs, collect-stops, collected, from-begun, grown-cancelled, grown-kept, may-still, sound-cancelled}
+use Rattle.fdp_core.proofs.Kept.{kept-alike}
+use Rattle.fdp_core.proofs.Outlasting.{outlasts-all}
+use Rattle.fdp_core.proofs.Rooms.{begun_seen}
+use Rattle.fdp_core.proofs.Sound.{begun}
+use Rattle.fdp_core.proofs.Wholes.{unbegun, whole-begun}
 use Rattle.fdp_relocation.specs.declared.advance.Advance.{Advance}
 use Rattle.fdp_relocation.specs.Collected.{Collects}
+use Rattle.fdp_survival.specs.Books.{IsSafe}
+use Rattle.fdp_core.proofs.group.Group.collect.Given.{Over}
 use Rattle.fdp_core.proofs.group.Group.collect.Goals as goal
+use Rattle.fdp_image.specs.Kept.{AreFirm, IsStopSafe}
+use Rattle.fdp_base.specs.declared.entry.Entry.{Entry}
+use Rattle.fdp_flash.specs.FlashState.{FlashState}
+use Rattle.fdp_keeper.specs.Keeper.{KeeperSeen}
 
 pub invariant_of-self : goal.invariant_of-self
-invariant_of-self g c = subst (λ (b : BookSeen). IsSound c.self.inside.handed (g.F.Flash.state c.self.inside.flash) b c.self.inside.block.items) (sym c.begin.ensures) (sound-begun c.self.inside.handed (g.F.Flash.state c.self.inside.flash) c.self.inside.book c.self.inside.block.items c.self.invariant)
+invariant_of-self g c =
+    let inside = c.self.inside in
+    let f = g.F.Flash.state inside.flash in
+    subst (λ (b : BookSeen). IsWhole inside.handed f b inside.keeper inside.block.items) (sym c.begin.ensures) (whole-begun inside.handed f inside.book inside.keeper inside.block.items c.self.invariant)
+
+-- ---- nothing was added
 
 pub cancel-requires-clause-may_move : goal.cancel-requires-clause-may_move
 cancel-requires-clause-may_move g c =
-    let step = subst (λ (b : BookSeen). Collects b c.advance-advance.new.self.book (g.F.Flash.state c.self.inside.flash) (g.F.Flash.state c.advance-advance.new.self.flash) c.args.rg c.advance-advance.result) c.begin.ensures c.advance-advance.ensures.step in
+    let state = g.F.Flash.state in
+    let old : Seen g.row.F.Denot = record { book = c.self.inside.book; keeper = c.self.inside.keeper; handed = c.self.inside.handed; flash = c.self.inside.flash } in
+    let mid = c.advance-advance.new.self in
+    let collects = from-begun old c.begin.new.self (λ s. Collects state (stage_of s) (stage_of mid) c.args.rg c.advance-advance.result) c.begin.ensures c.advance-advance.ensures.collects in
     let full = subst (λ (s : Seen g.row.F.Denot). (s.book.room == 300) ≡ true) c.self-2.view_is (sym c.has_added_nothing.ensures ∙ c.if-has_added_nothing.true) in
-    subst (λ (s : Seen g.row.F.Denot). IsTrue s.book.may_move) (sym c.self-2.view_is) (may-still c.self.inside.book c.advance-advance.new.self.book (g.F.Flash.state c.self.inside.flash) (g.F.Flash.state c.advance-advance.new.self.flash) c.args.rg c.advance-advance.result step full)
+    subst (λ (s : Seen g.row.F.Denot). IsTrue s.book.may_move) (sym c.self-2.view_is) (may-still state (begun_seen old) mid c.args.rg c.advance-advance.result collects refl refl full)
+
+-- the step, by the group behind it as it was opened
+is-mid : {F : Type 0} (state : F → FlashState) (old mid new : Seen F) (now : BookSeen) (rg : ℕ) (x : Advance) → now ≡ begun old.book → Advances state (record { book = now; keeper = old.keeper; handed = old.handed; flash = old.flash }) mid rg x →
+    TellsMore state (record { book = now; keeper = old.keeper; handed = old.handed; flash = old.flash }) mid rg x → new.handed ≡ old.handed → new.flash ≡ mid.flash → new.book.pages ≡ mid.book.pages → state_in new.book ≡ state_in mid.book →
+    ((a : Advances state (begun_seen old) mid rg x) → IsGrown old.book new.book a.es) → answers.Collects state old new rg x
+is-mid state old mid new now rg x is step told handed flash pages same grown =
+    let a = from-begun old now (λ s. Advances state s mid rg x) is step in
+    collected state old mid new rg handed flash pages same x a (from-begun old now (λ s. TellsMore state s mid rg x) is told) (grown a)
+
+-- a flash that is the same one is counted as the same
+stops-mid : {F : Type 0} (state : F → FlashState) (old mid new : Seen F) → new.keeper ≡ mid.keeper → new.flash ≡ mid.flash → new.book.entries ≡ mid.book.entries → OutlastsStops state old mid → OutlastsStops state old new
+stops-mid {F} state old mid new keeper flash entries_are h = record {
+  stops =
+      subst (λ (x : F). IsStopSafe old.book.config old.book.found new.book.entries old.keeper.firm new.keeper.firm (state old.flash) (state x)) (sym flash)
+      (subst (λ (k : KeeperSeen). IsStopSafe old.book.config old.book.found new.book.entries old.keeper.firm k.firm (state old.flash) (state mid.flash)) (sym keeper)
+      (subst (λ (es : List Entry). IsStopSafe old.book.config old.book.found es old.keeper.firm mid.keeper.firm (state old.flash) (state mid.flash)) (sym entries_are) h.stops));
+  more = subst (λ (k : KeeperSeen). old.keeper.firm ≤ k.firm) (sym keeper) h.more;
+  firm = subst (λ (k : KeeperSeen). AreFirm new.book.entries k.firm) (sym keeper) (subst (λ (es : List Entry). AreFirm es mid.keeper.firm) (sym entries_are) h.firm);
+}
 
 pub invariant_of-self-then-has_added_nothing : goal.invariant_of-self-then-has_added_nothing
 invariant_of-self-then-has_added_nothing g c =
-    subst (λ (b : BookSeen). IsSound c.self-2.inside.handed (g.F.Flash.state c.self-2.inside.flash) b c.self-2.inside.block.items) (sym c.cancel.ensures) (sound-cancelled c.self-2.inside.handed (g.F.Flash.state c.self-2.inside.flash) c.self-2.inside.book c.self-2.inside.block.items c.self-2.invariant)
-
--- what the step came to, by a group before it
-came : {F : Type 0} (state : F → FlashState) (old mid new : Seen F) (now : BookSeen) (rg : ℕ) (x : Advance) → now ≡ begun old.book → Collects now mid.book (state old.flash) (state mid.flash) rg x → Runs (state old.flash) (state mid.flash) (λ m image. Unit {0}) → Stands (state old.flash) now → IsKnown mid.book → IsLedger mid.handed mid.book (state mid.flash) → mid.handed ≡ old.handed → rg < old.book.config.groups → new.handed ≡ old.handed → new.flash ≡ mid.flash → new.book.pages ≡ mid.book.pages →
-    ((h : Collects (begun old.book) mid.book (state old.flash) (state mid.flash) rg x) → IsGrown old.book new.book (entries_made (begun old.book) mid.book (state old.flash) (state mid.flash) rg x h)) → answers.Collects state old new rg x
-came state old mid new now rg x is h run known after ledger counts low handed flash pages grown =
-    let k = subst (Stands (state old.flash)) is known in
-    let step = subst (λ (b : BookSeen). Collects b mid.book (state old.flash) (state mid.flash) rg x) is h in
-    collected state old mid new rg (λ m image. Unit {0}) run k after ledger counts low (is-group old.book.config (state_in old.book) old.book.pages rg k.known.units low) handed flash pages x step (grown step)
-
-pub returns-then-has_added_nothing : goal.returns-then-has_added_nothing
-returns-then-has_added_nothing g c =
-    let inside = c.self.inside in
     let state = g.F.Flash.state in
+    let inside = c.self.inside in
+    let behind = c.self-2.inside in
+    let old : Seen g.row.F.Denot = record { book = inside.book; keeper = inside.keeper; handed = inside.handed; flash = inside.flash } in
     let mid = c.advance-advance.new.self in
-    let old : Seen g.row.F.Denot = record { book = inside.book; handed = inside.handed; flash = inside.flash } in
-    let new : Seen g.row.F.Denot = record { book = c.cancel.new.self; handed = c.self-2.inside.handed; flash = c.self-2.inside.flash } in
+    let a = from-begun old c.begin.new.self (λ s. Advances state s mid c.args.rg c.advance-advance.result) c.begin.ensures c.advance-advance.ensures.step in
+    let more = from-begun old c.begin.new.self (λ s. mid.keeper.saver.stamp.epoch + length s.book.entries ≤ s.keeper.saver.stamp.epoch + length mid.book.entries) c.begin.ensures c.advance-advance.ensures.epochs in
+    let full = sym c.has_added_nothing.ensures ∙ c.if-has_added_nothing.true in
+    let longer = subst (λ (s : Seen g.row.F.Denot). IsLonger (begun inside.book) s.book a.es) (sym c.self-2.view_is) a.relocates.extends.book in
+    let epochs = subst (λ (s : Seen g.row.F.Denot). s.keeper.saver.stamp.epoch + length inside.book.entries ≤ inside.keeper.saver.stamp.epoch + length s.book.entries) (sym c.self-2.view_is) more in
+    subst (λ (b : BookSeen). IsWhole behind.handed (state behind.flash) b behind.keeper behind.block.items) (sym c.cancel.ensures)
+    (record {
+      sound = sound-cancelled behind.handed (state behind.flash) behind.book behind.block.items c.self-2.invariant.sound;
+      kept = kept-alike behind.handed (state behind.flash) behind.book (cancelled behind.book) behind.keeper refl refl refl refl
+          (cancelled-epochs inside.book behind.book a.es inside.keeper.saver.stamp.epoch behind.keeper.saver.stamp.epoch longer full c.self.invariant.kept.epochs epochs) c.self-2.invariant.kept;
+    })
+
+pub returns-then-has_added_nothing-clause-step : goal.returns-then-has_added_nothing-clause-step
+returns-then-has_added_nothing-clause-step g c =
+    let state = g.F.Flash.state in
+    let inside = c.self.inside in
+    let mid = c.advance-advance.new.self in
+    let old : Seen g.row.F.Denot = record { book = inside.book; keeper = inside.keeper; handed = inside.handed; flash = inside.flash } in
+    let new : Seen g.row.F.Denot = record { book = c.cancel.new.self; keeper = c.self-2.inside.keeper; handed = c.self-2.inside.handed; flash = c.self-2.inside.flash } in
     let book : c.self-2.inside.book ≡ mid.book = ap (λ (s : Seen g.row.F.Denot). s.book) c.self-2.view_is in
     let full = subst (λ (s : Seen g.row.F.Denot). (s.book.room == 300) ≡ true) c.self-2.view_is (sym c.has_added_nothing.ensures ∙ c.if-has_added_nothing.true) in
     let final : new.book ≡ cancelled mid.book = c.cancel.ensures ∙ ap cancelled book in
-    subst (λ (s : Seen g.row.F.Denot). c.args.rg < s.book.config.groups → 0 < s.book.spare → answers.Collects state s new c.args.rg c.advance-advance.result) c.self.view_is
-    (λ low spare. came state old mid new c.begin.new.self c.args.rg c.advance-advance.result c.begin.ensures c.advance-advance.ensures.step c.advance-advance.ensures.run c.advance-advance.ensures.old c.advance-advance.ensures.new c.advance-advance.ensures.ledger c.advance-advance.ensures.handed low
-    (ap (λ (s : Seen g.row.F.Denot). s.handed) c.self-2.view_is ∙ c.advance-advance.ensures.handed) (ap (λ (s : Seen g.row.F.Denot). s.flash) c.self-2.view_is) (ap (λ (b : BookSeen). b.pages) final)
-    (λ h. subst (λ (b : BookSeen). IsGrown inside.book b (entries_made (begun inside.book) mid.book (state inside.flash) (state mid.flash) c.args.rg c.advance-advance.result h)) (sym final)
-    (grown-cancelled inside.book mid.book _ (longer-made (begun inside.book) mid.book (state inside.flash) (state mid.flash) c.args.rg c.advance-advance.result h) full spare)))
-    c.requires.group c.requires.spare
+    let handed : mid.handed ≡ old.handed = (from-begun old c.begin.new.self (λ s. Advances state s mid c.args.rg c.advance-advance.result) c.begin.ensures c.advance-advance.ensures.step).relocates.extends.handed_is in
+    subst (λ (s : Seen g.row.F.Denot). 0 < s.book.spare → answers.Collects state s new c.args.rg c.advance-advance.result) c.self.view_is
+    (λ spare. is-mid state old mid new c.begin.new.self c.args.rg c.advance-advance.result c.begin.ensures c.advance-advance.ensures.step c.advance-advance.ensures.told
+    (ap (λ (s : Seen g.row.F.Denot). s.handed) c.self-2.view_is ∙ handed) (ap (λ (s : Seen g.row.F.Denot). s.flash) c.self-2.view_is) (ap (λ (b : BookSeen). b.pages) final) (ap state_in final)
+    (λ a. subst (λ (b : BookSeen). IsGrown inside.book b a.es) (sym final) (grown-cancelled inside.book mid.book a.es a.relocates.extends.book full spare)))
+    c.requires.spare
 
-pub returns-else-has_added_nothing : goal.returns-else-has_added_nothing
-returns-else-has_added_nothing g c =
-    let inside = c.self.inside in
+pub returns-then-has_added_nothing-clause-stops : goal.returns-then-has_added_nothing-clause-stops
+returns-then-has_added_nothing-clause-stops g c =
     let state = g.F.Flash.state in
+    let inside = c.self.inside in
     let mid = c.advance-advance.new.self in
-    let old : Seen g.row.F.Denot = record { book = inside.book; handed = inside.handed; flash = inside.flash } in
+    let old : Seen g.row.F.Denot = record { book = inside.book; keeper = inside.keeper; handed = inside.handed; flash = inside.flash } in
+    let new : Seen g.row.F.Denot = record { book = c.cancel.new.self; keeper = c.self-2.inside.keeper; handed = c.self-2.inside.handed; flash = c.self-2.inside.flash } in
+    subst (λ (s : Seen g.row.F.Denot). OutlastsStops state s new) c.self.view_is
+    (stops-mid state old mid new (ap (λ (s : Seen g.row.F.Denot). s.keeper) c.self-2.view_is) (ap (λ (s : Seen g.row.F.Denot). s.flash) c.self-2.view_is) (ap (λ (b : BookSeen). b.entries) c.cancel.ensures ∙ ap (λ (s : Seen g.row.F.Denot). s.book.entries) c.self-2.view_is)
+    (collect-stops state old mid c.begin.new.self c.begin.ensures c.advance-advance.ensures.stops c.self.invariant.kept.safe c.advance-advance.ensures.safe))
+
+-- ---- an entry was added
+
+pub returns-else-has_added_nothing-clause-step : goal.returns-else-has_added_nothing-clause-step
+returns-else-has_added_nothing-clause-step g c =
+    let state = g.F.Flash.state in
+    let inside = c.self.inside in
+    let mid = c.advance-advance.new.self in
+    let old : Seen g.row.F.Denot = record { book = inside.book; keeper = inside.keeper; handed = inside.handed; flash = inside.flash } in
     let less = subst (λ (s : Seen g.row.F.Denot). (s.book.room == 300) ≡ false) c.self-2.view_is (sym c.has_added_nothing.ensures ∙ c.if-has_added_nothing.false) in
-    subst (λ (s : Seen g.row.F.Denot). c.args.rg < s.book.config.groups → 0 < s.book.spare → answers.Collects state s mid c.args.rg c.advance-advance.result) c.self.view_is
-    (λ low spare. came state old mid mid c.begin.new.self c.args.rg c.advance-advance.result c.begin.ensures c.advance-advance.ensures.step c.advance-advance.ensures.run c.advance-advance.ensures.old c.advance-advance.ensures.new c.advance-advance.ensures.ledger c.advance-advance.ensures.handed low
-    c.advance-advance.ensures.handed refl refl
-    (λ h. grown-kept inside.book mid.book _ (longer-made (begun inside.book) mid.book (state inside.flash) (state mid.flash) c.args.rg c.advance-advance.result h) less spare))
-    c.requires.group c.requires.spare
+    let handed : mid.handed ≡ old.handed = (from-begun old c.begin.new.self (λ s. Advances state s mid c.args.rg c.advance-advance.result) c.begin.ensures c.advance-advance.ensures.step).relocates.extends.handed_is in
+    subst (λ (s : Seen g.row.F.Denot). 0 < s.book.spare → answers.Collects state s mid c.args.rg c.advance-advance.result) c.self.view_is
+    (λ spare. is-mid state old mid mid c.begin.new.self c.args.rg c.advance-advance.result c.begin.ensures c.advance-advance.ensures.step c.advance-advance.ensures.told handed refl refl refl
+    (λ a. grown-kept inside.book mid.book a.es a.relocates.extends.book less spare))
+    c.requires.spare
+
+pub returns-else-has_added_nothing-clause-stops : goal.returns-else-has_added_nothing-clause-stops
+returns-else-has_added_nothing-clause-stops g c =
+    let state = g.F.Flash.state in
+    let inside = c.self.inside in
+    let mid = c.advance-advance.new.self in
+    let old : Seen g.row.F.Denot = record { book = inside.book; keeper = inside.keeper; handed = inside.handed; flash = inside.flash } in
+    subst (λ (s : Seen g.row.F.Denot). OutlastsStops state s mid) c.self.view_is
+    (collect-stops state old mid c.begin.new.self c.begin.ensures c.advance-advance.ensures.stops c.self.invariant.kept.safe c.advance-advance.ensures.safe)

@@ -8,9 +8,13 @@ use Rattle.fdp_core.specs.Answers.{EndsInPlacing, MakesRoom, PlacesPage}
 use Rattle.fdp_core.specs.Ending.{MayEnd}
 use Rattle.fdp_core.specs.Passes.{EndsPass, MayBeginPass}
 use Rattle.fdp_core.specs.Seen.{Seen}
-use Rattle.fdp_core.specs.Sound.{IsSound}
+use Rattle.fdp_core.specs.Sound.{IsWhole}
+use Rattle.fdp_core.specs.Stops.{Outlasts, OutlastsStops}
+use Rattle.fdp_core.proofs.Collecting.{from-begun}
+use Rattle.fdp_core.proofs.Outlasting.{outlasts-all, outlasts-joined}
+use Rattle.fdp_core.proofs.Wholes.{unbegun, whole-begun}
 use Rattle.fdp_core.proofs.Rooms.{begun_seen, crowded-may, ends-crowded, ends-in-pass, ends-starved, failed-may, makes-room, starved-may}
-use Rattle.fdp_core.proofs.Sound.{begun, sound-begun}
+use Rattle.fdp_core.proofs.Sound.{begun}
 use Rattle.fdp_base.specs.CommandKinds.{blocks_written}
 use Rattle.fdp_book.proofs.Placing.Nexts.{one-going}
 use Rattle.fdp_flash.specs.FlashState.{FlashState}
@@ -36,9 +40,9 @@ may-begin b now going rg is same low wants = subst (λ (x : BookSeen). MayBeginP
 })
 
 -- how a pass ended, from the group before the step
-from-begin : {F : Type 0} (state : F → FlashState) (old new : Seen F) (now : BookSeen) (going : Going) (rg : ℕ) (x : PassEnd) → now ≡ begun old.book → rg ≡ going.rg → EndsPass state (record { book = now; handed = old.handed; flash = old.flash }) new rg x → EndsPass state (begun_seen old) new going.rg x
+from-begin : {F : Type 0} (state : F → FlashState) (old new : Seen F) (now : BookSeen) (going : Going) (rg : ℕ) (x : PassEnd) → now ≡ begun old.book → rg ≡ going.rg → EndsPass state (record { book = now; keeper = old.keeper; handed = old.handed; flash = old.flash }) new rg x → EndsPass state (begun_seen old) new going.rg x
 from-begin {F} state old new now going rg x is same h =
-    subst (λ (k : ℕ). EndsPass state (begun_seen old) new k x) same (subst (λ (b : BookSeen). EndsPass state (record { book = b; handed = old.handed; flash = old.flash }) new rg x) is h)
+    subst (λ (k : ℕ). EndsPass state (begun_seen old) new k x) same (subst (λ (b : BookSeen). EndsPass state (record { book = b; keeper = old.keeper; handed = old.handed; flash = old.flash }) new rg x) is h)
 
 pub crowded-requires : goal.crowded-requires
 crowded-requires g c =
@@ -47,7 +51,10 @@ crowded-requires g c =
     subst (λ (rg : ℕ). rg < c.self.inside.book.config.groups) (sym (c.group-rg.ensures k.going is)) (c.known.ensures.orderly.state.writes c.args.ticket.queue k.going is.going_is).group
 
 pub invariant_of-self : goal.invariant_of-self
-invariant_of-self g c = subst (λ (b : BookSeen). IsSound c.self.inside.handed (g.F.Flash.state c.self.inside.flash) b c.self.inside.block.items) (sym c.begin.ensures) (sound-begun c.self.inside.handed (g.F.Flash.state c.self.inside.flash) c.self.inside.book c.self.inside.block.items c.self.invariant)
+invariant_of-self g c =
+    let inside = c.self.inside in
+    let f = g.F.Flash.state inside.flash in
+    subst (λ (b : BookSeen). IsWhole inside.handed f b inside.keeper inside.block.items) (sym c.begin.ensures) (whole-begun inside.handed f inside.book inside.keeper inside.block.items c.self.invariant)
 
 pub make_pass-requires : goal.make_pass-requires
 make_pass-requires g c =
@@ -61,10 +68,10 @@ pub end-requires-clause-may : goal.end-requires-clause-may
 end-requires-clause-may g c going on =
     let inside = c.self.inside in
     let k = c.requires.ticket in
-    let old : Seen g.row.F.Denot = record { book = inside.book; handed = inside.handed; flash = inside.flash } in
+    let old : Seen g.row.F.Denot = record { book = inside.book; keeper = inside.keeper; handed = inside.handed; flash = inside.flash } in
     let is = subst (λ (s : Seen g.row.F.Denot). IsTicketOf (state_in s.book) c.args.ticket k.going) (sym c.self.view_is) k.ticket_is in
     let wants = subst (λ (s : Seen g.row.F.Denot). WantsUnit s.book k.going) (sym c.self.view_is) (c.requires.wants k.going k.ticket_is) in
-    let h = from-begin g.F.Flash.state old c.make_pass.new.self c.begin.new.self k.going c.group-rg.result ends.Nothing c.begin.ensures (c.group-rg.ensures k.going is) c.in-Nothing.ensures in
+    let h = from-begin g.F.Flash.state old c.make_pass.new.self c.begin.new.self k.going c.group-rg.result ends.Nothing c.begin.ensures (c.group-rg.ensures k.going is) c.in-Nothing.ensures.step in
     let own = crowded-may g.F.Flash.state old c.make_pass.new.self c.args.ticket k.going wants c.known.ensures.orderly is (crowded-by inside.book k.going c.group-rg.result (c.group-rg.ensures k.going is) wants c.crowded.ensures h.none.gains) h in
     subst (λ (x : Going). MayEnd g.F.Flash.state c.make_pass.new.self x statuses.CAPACITY_EXCEEDED) (one-going (state_in c.make_pass.new.self.book) c.args.ticket k.going going (keeps-ticket (state_in inside.book) (state_in c.make_pass.new.self.book) c.args.ticket k.going h.relocates.kept is) on) own
 
@@ -72,10 +79,10 @@ pub end-requires-in-Starved-clause-may : goal.end-requires-in-Starved-clause-may
 end-requires-in-Starved-clause-may g c going on =
     let inside = c.self.inside in
     let k = c.requires.ticket in
-    let old : Seen g.row.F.Denot = record { book = inside.book; handed = inside.handed; flash = inside.flash } in
+    let old : Seen g.row.F.Denot = record { book = inside.book; keeper = inside.keeper; handed = inside.handed; flash = inside.flash } in
     let is = subst (λ (s : Seen g.row.F.Denot). IsTicketOf (state_in s.book) c.args.ticket k.going) (sym c.self.view_is) k.ticket_is in
     let wants = subst (λ (s : Seen g.row.F.Denot). WantsUnit s.book k.going) (sym c.self.view_is) (c.requires.wants k.going k.ticket_is) in
-    let h = from-begin g.F.Flash.state old c.make_pass.new.self c.begin.new.self k.going c.group-rg.result ends.Starved c.begin.ensures (c.group-rg.ensures k.going is) c.in-Starved.ensures in
+    let h = from-begin g.F.Flash.state old c.make_pass.new.self c.begin.new.self k.going c.group-rg.result ends.Starved c.begin.ensures (c.group-rg.ensures k.going is) c.in-Starved.ensures.step in
     let own = starved-may g.F.Flash.state old c.make_pass.new.self c.args.ticket k.going wants c.known.ensures.orderly is h in
     subst (λ (x : Going). MayEnd g.F.Flash.state c.make_pass.new.self x statuses.CAPACITY_EXCEEDED) (one-going (state_in c.make_pass.new.self.book) c.args.ticket k.going going (keeps-ticket (state_in inside.book) (state_in c.make_pass.new.self.book) c.args.ticket k.going h.relocates.kept is) on) own
 
@@ -83,55 +90,83 @@ pub end-requires-in-Fault-clause-may : goal.end-requires-in-Fault-clause-may
 end-requires-in-Fault-clause-may g c going on =
     let inside = c.self.inside in
     let k = c.requires.ticket in
-    let old : Seen g.row.F.Denot = record { book = inside.book; handed = inside.handed; flash = inside.flash } in
+    let old : Seen g.row.F.Denot = record { book = inside.book; keeper = inside.keeper; handed = inside.handed; flash = inside.flash } in
     let is = subst (λ (s : Seen g.row.F.Denot). IsTicketOf (state_in s.book) c.args.ticket k.going) (sym c.self.view_is) k.ticket_is in
     let wants = subst (λ (s : Seen g.row.F.Denot). WantsUnit s.book k.going) (sym c.self.view_is) (c.requires.wants k.going k.ticket_is) in
-    let h = from-begin g.F.Flash.state old c.make_pass.new.self c.begin.new.self k.going c.group-rg.result ends.Fault c.begin.ensures (c.group-rg.ensures k.going is) c.in-Fault.ensures in
-    let own = failed-may g.F.Flash.state old c.make_pass.new.self c.args.ticket k.going wants (g.met.F.Flash.well_formed c.make_pass.new.self.flash) (ledger-alike inside.handed inside.book (begun inside.book) (g.F.Flash.state inside.flash) refl refl refl refl c.self.invariant.ledger) h in
+    let h = from-begin g.F.Flash.state old c.make_pass.new.self c.begin.new.self k.going c.group-rg.result ends.Fault c.begin.ensures (c.group-rg.ensures k.going is) c.in-Fault.ensures.step in
+    let own = failed-may g.F.Flash.state old c.make_pass.new.self c.args.ticket k.going wants (g.met.F.Flash.well_formed c.make_pass.new.self.flash) (ledger-alike inside.handed inside.book (begun inside.book) (g.F.Flash.state inside.flash) refl refl refl refl refl c.self.invariant.sound.ledger) h in
     subst (λ (x : Going). MayEnd g.F.Flash.state c.make_pass.new.self x statuses.WRITE_FAULT) (one-going (state_in c.make_pass.new.self.book) c.args.ticket k.going going (keeps-ticket (state_in inside.book) (state_in c.make_pass.new.self.book) c.args.ticket k.going h.relocates.kept is) on) own
 
 pub end-requires-in-Starved-clause-room : goal.end-requires-in-Starved-clause-room
-end-requires-in-Starved-clause-room g c = c.in-Starved.ensures.room
+end-requires-in-Starved-clause-room g c = c.in-Starved.ensures.step.room
 
 pub end-requires-in-Fault-clause-room : goal.end-requires-in-Fault-clause-room
-end-requires-in-Fault-clause-room g c = c.in-Fault.ensures.room
+end-requires-in-Fault-clause-room g c = c.in-Fault.ensures.step.room
 
-pub returns-in-Made : goal.returns-in-Made
-returns-in-Made g c going is =
+pub returns-in-Made-clause-step : goal.returns-in-Made-clause-step
+returns-in-Made-clause-step g c going is =
     let inside = c.self.inside in
-    let old : Seen g.row.F.Denot = record { book = inside.book; handed = inside.handed; flash = inside.flash } in
+    let old : Seen g.row.F.Denot = record { book = inside.book; keeper = inside.keeper; handed = inside.handed; flash = inside.flash } in
     subst (λ (s : Seen g.row.F.Denot). IsTicketOf (state_in s.book) c.args.ticket going → WantsUnit s.book going → 0 < s.book.spare → (PlacesPage g.F.Flash.state s c.make_pass.new.self c.args.ticket going c.args.ticket × (going.placed + 1 < blocks_written going.command)) ⊎ MakesRoom g.F.Flash.state s c.make_pass.new.self c.args.ticket going c.args.ticket) c.self.view_is
     (λ here wants spare.
-    let h = from-begin g.F.Flash.state old c.make_pass.new.self c.begin.new.self going c.group-rg.result ends.Made c.begin.ensures (c.group-rg.ensures going here) c.in-Made.ensures in
+    let h = from-begin g.F.Flash.state old c.make_pass.new.self c.begin.new.self going c.group-rg.result ends.Made c.begin.ensures (c.group-rg.ensures going here) c.in-Made.ensures.step in
     inr (makes-room g.F.Flash.state old c.make_pass.new.self c.args.ticket going spare wants here h))
     is (c.requires.wants going is) c.requires.spare
 
-pub returns-in-Nothing : goal.returns-in-Nothing
-returns-in-Nothing g c going is =
+pub returns-in-Nothing-clause-step : goal.returns-in-Nothing-clause-step
+returns-in-Nothing-clause-step g c going is =
     let inside = c.self.inside in
-    let old : Seen g.row.F.Denot = record { book = inside.book; handed = inside.handed; flash = inside.flash } in
+    let old : Seen g.row.F.Denot = record { book = inside.book; keeper = inside.keeper; handed = inside.handed; flash = inside.flash } in
     subst (λ (s : Seen g.row.F.Denot). IsTicketOf (state_in s.book) c.args.ticket going → WantsUnit s.book going → 0 < s.book.spare → EndsInPlacing g.F.Flash.state s c.end.new.self c.args.ticket going c.end.result) c.self.view_is
     (λ here wants spare.
-    let h = from-begin g.F.Flash.state old c.make_pass.new.self c.begin.new.self going c.group-rg.result ends.Nothing c.begin.ensures (c.group-rg.ensures going here) c.in-Nothing.ensures in
-    inr (inl (ends-crowded g.F.Flash.state old c.make_pass.new.self c.end.new.self c.args.ticket going c.end.result spare wants c.known.ensures.orderly here (crowded-by inside.book going c.group-rg.result (c.group-rg.ensures going here) wants c.crowded.ensures h.none.gains) h (c.end.ensures going (keeps-ticket (state_in inside.book) (state_in c.make_pass.new.self.book) c.args.ticket going h.relocates.kept here)))))
+    let h = from-begin g.F.Flash.state old c.make_pass.new.self c.begin.new.self going c.group-rg.result ends.Nothing c.begin.ensures (c.group-rg.ensures going here) c.in-Nothing.ensures.step in
+    inr (inl (ends-crowded g.F.Flash.state old c.make_pass.new.self c.end.new.self c.args.ticket going c.end.result spare wants c.known.ensures.orderly here (crowded-by inside.book going c.group-rg.result (c.group-rg.ensures going here) wants c.crowded.ensures h.none.gains) h (c.end.ensures.step going (keeps-ticket (state_in inside.book) (state_in c.make_pass.new.self.book) c.args.ticket going h.relocates.kept here)))))
     is (c.requires.wants going is) c.requires.spare
 
-pub returns-in-Starved : goal.returns-in-Starved
-returns-in-Starved g c going is =
+pub returns-in-Starved-clause-step : goal.returns-in-Starved-clause-step
+returns-in-Starved-clause-step g c going is =
     let inside = c.self.inside in
-    let old : Seen g.row.F.Denot = record { book = inside.book; handed = inside.handed; flash = inside.flash } in
+    let old : Seen g.row.F.Denot = record { book = inside.book; keeper = inside.keeper; handed = inside.handed; flash = inside.flash } in
     subst (λ (s : Seen g.row.F.Denot). IsTicketOf (state_in s.book) c.args.ticket going → WantsUnit s.book going → 0 < s.book.spare → EndsInPlacing g.F.Flash.state s c.end-in-Starved.new.self c.args.ticket going c.end-in-Starved.result) c.self.view_is
     (λ here wants spare.
-    let h = from-begin g.F.Flash.state old c.make_pass.new.self c.begin.new.self going c.group-rg.result ends.Starved c.begin.ensures (c.group-rg.ensures going here) c.in-Starved.ensures in
-    inr (inr (inl (ends-starved g.F.Flash.state old c.make_pass.new.self c.end-in-Starved.new.self c.args.ticket going c.end-in-Starved.result spare wants c.known.ensures.orderly here h (c.end-in-Starved.ensures going (keeps-ticket (state_in inside.book) (state_in c.make_pass.new.self.book) c.args.ticket going h.relocates.kept here))))))
+    let h = from-begin g.F.Flash.state old c.make_pass.new.self c.begin.new.self going c.group-rg.result ends.Starved c.begin.ensures (c.group-rg.ensures going here) c.in-Starved.ensures.step in
+    inr (inr (inl (ends-starved g.F.Flash.state old c.make_pass.new.self c.end-in-Starved.new.self c.args.ticket going c.end-in-Starved.result spare wants c.known.ensures.orderly here h (c.end-in-Starved.ensures.step going (keeps-ticket (state_in inside.book) (state_in c.make_pass.new.self.book) c.args.ticket going h.relocates.kept here))))))
     is (c.requires.wants going is) c.requires.spare
 
-pub returns-in-Fault : goal.returns-in-Fault
-returns-in-Fault g c going is =
+pub returns-in-Fault-clause-step : goal.returns-in-Fault-clause-step
+returns-in-Fault-clause-step g c going is =
     let inside = c.self.inside in
-    let old : Seen g.row.F.Denot = record { book = inside.book; handed = inside.handed; flash = inside.flash } in
+    let old : Seen g.row.F.Denot = record { book = inside.book; keeper = inside.keeper; handed = inside.handed; flash = inside.flash } in
     subst (λ (s : Seen g.row.F.Denot). IsTicketOf (state_in s.book) c.args.ticket going → WantsUnit s.book going → 0 < s.book.spare → EndsInPlacing g.F.Flash.state s c.end-in-Fault.new.self c.args.ticket going c.end-in-Fault.result) c.self.view_is
     (λ here wants spare.
-    let h = from-begin g.F.Flash.state old c.make_pass.new.self c.begin.new.self going c.group-rg.result ends.Fault c.begin.ensures (c.group-rg.ensures going here) c.in-Fault.ensures in
-    inr (inr (inr (inl (ends-in-pass g.F.Flash.state old c.make_pass.new.self c.end-in-Fault.new.self c.args.ticket going c.end-in-Fault.result spare wants (g.met.F.Flash.well_formed c.make_pass.new.self.flash) h (c.end-in-Fault.ensures going (keeps-ticket (state_in inside.book) (state_in c.make_pass.new.self.book) c.args.ticket going h.relocates.kept here)))))))
+    let h = from-begin g.F.Flash.state old c.make_pass.new.self c.begin.new.self going c.group-rg.result ends.Fault c.begin.ensures (c.group-rg.ensures going here) c.in-Fault.ensures.step in
+    inr (inr (inr (inl (ends-in-pass g.F.Flash.state old c.make_pass.new.self c.end-in-Fault.new.self c.args.ticket going c.end-in-Fault.result spare wants (g.met.F.Flash.well_formed c.make_pass.new.self.flash) h (c.end-in-Fault.ensures.step going (keeps-ticket (state_in inside.book) (state_in c.make_pass.new.self.book) c.args.ticket going h.relocates.kept here)))))))
     is (c.requires.wants going is) c.requires.spare
+
+pub returns-in-Made-clause-stops : goal.returns-in-Made-clause-stops
+returns-in-Made-clause-stops g c =
+    let inside = c.self.inside in
+    let old : Seen g.row.F.Denot = record { book = inside.book; keeper = inside.keeper; handed = inside.handed; flash = inside.flash } in
+    subst (λ (s : Seen g.row.F.Denot). OutlastsStops g.F.Flash.state s c.make_pass.new.self) c.self.view_is
+    (unbegun g.F.Flash.state old c.make_pass.new.self (outlasts-all g.F.Flash.state (begun_seen old) c.make_pass.new.self c.self.invariant.kept.safe.firm_is c.in-Made.ensures.safe (from-begun old c.begin.new.self (λ s. Outlasts g.F.Flash.state s c.make_pass.new.self) c.begin.ensures c.in-Made.ensures.stops)))
+
+pub returns-in-Nothing-clause-stops : goal.returns-in-Nothing-clause-stops
+returns-in-Nothing-clause-stops g c =
+    let inside = c.self.inside in
+    let old : Seen g.row.F.Denot = record { book = inside.book; keeper = inside.keeper; handed = inside.handed; flash = inside.flash } in
+    subst (λ (s : Seen g.row.F.Denot). OutlastsStops g.F.Flash.state s c.end.new.self) c.self.view_is
+    (unbegun g.F.Flash.state old c.end.new.self (outlasts-all g.F.Flash.state (begun_seen old) c.end.new.self c.self.invariant.kept.safe.firm_is c.end.ensures.safe (outlasts-joined g.F.Flash.state (begun_seen old) c.make_pass.new.self c.end.new.self (from-begun old c.begin.new.self (λ s. Outlasts g.F.Flash.state s c.make_pass.new.self) c.begin.ensures c.in-Nothing.ensures.stops) c.end.ensures.stops)))
+
+pub returns-in-Starved-clause-stops : goal.returns-in-Starved-clause-stops
+returns-in-Starved-clause-stops g c =
+    let inside = c.self.inside in
+    let old : Seen g.row.F.Denot = record { book = inside.book; keeper = inside.keeper; handed = inside.handed; flash = inside.flash } in
+    subst (λ (s : Seen g.row.F.Denot). OutlastsStops g.F.Flash.state s c.end-in-Starved.new.self) c.self.view_is
+    (unbegun g.F.Flash.state old c.end-in-Starved.new.self (outlasts-all g.F.Flash.state (begun_seen old) c.end-in-Starved.new.self c.self.invariant.kept.safe.firm_is c.end-in-Starved.ensures.safe (outlasts-joined g.F.Flash.state (begun_seen old) c.make_pass.new.self c.end-in-Starved.new.self (from-begun old c.begin.new.self (λ s. Outlasts g.F.Flash.state s c.make_pass.new.self) c.begin.ensures c.in-Starved.ensures.stops) c.end-in-Starved.ensures.stops)))
+
+pub returns-in-Fault-clause-stops : goal.returns-in-Fault-clause-stops
+returns-in-Fault-clause-stops g c =
+    let inside = c.self.inside in
+    let old : Seen g.row.F.Denot = record { book = inside.book; keeper = inside.keeper; handed = inside.handed; flash = inside.flash } in
+    subst (λ (s : Seen g.row.F.Denot). OutlastsStops g.F.Flash.state s c.end-in-Fault.new.self) c.self.view_is
+    (unbegun g.F.Flash.state old c.end-in-Fault.new.self (outlasts-all g.F.Flash.state (begun_seen old) c.end-in-Fault.new.self c.self.invariant.kept.safe.firm_is c.end-in-Fault.ensures.safe (outlasts-joined g.F.Flash.state (begun_seen old) c.make_pass.new.self c.end-in-Fault.new.self (from-begun old c.begin.new.self (λ s. Outlasts g.F.Flash.state s c.make_pass.new.self) c.begin.ensures c.in-Fault.ensures.stops) c.end-in-Fault.ensures.stops)))

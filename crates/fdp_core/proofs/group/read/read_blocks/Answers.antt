@@ -52,3 +52,7 @@ pub returns-in_err-read_block-clause-failed : goal.returns-in_err-read_block-cla
 returns-in_err-read_block-clause-failed g c =
     at-error c.from_residual.result _ (fetches-cut (g.F.Flash.state c.args.flash.now) (g.F.Flash.state c.loop-index.flash) (g.F.Flash.state c.read_block.new.flash) c.args.book.now c.args.read c.loop-index.index c.loop-index-test.true c.loop-index.invariant.made
     (subst (λ n. FailsToFetch (g.F.Flash.state c.loop-index.flash) (g.F.Flash.state c.read_block.new.flash) c.args.book.now c.args.read.nsid (c.args.read.slba + n)) c.from.ensures c.in_err-read_block.ensures.failed))
+
+pub returns-in_err-read_block-clause-read : goal.returns-in_err-read_block-clause-read
+returns-in_err-read_block-clause-read g c =
+    read-joined (g.F.Flash.state c.args.flash.now) (g.F.Flash.state c.loop-index.flash) (g.F.Flash.state c.read_block.new.flash) c.loop-index.invariant.read c.in_err-read_block.ensures.read

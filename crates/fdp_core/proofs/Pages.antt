@@ -1,0 +1,175 @@
+-- A page of a write that was programmed, or not: what saves the drive stands for its history, and no stop in the step loses what was firm.
+use Rattle.std.proofs.Common.{◌≡◌, ℕ, ◌≤◌, ◌<◌, Bool, true, false, List, [], ◌∷◌, ◌++◌, ◌-◌, Some, length, refl, sym, ◌∙◌, ap, subst, arith, length-append}
+use Rattle.std.specs.Prelude.{IsFalse, IsTrue}
+use Rattle.std.specs.List.{list_any, slice_get}
+use Rattle.std.proofs.lemmas.Bool.{false≢true}
+use Rattle.std.proofs.lemmas.List.Elements.{All-cons, All-nil}
+use Rattle.fdp_base.specs.declared.entry.Entry.TheVariants as entries
+use Rattle.fdp_base.specs.declared.status.TheConstants.Status as statuses
+use Rattle.fdp_book.specs.Steps as book
+use Rattle.fdp_durability.specs.Firm as durable
+use Rattle.fdp_flash.specs.declared.cell.Cell.TheVariants.{Whole}
+use Rattle.fdp_saving.specs.declared.saved.Saved.TheVariants as savings
+use Rattle.fdp_book.specs.Book.{BookSeen, point_in}
+use Rattle.fdp_flash.specs.FlashState.{Call, FlashState, IsWellFormed as IsFlashFormed}
+use Rattle.fdp_durability.specs.Beginnings.{CanBeSaved}
+use Rattle.fdp_ledger.specs.declared.counts.Counts.{Counts}
+use Rattle.fdp_base.specs.declared.config.DriveConfig.{DriveConfig}
+use Rattle.fdp_base.specs.declared.entry.Entry.{Entry}
+use Rattle.fdp_calls.specs.Calls.{FailedAt, MakesCalls, program_at}
+use Rattle.fdp_core.specs.Answers.{FailsToPlace}
+use Rattle.fdp_ledger.specs.Calls.{FailsToProgram}
+use Rattle.fdp_rules.specs.PlainState.{Going}
+use Rattle.fdp_survival.specs.Books.{IsInOrder, IsSafe, Survives}
+use Rattle.fdp_core.specs.Sound.{IsKept, IsSound, IsWhole}
+use Rattle.fdp_isolation.specs.Laned.{IsKnown}
+use Rattle.fdp_book.specs.Tickets.{IsNextSpot}
+use Rattle.fdp_core.proofs.Passing.{IsPrefix, matches-joined, prefix-matches, saving-prefix}
+use Rattle.fdp_calls.specs.Media.{IsProgrammedTo}
+use Rattle.fdp_keeper.specs.Keeper.{KeeperSeen, KeepsMade}
+use Rattle.fdp_ledger.specs.Emptied.{OnlyErasesEmpty}
+use Rattle.fdp_core.specs.Stops.{OutlastsStops}
+use Rattle.fdp_flash.specs.Cells.{ProgramMayLeave}
+use Rattle.fdp_flash.specs.Runs.{Runs}
+use Rattle.fdp_image.specs.Saving.{SameDataPages}
+use Rattle.fdp_saving.specs.declared.saved.Saved.{Saved}
+use Rattle.fdp_book.specs.Shutting.{ShutsAndEnds}
+use Rattle.fdp_base.specs.declared.entry.Spot.{Spot}
+use Rattle.fdp_image.specs.Kept.{StandsForBeginning, is_completed, is_owed}
+use Rattle.fdp_book.specs.declared.ticket.Ticket.{Ticket}
+use Rattle.fdp_rules.specs.Answer.{bare}
+use Rattle.fdp_core.proofs.Sound.{begun}
+use Rattle.fdp_survival.proofs.Steps.{can-failed, safe-page, safe-placed, safe-shut, safe-unplaced, survives-longer, survives-page, survives-shut}
+use Rattle.fdp_calls.proofs.Made.{counted_more-none, failed-last}
+use Rattle.fdp_core.proofs.Wholes.{entry-stops, low-faults, order-begun}
+use Rattle.fdp_ledger.proofs.Blank.{erased-none}
+use Rattle.fdp_durability.specs.Saved.{firm_with}
+use Rattle.fdp_base.specs.Placement.{geometry_of}
+use Rattle.fdp_core.proofs.Grown.{completes, host}
+use Rattle.fdp_core.proofs.Kept.{kept-begun, kept-entry, kept-over, kept-shut}
+use Rattle.fdp_core.proofs.Outlasting.{outlasts-stops}
+use Rattle.fdp_flash.specs.Layout.{page_number}
+use Rattle.fdp_flash.proofs.Runs.{runs_joined}
+use Rattle.fdp_flash.proofs.Lists.{slice_get-append}
+use Rattle.fdp_core.proofs.Relocated.{sound-prefix}
+use Rattle.fdp_core.proofs.Placing.{spot-begun}
+use Rattle.fdp_core.proofs.Refusals.{uncompleted}
+use Rattle.fdp_durability.proofs.Owed.{unowed}
+use Rattle.fdp_book.specs.declared.ticket.Done.{Done}
+
+-- ---- it was programmed
+
+module _ {F : Type 0} (state : F → FlashState) (x y : F) (handed : Counts) (b d : BookSeen) (k : KeeperSeen) (block : List ℕ) (ticket : Ticket) (g : Going) (spot : Spot) (spare bytes : List ℕ) (last : Bool) (order : IsInOrder b) (whole : IsWhole handed (state x) b k block)
+    (goes : IsNextSpot b ticket g spot) (programmed : IsProgrammedTo (state x) (state y) (page_number (state x).geometry spot) (Whole spare bytes)) (run : Runs (state x) (state y) (λ m image. ProgramMayLeave (state x).geometry (state x).cells spot spare bytes image))
+    (placed : book.Places (begun b) d ticket g spot last) where
+  page-safe : IsSafe d k.saver k.firm (state y)
+  page-safe =
+      safe-placed (begun b) d ticket g spot last k.saver k.firm (state y) (order-begun b order) (spot-begun b ticket g spot goes) placed
+      (safe-page b ticket g spot spare bytes k.saver k.firm (state x) (state y) whole.sound.geometry whole.sound.stored goes whole.kept.safe programmed)
+
+  pub page-kept : IsKept handed (state y) d k
+  page-kept = kept-entry handed (state x) (state y) (begun b) d _ k (order-begun b order) (kept-begun handed (state x) b k whole.kept) placed.step refl (λ pages. (spot-begun b ticket g spot goes).follows true) programmed.kept.faults page-safe
+
+  pub page-stops : OutlastsStops state (record { book = b; keeper = k; handed = handed; flash = x }) (record { book = d; keeper = k; handed = handed; flash = y })
+  page-stops =
+      entry-stops state (record { book = b; keeper = k; handed = handed; flash = x }) (record { book = d; keeper = k; handed = handed; flash = y }) _ placed.step refl
+      (survives-page b ticket g spot spare bytes k.saver k.firm (state x) (state y) whole.sound.geometry whole.sound.stored goes whole.kept.safe run) whole.kept.safe page-safe (omega arith)
+
+-- ---- that failed: the handle is shut, and this is saved
+
+-- a call that failed did so also for who looks later
+failed-on : (f m n : FlashState) (moment : ℕ) (calls : List Call) → FailedAt f m moment → MakesCalls m n calls → FailedAt f n moment
+failed-on f m n moment calls failed made = record {
+  since = failed.since;
+  until = omega (arith, failed.until, made.run.later);
+  failed = λ tells.
+      let was = failed.failed (made.run.listed_before tells) in
+      (was.0, subst (λ (cs : List Call). slice_get cs (moment - 1) ≡ Some was.0) (sym (made.listed tells)) (slice_get-append m.calls calls (moment - 1) was.0 was.1), was.2);
+}
+
+module _ {F : Type 0} (state : F → FlashState) (x m y : F) (handed : Counts) (b d : BookSeen) (k l : KeeperSeen) (block now : List ℕ) (ticket : Ticket) (g : Going) (spot : Spot) (spare bytes : List ℕ) (moment : ℕ) (done : Done) (answer : Saved)
+    (order : IsInOrder b) (then_known : IsKnown d) (whole : IsWhole handed (state x) b k block) (goes : IsNextSpot b ticket g spot) (failed : FailsToProgram (state x) (state m) spot spare bytes)
+    (run : Runs (state x) (state m) (λ at image. ProgramMayLeave (state x).geometry (state x).cells spot spare bytes image)) (keeps : KeepsMade b (entries.Shut (record { rg = g.rg; ruh = g.ruh })) k l (state m) (state y) answer)
+    (shuts : ShutsAndEnds (begun b) d ticket g spot statuses.WRITE_FAULT moment done) where
+  abbrev shut : Entry
+  shut = entries.Shut (record { rg = g.rg; ruh = g.ruh })
+
+  abbrev ended : Entry
+  ended = host ticket.queue g.number g.command (bare statuses.WRITE_FAULT false) moment
+
+  unsuccessful : IsFalse (is_completed g.command (bare statuses.WRITE_FAULT false))
+  unsuccessful = uncompleted g.command (bare statuses.WRITE_FAULT false) refl
+
+  unplaced : IsSafe b k.saver k.firm (state m)
+  unplaced = safe-unplaced b ticket g spot spare bytes k.saver k.firm (state x) (state m) whole.sound.geometry whole.sound.stored goes whole.kept.safe failed.made.run.told failed.left
+
+  middle-geometry : (state m).geometry ≡ geometry_of b.config
+  middle-geometry = failed.made.run.geometry ∙ whole.sound.geometry
+
+  can : IsTrue (state m).told → CanBeSaved b.config (point_in b) b.pages.units (state m).cells
+  can = can-failed b ticket g spot spare bytes (state x) (state m) order whole.sound.geometry whole.sound.stored goes failed.made.run.told failed.left
+
+  prefix : IsPrefix b (state m) (state y) keeps.saves.calls.calls
+  prefix = saving-prefix b shut k.saver l.saver k.firm (state m) (state y) answer unplaced keeps.saves
+
+  shut-sound : IsSound handed (state m) d now → IsSound handed (state y) d now
+  shut-sound so =
+      sound-prefix handed (state m) (state y) d keeps.saves.calls.calls now then_known
+      (record { made = prefix.made; behind = prefix.behind; programs = prefix.programs; same = λ told. subst (λ (c : DriveConfig). SameDataPages c (state m).cells (state y).cells) (sym shuts.completes.step.config_is) (prefix.same told) }) so
+
+  shut-safe : IsSafe d l.saver l.firm (state y)
+  shut-safe =
+      subst (λ (firm : ℕ). IsSafe d l.saver firm (state y)) (sym keeps.firm_is)
+      (safe-shut (begun b) d ticket g spot statuses.WRITE_FAULT moment done k.saver l.saver k.firm (state m) (state y) answer (order-begun b order) can unplaced keeps.saves shuts unsuccessful)
+
+  shut-kept : IsKept handed (state y) d l
+  shut-kept =
+      kept-shut handed (state m) (state y) (begun b) d ticket g spot statuses.WRITE_FAULT moment done k l answer (order-begun b order)
+      (kept-begun handed (state m) b k (kept-over handed (state x) (state m) b k whole.kept failed.made.run.faults unplaced))
+      (let low = low-faults handed b (state x) whole.sound.ledger in let up = failed.made.run.faults in omega (arith, low, up)) shuts
+      (record { saves = keeps.saves; outline = keeps.outline; geometry = keeps.geometry; firm_is = keeps.firm_is }) shut-safe
+
+  pub shut-whole : IsSound handed (state m) d now → IsWhole handed (state y) d l now
+  shut-whole so = record { sound = shut-sound so; kept = shut-kept }
+
+  firm-up : (z : Saved) → k.firm ≤ firm_with b.entries shut k.firm z
+  firm-up savings.Done = let size = length-append b.entries (shut ∷ []) in omega (arith, whole.kept.safe.within, size)
+  firm-up (savings.Doubtful at) = omega arith
+  firm-up (savings.Unsaved at) = omega arith
+
+  survives : Survives d k.firm (state x) (state y)
+  survives =
+      runs_joined (state x) (state m) (state y) (λ at image. StandsForBeginning d.config d.found d.entries k.firm image)
+      (survives-longer (begun b) d (shut ∷ ended ∷ []) k.firm (state x) (state m) shuts.completes.step (survives-page b ticket g spot spare bytes k.saver k.firm (state x) (state m) whole.sound.geometry whole.sound.stored goes whole.kept.safe run))
+      (survives-shut (begun b) d ticket g spot statuses.WRITE_FAULT moment done k.saver l.saver k.firm (state m) (state y) answer (order-begun b order) can unplaced keeps.saves shuts)
+
+  pub shut-stops : OutlastsStops state (record { book = b; keeper = k; handed = handed; flash = x }) (record { book = d; keeper = l; handed = handed; flash = y })
+  shut-stops =
+      let P : Entry → Type 0 = λ e. IsFalse (is_owed (state y).moment e) in
+      outlasts-stops state (record { book = b; keeper = k; handed = handed; flash = x }) (record { book = d; keeper = l; handed = handed; flash = y }) (shut ∷ ended ∷ []) shuts.completes.step.config_is shuts.completes.step.found_is shuts.completes.step.entries_are whole.kept.safe.firm_is
+      (All-cons P shut (ended ∷ []) (unowed (state y).moment shut refl) (All-cons P ended [] (unowed (state y).moment ended unsuccessful) (All-nil P)))
+      survives shut-safe (subst (λ (n : ℕ). k.firm ≤ n) (sym keeps.firm_is) (firm-up answer))
+
+  -- what it comes to
+  pub fails-to-place : 0 < b.spare → IsFlashFormed (state m) → ((es : List Entry) → IsTrue (state x).told → OnlyErasesEmpty (state x).geometry (state x).cells (state m).cells es) → moment ≡ (state m).moment →
+      FailsToPlace state (record { book = b; keeper = k; handed = handed; flash = x }) (record { book = d; keeper = l; handed = handed; flash = y }) ticket g done
+  fails-to-place spare formed emptied moment_is = record {
+    spot = spot;
+    goes = goes;
+    summary = keeps.saves.given.summary;
+    answer = answer;
+    calls = keeps.saves.calls.calls;
+    saved = keeps.saves.calls.are;
+    completes = completes state _ _ (shut ∷ []) ticket.queue g.number g.command (bare statuses.WRITE_FAULT false) moment (program_at spot true ∷ keeps.saves.calls.calls) done spare (record {
+      longer = shuts.completes.step;
+      done_is = shuts.completes.done_is;
+      handed = refl;
+      matches = matches-joined (state x) (state m) (state y) (shut ∷ ended ∷ []) [] (program_at spot true ∷ []) keeps.saves.calls.calls (λ unit. refl)
+          (record { made = failed.made; programs = failed.programs ∙ sym (counted_more-none (state x).programs); failed = λ _. refl; erased = λ told. erased-none (state x).geometry (state m).cells _ (λ unit. refl); emptied = emptied _ })
+          (prefix-matches b (state m) (state y) keeps.saves.calls.calls [] middle-geometry refl (λ wrong. absurd (false≢true wrong)) (λ unit. refl) prefix);
+      moment_is = λ wrong. absurd (false≢true (sym wrong));
+      failed = refl;
+      media = λ _. failed-on (state x) (state m) (state y) moment keeps.saves.calls.calls (subst (FailedAt (state x) (state m)) (sym moment_is) (failed-last (state x) (state m) [] (program_at spot true) formed failed.made refl)) keeps.saves.calls.made;
+    });
+    reply_is = ap (λ (z : Done). z.reply) shuts.completes.done_is;
+  }

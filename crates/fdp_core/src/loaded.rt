@@ -1,0 +1,8 @@
+use fdp_recovery::OpenFault;
+
+/// A flash on which no drive was opened, and why.
+#[derive(Debug, Drop)]
+pub struct NotLoaded<F> {
+    pub flash: F,
+    pub cause: OpenFault,
+}
