@@ -1,7 +1,9 @@
 -- A player as contracts see it, when it may make a step, and what the step comes to.
-use Rattle.std.specs.Prelude.{◌≡◌, ◌⊎◌, ℕ, ◌<◌, List, Option, Some, None, slice_get, option_map}
+use Rattle.std.specs.Prelude.{◌≡◌, ◌≢◌, ◌⊎◌, ℕ, ◌<◌, List, Option, Some, None, slice_get, option_map}
 use Rattle.std.specs.Option.{option_flatten}
 use Rattle.fdp_base.specs.declared.command.Command.{Command}
+use Rattle.fdp_base.specs.declared.command.Command.TheVariants as commands
+use Rattle.fdp_base.specs.declared.command.GetLog.{GetLog}
 use Rattle.fdp_base.specs.declared.config.DriveConfig.{DriveConfig}
 use Rattle.fdp_base.specs.CommandKinds.{IsWellFormed}
 use Rattle.fdp_rules.specs.PlainState.{Going}
@@ -14,7 +16,6 @@ use Rattle.fdp_book.specs.declared.ticket.Done.{Done}
 use Rattle.fdp_book.specs.declared.ticket.Ticket.{Ticket}
 use Rattle.fdp_core.specs.Answers.{Collects, Commits, EndsAtOnce, EndsInPlacing, MakesRoom, PlacesPage, Starts}
 use Rattle.fdp_book.specs.Book.{state_in}
-use Rattle.fdp_book.specs.Steps.{IsServed}
 use Rattle.fdp_core.specs.Seen.{Seen}
 use Rattle.fdp_book.specs.Stages.{IsStage}
 use Rattle.fdp_book.specs.Stages.{IsFree}
@@ -37,9 +38,9 @@ with_spare group spare = record group { book = record group.book { spare = spare
 
 -- ---- when a step may be made
 
--- a command that a drive serves
+-- a command that a drive serves: any but a log
 pub record IsPlayable (c : DriveConfig) (command : Command) : Type 0 where
-  pub served : IsServed command
+  pub served : (log : GetLog) → command ≢ commands.Log log
   pub formed : IsWellFormed c command
 
 -- a command may be begun in a queue under a number
