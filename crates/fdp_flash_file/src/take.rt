@@ -5,8 +5,8 @@ ghost use Rattle.fdp_flash_file.specs.Taking.{IsCause, IsWhole};
 use crate::head::{HEAD_BYTES, read_head};
 use crate::page::file_bytes;
 use fdp_base::Geometry;
-use std::io;
 use std::io::{Read, Seek, SeekFrom};
+use std::{fmt, io};
 
 /// Why a file was not taken.
 #[derive(Clone, Copy, Debug, PartialEq, Eq)]
@@ -17,6 +17,16 @@ pub enum TakeError {
     NotFlash,
     /// The file begins with the head of a flash, and ends before its last page.
     CutShort,
+}
+
+impl fmt::Display for TakeError {
+    fn fmt<W: fmt::Write>(&self, f: &mut fmt::Formatter<W>) -> fmt::Result {
+        f.write_str(match self {
+            TakeError::Failed => "a call of the file failed",
+            TakeError::NotFlash => "the file does not begin with the head of a flash",
+            TakeError::CutShort => "the file ends before the last page of its flash",
+        })
+    }
 }
 
 /// The geometry that a file tells, if it is the file of a flash.

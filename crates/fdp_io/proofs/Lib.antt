@@ -1,3 +1,5 @@
+pub mod Berths
 pub mod Written
 pub mod Named
+pub mod OutNames
 pub mod Rest

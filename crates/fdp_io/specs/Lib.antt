@@ -1,6 +1,8 @@
 pub mod Bench
 pub mod Calls
+pub mod BenchFile
 pub mod BenchMem
+pub mod Berths
 pub mod Sink
 pub mod SinkMem
 pub mod Texts

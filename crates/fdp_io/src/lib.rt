@@ -1,15 +1,17 @@
-//! The outside of the drive: a bench that holds the texts that a run reads, and a sink that takes what it prints.
+//! The outside of the drive: a bench that holds the texts that a run reads and the flash of its drive, and a sink that takes what it prints.
 #![tactic(auto)]
 
 mod bench;
 mod bench_file;
 mod bench_mem;
 mod calls;
+mod flash_of;
+mod names;
 mod sink;
 mod sink_mem;
 mod sink_writer;
 
-pub use bench::{Bench, TextRead};
+pub use bench::{Bench, NotTaken, TextRead};
 pub use bench_file::BenchFile;
 pub use bench_mem::BenchMem;
 pub use sink::{Sink, SinkEnd, SinkFailed, write_all};

@@ -1,10 +1,14 @@
 use crate::bench_file::read_rest;
 use crate::{
-    Bench, BenchFile, BenchMem, Sink, SinkEnd, SinkFailed, SinkMem, SinkWriter, TextRead, write_all,
+    Bench, BenchFile, BenchMem, NotTaken, Sink, SinkEnd, SinkFailed, SinkMem, SinkWriter, TextRead,
+    write_all,
 };
+use fdp_base::{Geometry, Spot};
+use fdp_flash::{Flash, FlashMem, Plan, Seen};
 use std::alloc::{AllocError, Global};
 use std::fs::File;
 use std::io::{Cursor, ErrorKind, Read, Write};
+use std::rt::Files;
 use std::test::Fail;
 use std::{fs, io};
 
@@ -162,7 +166,7 @@ const FILES: [(&str, u64, TextRead, u64); 7] = [
 #[test]
 fn files_are_read(rt: HostRuntime) -> Result<(), Fail> {
     File::create(&rt, NAME)?.write_all(b"text\n")?;
-    let mut bench = BenchFile::new(&rt);
+    let mut bench = BenchFile::new(rt.alloc(), &rt);
     for (name, limit, answer, faults) in FILES {
         let mut text = Vec::from_slice(rt.alloc(), b"before")?;
         assert!(rt;
@@ -178,5 +182,113 @@ fn files_are_read(rt: HostRuntime) -> Result<(), Fail> {
         assert!(rt; bench.faults() == faults, "{name} {limit}");
     }
     fs::remove_file(&rt, NAME)?;
+    Ok(())
+}
+
+/// Two units of data and two of system areas, of two pages each.
+const SMALL: Geometry = Geometry {
+    block: 512,
+    unit_pages: 2,
+    groups: 1,
+    units: 2,
+    area_units: 1,
+};
+
+const FIRST: Spot = Spot { unit: 0, page: 0 };
+
+/// Whether a bench hands out no flash of a name, and counts that.
+fn refuses<B: Bench>(alloc: Global, bench: &mut B, name: &str) -> bool {
+    let before = bench.faults();
+    let refused = bench.take_flash(alloc, name, SMALL).err() == Some(NotTaken::Failed);
+    refused && bench.faults() == before.saturating_add(1)
+}
+
+/// What is seen of the first page of a flash in memory, which is then programmed, if it is blank.
+fn used(flash: &mut FlashMem) -> Seen {
+    if flash.geometry().block != 512 || !flash.has_place(FIRST) {
+        return Seen::Failed;
+    }
+    let seen = flash.look(FIRST, &mut [0; 32], &mut [0; 512]);
+    if flash.has_place(FIRST) && flash.has_room(FIRST) && flash.geometry().block == 512 {
+        flash.program(FIRST, &[7; 32], &[7; 512]);
+    }
+    seen
+}
+
+/// Takes a flash, uses it and gives it back: what was seen of its first page, and its units.
+fn uses(alloc: Global, bench: &mut BenchMem, name: &str, units: u32) -> Option<(Seen, u32)> {
+    let geometry = Geometry {
+        units: units % 9,
+        ..SMALL
+    };
+    let mut flash = bench.take_flash(alloc, name, geometry).ok()?;
+    let seen = used(&mut flash);
+    let units = flash.geometry().units;
+    bench.give_flash(name, flash);
+    Some((seen, units))
+}
+
+#[test]
+fn flashes_are_taken_and_given_back(rt: HostRuntime) -> Result<(), Fail> {
+    let alloc = rt.alloc();
+    let mut bench = BenchMem::new(alloc, calls(alloc, &[5])?);
+    assert!(rt; uses(alloc, &mut bench, "a", 2) == Some((Seen::Blank, 2)));
+    assert!(rt; uses(alloc, &mut bench, "a", 3) == Some((Seen::Whole, 2)));
+    assert!(rt; refuses(alloc, &mut bench, "a"));
+    bench.lay_flash(alloc, "a", FlashMem::new(alloc, SMALL, Plan::empty(alloc))?)?;
+    assert!(rt; uses(alloc, &mut bench, "a", 3) == Some((Seen::Blank, 2)));
+    assert!(rt; bench.flash("a").is_some() && bench.flash("b").is_none());
+    assert!(rt; bench.take_flash(alloc, "a", SMALL).is_ok() && bench.flash("a").is_none());
+    assert!(rt; refuses(alloc, &mut bench, "a") && bench.faults() == 2);
+    Ok(())
+}
+
+/// Takes the flash of a file and gives it back: its units.
+fn opens<R: Files<File = File> + Eprint + Drop>(
+    alloc: Global,
+    bench: &mut BenchFile<R>,
+    name: &str,
+    units: u32,
+) -> Option<u32> {
+    let geometry = Geometry {
+        units: units % 9,
+        ..SMALL
+    };
+    let flash = bench.take_flash(alloc, name, geometry).ok()?;
+    let units = flash.geometry().units;
+    bench.give_flash(name, flash);
+    Some(units)
+}
+
+const IMAGE: &str = "fdp_io_image";
+
+/// The file of a flash of four units of two pages.
+const WHOLE: usize = 32 + 8 + 8 * (32 + 512);
+
+#[test]
+fn files_hold_flashes(rt: HostRuntime) -> Result<(), Fail> {
+    let alloc = rt.alloc();
+    let mut bench = BenchFile::new(alloc, &rt);
+    assert!(rt; opens(alloc, &mut bench, IMAGE, 2) == Some(2));
+    assert!(rt; opens(alloc, &mut bench, IMAGE, 3) == Some(2));
+    assert!(rt; fs::read(&rt, IMAGE)?.len() == WHOLE);
+    for text in [
+        "",
+        "FDPFLASH",
+        "a text that is longer than the head of a flash",
+    ] {
+        fs::write(&rt, IMAGE, text)?;
+        assert!(rt; refuses(alloc, &mut bench, IMAGE), "{text}");
+        assert!(rt; fs::read_to_string(&rt, IMAGE)?.as_str() == text, "{text}");
+    }
+    for name in [
+        ".",
+        "fdp_io_image/under",
+        "fdp_io_no_folder/image",
+        "/dev/null",
+    ] {
+        assert!(rt; refuses(alloc, &mut bench, name), "{name}");
+    }
+    fs::remove_file(&rt, IMAGE)?;
     Ok(())
 }
