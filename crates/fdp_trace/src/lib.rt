@@ -18,7 +18,7 @@ mod words;
 
 pub use command_text::{print_command, printed_is_read};
 pub use completion::print_completion;
-pub use decimal::push_decimal;
+pub use decimal::{push_decimal, push_wide_decimal};
 pub use fault::{FaultKind, TraceFault};
 pub use limits::MOST_AMOUNT;
 pub use trace::read_trace;

@@ -1,0 +1,70 @@
+-- The statuses and the lines of the faults.
+use Rattle.std.specs.Prelude.{ℕ, List, [], ◌∷◌, ◌++◌, codes, decimal}
+use Rattle.fdp_config.specs.declared.fault.ConfigFault.{ConfigFault}
+use Rattle.fdp_config.specs.declared.fault.ConfigFault.TheVariants as configs
+use Rattle.fdp_config.specs.declared.fault.NoConfig.{NoConfig}
+use Rattle.fdp_config.specs.declared.fault.NoConfig.TheVariants.{Faulty}
+use Rattle.fdp_config.specs.Table.{row_of}
+use Rattle.fdp_config.specs.Words.{no_config_words}
+use Rattle.fdp_trace.specs.declared.fault.FaultKind.{FaultKind}
+use Rattle.fdp_trace.specs.FaultWord.{kind_word}
+use Rattle.fdp_finding.specs.declared.fault.Fault.{Fault}
+use Rattle.fdp_finding.specs.declared.fault.Fault.TheVariants as faults
+use Rattle.fdp_finding.specs.declared.image.ImageFault.{ImageFault}
+use Rattle.fdp_finding.specs.declared.image.ImageFault.TheVariants as images
+
+-- a fault of a configuration text as one of a run
+abbrev pub of_config : ConfigFault → Fault
+of_config configs.NotToml = faults.Config (Faulty configs.NotToml)
+of_config (configs.Unknown key) = faults.Config (Faulty (configs.Unknown key))
+of_config (configs.Missing key) = faults.Config (Faulty (configs.Missing key))
+of_config (configs.Kind key) = faults.Config (Faulty (configs.Kind key))
+of_config (configs.Range key value) = faults.Config (Faulty (configs.Range key value))
+of_config (configs.NoRoom needed budget) = faults.Config (Faulty (configs.NoRoom needed budget))
+of_config configs.NoMemory = faults.NoMemory
+
+abbrev pub status_of : Fault → ℕ
+status_of faults.Usage = 1
+status_of faults.NotBuilt = 10
+status_of (faults.Config cause) = 2
+status_of faults.TraceAbsent = 3
+status_of faults.TraceLong = 3
+status_of (faults.TraceLine line kind) = 3
+status_of (faults.Image cause) = 4
+status_of faults.Flash = 5
+status_of faults.Source = 6
+status_of faults.NoMemory = 7
+status_of faults.Turns = 9
+
+-- the line where there is no configuration
+abbrev pub config_fault : NoConfig → List ℕ
+config_fault cause = codes "fault 2 " ++ (no_config_words cause ++ 10 ∷ [])
+
+-- the words for an image that a drive does not go on from
+abbrev pub image_words : ImageFault → List ℕ
+image_words (images.Other key) = codes "image other " ++ (row_of key).word
+image_words images.NotADrive = codes "image not-a-drive"
+image_words (images.Bad page) = codes "image bad " ++ decimal page
+image_words images.Spent = codes "image spent"
+
+-- the line of such an image
+abbrev pub image_fault : ImageFault → List ℕ
+image_fault cause = codes "fault 4 " ++ (image_words cause ++ 10 ∷ [])
+
+-- the line of a bad line of the trace
+abbrev pub line_fault : ℕ → FaultKind → List ℕ
+line_fault number kind = codes "fault 3 trace 1 line " ++ (decimal number ++ (32 ∷ (kind_word kind ++ 10 ∷ [])))
+
+-- the line that a run prints; want of memory has none
+abbrev pub fault_text : Fault → List ℕ
+fault_text faults.Usage = codes "fault 1 usage\n"
+fault_text faults.NotBuilt = codes "fault 10 not-built\n"
+fault_text (faults.Config cause) = config_fault cause
+fault_text faults.TraceAbsent = codes "fault 3 trace 1 absent\n"
+fault_text faults.TraceLong = codes "fault 3 trace 1 long\n"
+fault_text (faults.TraceLine number kind) = line_fault number kind
+fault_text (faults.Image cause) = image_fault cause
+fault_text faults.Flash = codes "fault 5 flash\n"
+fault_text faults.Source = codes "fault 6 source\n"
+fault_text faults.NoMemory = []
+fault_text faults.Turns = codes "fault 9 turns\n"

@@ -1,0 +1,5 @@
+pub mod Asked
+pub mod Configured
+pub mod Faults
+pub mod Servable
+pub mod Wanted
