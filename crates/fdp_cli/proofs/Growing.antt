@@ -14,6 +14,8 @@ use Rattle.fdp_flash.specs.FlashState.{Call, FlashState}
 use Rattle.fdp_ledger.specs.Told.{tells_failure}
 use Rattle.fdp_rules.specs.Totals.{media_blocks, media_blocks_of}
 use Rattle.fdp_cli.specs.Serving.{Grows, HasStep, Tallies}
+use Rattle.fdp_core.specs.Stops.{OutlastsStops}
+use Rattle.fdp_cli.proofs.Outlasting.{AreLate, outlasts-joined, outlasts-none, outlasts-step}
 
 -- ---- what the flash counted
 
@@ -62,6 +64,7 @@ grows-none state s = record {
   matches = tallies-none (state s.flash);
   steps = omega arith;
   few = λ low. low;
+  outlasts = outlasts-none state s;
 }
 
 steps-few : (es : List Entry) → (steps_of es ≤ length es) × (steps_of es ≤ 1)
@@ -69,8 +72,8 @@ steps-few [] = (omega arith, omega arith)
 steps-few (e ∷ es) = (omega arith, omega arith)
 
 -- one step
-pub grows-step : {F : Type 0} (state : F → FlashState) (old new : Seen F) (es : List Entry) (calls : List Call) → old.book.spent < 2 ^ 30 → Adds state old new es calls → Grows state old new es
-grows-step state old new es calls left a =
+pub grows-step : {F : Type 0} (state : F → FlashState) (old new : Seen F) (es : List Entry) (calls : List Call) → old.book.spent < 2 ^ 30 → Adds state old new es calls → OutlastsStops state old new → AreLate (state old.flash).moment es → Grows state old new es
+grows-step state old new es calls left a stops late =
     let few = steps-few es in
     record {
       config_is = a.book.config_is;
@@ -81,6 +84,7 @@ grows-step state old new es calls left a =
       matches = record { made = a.matches.made; programs = a.matches.programs; failed = a.matches.failed };
       steps = omega (arith, a.book.spent_is, few.0);
       few = λ low. omega (arith, a.book.spent_is, few.1, left);
+      outlasts = outlasts-step state old new es stops late;
     }
 
 -- more steps after steps
@@ -94,6 +98,7 @@ grows-joined state a b c es fs p q = record {
   matches = tallies-joined (state a.flash) (state b.flash) (state c.flash) es fs p.calls q.calls p.matches q.matches;
   steps = omega (arith, p.steps, q.steps, length-append es fs);
   few = λ low. q.few (p.few low);
+  outlasts = outlasts-joined state a b c es fs p.config_is p.found_is q.entries_are p.outlasts q.outlasts;
 }
 
 -- the book with memory for another number of steps
@@ -104,14 +109,14 @@ with_spare s spare = record s { book = record s.book { spare = spare } }
 pub grows-reserved : {F : Type 0} (state : F → FlashState) (old mid new : Seen F) (es : List Entry) → mid ≡ with_spare old mid.book.spare → Grows state mid new es → Grows state old new es
 grows-reserved {F} state old mid new es same h =
     let k = subst (λ (s : Seen F). Grows state s new es) same h in
-    record { config_is = k.config_is; found_is = k.found_is; entries_are = k.entries_are; handed_is = k.handed_is; calls = k.calls; matches = k.matches; steps = k.steps; few = k.few }
+    record { config_is = k.config_is; found_is = k.found_is; entries_are = k.entries_are; handed_is = k.handed_is; calls = k.calls; matches = k.matches; steps = k.steps; few = k.few; outlasts = record { images = k.outlasts.images; more = k.outlasts.more; late = k.outlasts.late } }
 
 -- nor that behind them
 pub grows-reserving : {F : Type 0} (state : F → FlashState) (old mid new : Seen F) (es : List Entry) → new ≡ with_spare mid new.book.spare → Grows state old mid es → Grows state old new es
 grows-reserving {F} state old mid new es same h =
     subst (λ (s : Seen F). Grows state old s es) (sym same)
-    (record { config_is = h.config_is; found_is = h.found_is; entries_are = h.entries_are; handed_is = h.handed_is; calls = h.calls; matches = h.matches; steps = h.steps; few = h.few })
+    (record { config_is = h.config_is; found_is = h.found_is; entries_are = h.entries_are; handed_is = h.handed_is; calls = h.calls; matches = h.matches; steps = h.steps; few = h.few; outlasts = record { images = h.outlasts.images; more = h.outlasts.more; late = h.outlasts.late } })
 
 -- a step was made with the memory that was reserved for it
-pub grows-made : {F : Type 0} (state : F → FlashState) (old mid new : Seen F) (es : List Entry) (calls : List Call) → mid ≡ with_spare old mid.book.spare → HasStep mid.book → Adds state mid new es calls → Grows state old new es
-grows-made state old mid new es calls same has a = grows-reserved state old mid new es same (grows-step state mid new es calls has.left a)
+pub grows-made : {F : Type 0} (state : F → FlashState) (old mid new : Seen F) (es : List Entry) (calls : List Call) → mid ≡ with_spare old mid.book.spare → HasStep mid.book → Adds state mid new es calls → OutlastsStops state mid new → AreLate (state mid.flash).moment es → Grows state old new es
+grows-made state old mid new es calls same has a stops late = grows-reserved state old mid new es same (grows-step state mid new es calls has.left a stops late)

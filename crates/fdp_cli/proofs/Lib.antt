@@ -1,9 +1,8 @@
-pub mod Configuring
-pub mod Formed
+pub mod Benches
+pub mod GoingOn
 pub mod Growing
 pub mod Idling
-pub mod Printed
+pub mod Outlasting
 pub mod Served
 pub mod Shown
-pub mod Small
 pub mod Starting

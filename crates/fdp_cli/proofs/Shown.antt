@@ -1,176 +1,204 @@
 -- What a run shows.
-use Rattle.std.proofs.Common.{◌≡◌, ℕ, zero, suc, ◌*◌, ◌^◌, ◌≤◌, Bool, true, false, ◌||◌, IsTrue, List, [], ◌∷◌, ◌++◌, length, Ok, Err, None, refl, ap, sym, ◌∙◌, subst, arith, replicate}
-use Rattle.std.specs.Prelude.{Result, ⊤}
-use Rattle.std.specs.List.{list_any}
-use Rattle.std.proofs.lemmas.Bool.{false≢true}
+use Rattle.std.proofs.Common.{◌≡◌, ◌≢◌, ◌⊎◌, ℕ, IsTrue, List, [], ◌∷◌, ◌++◌, length, Ok, Err, None, refl, ap, sym, ◌∙◌, subst, arith, inl, inr}
+use Rattle.std.specs.Prelude.{All, IsFalse, Result, ⊤}
 use Rattle.std.proofs.lemmas.List.{take_all}
-use Rattle.std.proofs.lemmas.List.FromFn.{length-enumerate_from}
+use Rattle.std.proofs.lemmas.List.Elements.{All-cons, All-nil, All-tail, filter_map-append}
 use Rattle.fdp_base.specs.declared.command.Command.{Command}
 use Rattle.fdp_base.specs.declared.config.DriveConfig.{DriveConfig}
-use Rattle.fdp_base.specs.declared.config.Geometry.{Geometry}
 use Rattle.fdp_base.specs.declared.entry.Entry.{Entry}
-use Rattle.fdp_base.specs.declared.entry.Totals.{Totals}
-use Rattle.fdp_base.specs.declared.limits.TheConstants.{MOST_TRACE_COMMANDS}
-use Rattle.fdp_base.specs.Counts.{counted}
-use Rattle.fdp_base.specs.Geometry.{all_pages}
-use Rattle.fdp_base.specs.Placement.{geometry_of}
-use Rattle.fdp_base.specs.EntryKinds.{is_shut, loses_unit}
-use Rattle.fdp_calls.specs.Calls.{counted_more, has_failed}
-use Rattle.fdp_core.specs.Seen.{HoldsHistory, IsLegalOver, IsNewOver, Seen}
+use Rattle.fdp_base.specs.declared.entry.Entry.TheVariants as entries
+use Rattle.fdp_book.specs.Book.{BookSeen, point_in}
+use Rattle.fdp_core.specs.Loading.{IsLoaded}
+use Rattle.fdp_core.specs.Seen.{HoldsHistory, IsLegalOver, Seen}
 use Rattle.fdp_core.specs.Silence.{OthersStaySilent}
-use Rattle.fdp_flash.specs.declared.cell.Cell.TheVariants.{Blank}
-use Rattle.fdp_flash.specs.declared.memory.FlashMem.{FlashMem}
-use Rattle.fdp_flash.specs.declared.plan.Plan.{Plan}
-use Rattle.fdp_flash.specs.FlashMem.{BeginsWith, plan_of, state_of as memory_state}
-use Rattle.fdp_flash.specs.Plan.{plan_is_empty}
-use Rattle.fdp_io.specs.Sink.{HoldsFront, SinkState}
-use Rattle.fdp_ledger.specs.Told.{is_media_reply, tells_failure}
-use Rattle.fdp_rules.specs.History.{Found, first_state, fresh, point_of, state_of, totals_of}
-use Rattle.fdp_rules.specs.Legal.{IsLegal}
-use Rattle.fdp_rules.specs.Queue.{completed, numbered}
-use Rattle.fdp_rules.specs.Totals.{media_blocks}
-use Rattle.fdp_cli.specs.declared.print.Cut.{Cut}
-use Rattle.fdp_cli.specs.declared.print.Cut.TheVariants as cuts
+use Rattle.fdp_core.proofs.Silence.{silent-joined, silent-none}
+use Rattle.fdp_flash.specs.declared.cell.Cell.{Cell}
+use Rattle.fdp_flash.specs.FlashState.{FlashState}
+use Rattle.fdp_flash.specs.Runs.{Runs}
+use Rattle.fdp_flash.proofs.Runs.{runs_joined, runs_weakened}
+use Rattle.fdp_image.specs.Kept.{AreFirm, StandsForBeginning, StandsForKept, is_owed}
+use Rattle.fdp_io.specs.Sink.{Holds, HoldsFront, SinkState}
+use Rattle.fdp_isolation.specs.Begun.{OpenedApart}
+use Rattle.fdp_isolation.specs.Isolated.{IsIsolatedDrive}
+use Rattle.fdp_ledger.specs.declared.counts.Counts.{Counts}
+use Rattle.fdp_ledger.specs.Counted.{CountedSince}
+use Rattle.fdp_ledger.specs.Start.{start_of}
+use Rattle.fdp_printing.specs.declared.print.Cut.{Cut}
+use Rattle.fdp_printing.specs.declared.print.Cut.TheVariants as cuts
+use Rattle.fdp_printing.specs.OutputText.{printed_text}
+use Rattle.fdp_printing.specs.Printing.{HoldsSome, Prints}
+use Rattle.fdp_rules.specs.History.{Found, first_state, point_of, state_of, totals_of}
+use Rattle.fdp_rules.specs.Change.{after, changed_by}
+use Rattle.fdp_rules.specs.Queue.{completed, completed_by, numbered, starting_queue}
 use Rattle.fdp_cli.specs.declared.serving.Stop.{Stop}
 use Rattle.fdp_cli.specs.declared.serving.Stop.TheVariants as stops
-use Rattle.fdp_cli.specs.Printing.{AreSmall, HoldsSome, Prints}
 use Rattle.fdp_cli.specs.Serving.{Grows, IsIdle, Serves}
-use Rattle.fdp_cli.specs.Session.{IsFresh, IsRecordOf, IsSession, IsSpent}
-use Rattle.fdp_cli.proofs.Small.{few_entries, few_pages, small_fresh}
+use Rattle.fdp_cli.specs.Session.{IsCut, IsRecordOf, IsSession}
+use Rattle.fdp_cli.specs.Top.{EndsRun, ServesAndPrints}
+use Rattle.fdp_cli.proofs.Outlasting.{AreLate, each_later, kept-grown, kept-less}
 
 -- ---- the beginning
-
--- the group that was made over a blank flash
-pub fresh_over : (c : DriveConfig) (geometry : Geometry) (plan : Plan) (flash : FlashMem) (group : Seen FlashMem) → geometry ≡ geometry_of c → BeginsWith geometry (replicate (all_pages geometry) Blank) plan flash → IsTrue (plan_is_empty plan) → IsNewOver memory_state c flash group → IsFresh c group
-fresh_over c geometry plan flash group cut begins empty is =
-    let same : flash ≡ group.flash = sym is.flash_is in
-    let plan_is : plan ≡ plan_of group.flash = sym begins.plan_is ∙ ap plan_of same in
-    record {
-      is_new = subst (λ (f : FlashMem). IsNewOver memory_state c f group) same is;
-      blank = subst (λ (f : FlashMem). BeginsWith (geometry_of c) (replicate (all_pages (geometry_of c)) Blank) (plan_of group.flash) f) same
-          (subst (λ (p : Plan). BeginsWith (geometry_of c) (replicate (all_pages (geometry_of c)) Blank) p flash) plan_is (subst (λ (g : Geometry). BeginsWith g (replicate (all_pages g) Blank) plan flash) cut begins));
-      no_failures = subst (λ (p : Plan). IsTrue (plan_is_empty p)) plan_is empty;
-    }
 
 none-going : (c : DriveConfig) (found : Found) → (point_of c found []).state.going 1 ≡ None
 unfolding point_of state_of first_state
 none-going c found = refl
 
+none-going-reopened : (c : DriveConfig) (found : Found) → (point_of c found (entries.Reopened ∷ [])).state.going 1 ≡ None
+unfolding point_of state_of first_state after changed_by
+none-going-reopened c found = refl
+
 -- no write is going before the first command
-pub idle_fresh : (c : DriveConfig) (group : Seen FlashMem) → IsFresh c group → IsIdle group.book
-idle_fresh c group is = ap (λ (es : List Entry). (point_of group.book.config group.book.found es).state.going 1) is.is_new.book.entries_are ∙ none-going group.book.config group.book.found
+idle-begun : (b : BookSeen) → (b.entries ≡ []) ⊎ (b.entries ≡ entries.Reopened ∷ []) → IsIdle b
+idle-begun b (inl none) = ap (λ (es : List Entry). (point_of b.config b.found es).state.going 1) none ∙ none-going b.config b.found
+idle-begun b (inr one) = ap (λ (es : List Entry). (point_of b.config b.found es).state.going 1) one ∙ none-going-reopened b.config b.found
 
--- ---- a flash of which no call fails
+pub idle_loaded : {F : Type 0} (state : F → FlashState) (c : DriveConfig) (flash : F) (group : Seen F) → IsLoaded state c flash group → IsIdle group.book
+idle_loaded state c flash group loaded = idle-begun group.book loaded.entries_are
 
--- a small count of 64 bits counts each of so many
-small_count : (n : ℕ) → n ≤ 2 ^ 39 → counted_more 0 n ≡ n
-unfolding counted_more
-small_count zero low = refl
-small_count (suc n) low = let before = small_count n (omega (arith, low)) in ap counted before ∙ omega (arith, low)
+silent-reopened : OthersStaySilent 1 (entries.Reopened ∷ [])
+silent-reopened other some ne = record { completes = refl; starts = All-cons (λ x. starting_queue x ≢ other) entries.Reopened [] (λ same. omega (arith, some, same)) (All-nil (λ x. starting_queue x ≢ other)) }
 
-none-true : (b : Bool) → (b ≡ true → ⊥) → b ≡ false
-none-true true never = absurd (never refl)
-none-true false never = refl
-
--- no call failed
-all_well : (c : DriveConfig) (old new : Seen FlashMem) (es : List Entry) → IsFresh c old → (grown : Grows memory_state old new es) → list_any has_failed grown.calls ≡ false
-all_well c old new es begun grown =
-    none-true (list_any has_failed grown.calls) (λ failed. false≢true (sym (grown.matches.made.fault failed).unreliable ∙ begun.blank.reliable ∙ begun.no_failures))
-
--- so no entry tells of a failed call
-none_told : (c : DriveConfig) (old new : Seen FlashMem) (es : List Entry) → IsFresh c old → Grows memory_state old new es → list_any tells_failure es ≡ false
-none_told c old new es begun grown = none-true (list_any tells_failure es) (λ tells. false≢true (sym (all_well c old new es begun grown) ∙ grown.matches.failed tells))
-
--- and none of a media error
-media-tells : (es : List Entry) → list_any is_media_reply es ≡ true → list_any tells_failure es ≡ true
-media-tells [] e = e
-media-tells (x ∷ es) e = of-first (is_media_reply x) (is_shut x) (loses_unit x) (list_any is_media_reply es) (list_any tells_failure es) (media-tells es) e
-  where
-    of-first : (media shut lost rest tells : Bool) → (rest ≡ true → tells ≡ true) → media || rest ≡ true → (media || shut || lost) || tells ≡ true
-    of-first true shut lost rest tells more e = refl
-    of-first false true lost rest tells more e = refl
-    of-first false false true rest tells more e = refl
-    of-first false false false rest tells more e = more e
+-- the entries of an opening complete nothing
+first-silent : (es : List Entry) → (es ≡ []) ⊎ (es ≡ entries.Reopened ∷ []) → (completed 1 es ≡ []) × OthersStaySilent 1 es
+first-silent es (inl none) = subst (λ (xs : List Entry). (completed 1 xs ≡ []) × OthersStaySilent 1 xs) (sym none) (refl, silent-none 1)
+first-silent es (inr one) = subst (λ (xs : List Entry). (completed 1 xs ≡ []) × OthersStaySilent 1 xs) (sym one) (refl, silent-reopened)
 
 -- ---- a session
 
--- what a group did that was made over a blank flash, and what it told of itself in the end
-pub record HasServed (c : DriveConfig) (old new : Seen FlashMem) (es : List Entry) : Type 0 where
-  pub begun : IsFresh c old
-  pub entries_are : es ≡ new.book.entries
-  pub few : length es ≤ 300 * new.book.spent
-  pub legal : IsLegalOver (memory_state new.flash) new.book
-  pub cells : HoldsHistory (memory_state new.flash) new.book
+-- a drive that was opened, and what it told of itself when it had served
+pub record HasServed {F : Type 0} (state : F → FlashState) (c : DriveConfig) (handed : F) (old new : Seen F) : Type 0 where
+  pub loaded : IsLoaded state c handed old
+  pub legal : IsLegalOver (state new.flash) new.book
+  pub cells : HoldsHistory (state new.flash) new.book
+  pub apart : IsTrue (state new.flash).told → OpenedApart new.book.config new.book.found new.book.opened → IsIsolatedDrive new.book.config (point_in new.book) new.book.entries (state new.flash).cells
+  pub counted : CountedSince new.handed (state new.flash) (start_of new.book) new.book.entries
+  pub firm : AreFirm new.book.entries new.keeper.firm
+  pub stands : IsTrue (state new.flash).told → StandsForBeginning new.book.config new.book.found new.book.entries new.keeper.firm (state new.flash).cells
 
-pub same_config : (c : DriveConfig) (old new : Seen FlashMem) (xs : List Entry) → IsFresh c old → Grows memory_state old new xs → new.book.config ≡ c
-same_config c old new xs begun grown = grown.config_is ∙ begun.is_new.book.config_is
+-- the entries of an opening complete no change
+first-late : (m : ℕ) (es : List Entry) → (es ≡ []) ⊎ (es ≡ entries.Reopened ∷ []) → AreLate m es
+first-late m es (inl none) = subst (AreLate m) (sym none) (All-nil (λ e. IsFalse (is_owed m e)))
+first-late m es (inr one) = subst (AreLate m) (sym one) (All-cons (λ e. IsFalse (is_owed m e)) entries.Reopened [] refl (All-nil (λ e. IsFalse (is_owed m e))))
 
-pub same_found : (c : DriveConfig) (old new : Seen FlashMem) (xs : List Entry) → IsFresh c old → Grows memory_state old new xs → new.book.found ≡ fresh c
-same_found c old new xs begun grown = grown.found_is ∙ begun.is_new.book.found_is
+all_behind : (P : Entry → Type 0) (kept lost : List Entry) → All P (kept ++ lost) → All P lost
+all_behind P [] lost all = all
+all_behind P (x ∷ kept) lost all = all_behind P kept lost (All-tail P x (kept ++ lost) all)
 
--- there are no more entries than were added
-all_added : (c : DriveConfig) (old new : Seen FlashMem) (es xs : List Entry) → HasServed c old new es → Grows memory_state old new xs → xs ≡ es
-all_added c old new es xs has grown = sym (has.entries_are ∙ grown.entries_are ∙ ap (λ (ys : List Entry). ys ++ xs) has.begun.is_new.book.entries_are)
-
-pub short_history : (c : DriveConfig) (old new : Seen FlashMem) (es xs : List Entry) → HasServed c old new es → Grows memory_state old new xs → length es ≤ 2 ^ 39
-short_history c old new es xs has grown = few_entries (length es) new.book.spent has.few (grown.few (omega (arith, has.begun.is_new.book.spent_is)))
-
-legal_session : (c : DriveConfig) (old new : Seen FlashMem) (es xs : List Entry) → HasServed c old new es → Grows memory_state old new xs → IsLegal true c (fresh c) es
-legal_session c old new es xs has grown =
-    let told : (memory_state new.flash).told ≡ true = grown.matches.made.run.told ∙ has.begun.blank.told in
-    let quiet : list_any tells_failure new.book.entries ≡ false = ap (list_any tells_failure) (sym (all_added c old new es xs has grown ∙ has.entries_are)) ∙ none_told c old new xs has.begun grown in
-    subst (λ (ys : List Entry). IsLegal true c (fresh c) ys) (sym has.entries_are)
-    (subst (λ (x : Found). IsLegal true c x new.book.entries) (same_found c old new xs has.begun grown)
-    (subst (λ (x : DriveConfig). IsLegal true x new.book.found new.book.entries) (same_config c old new xs has.begun grown)
-    (subst (λ (t : Bool). IsLegal t new.book.config new.book.found new.book.entries) told
-    (has.legal (λ media. absurd (false≢true (sym quiet ∙ media-tells new.book.entries media)))))))
-
-session_by : (c : DriveConfig) (old new : Seen FlashMem) (trace : List Command) (end : Result ⊤ Stop) (es xs : List Entry) → HasServed c old new es → Serves memory_state old new trace end → Grows memory_state old new xs → OthersStaySilent 1 xs → IsSession c trace end es
-session_by c old new trace end es xs has served grown others =
-    let all : xs ≡ es = all_added c old new es xs has grown in
-    let well : list_any has_failed grown.calls ≡ false = all_well c old new xs has.begun grown in
-    record {
-      old = old;
-      new = new;
-      begun = has.begun;
-      served = served;
-      entries_are = sym has.entries_are;
-      legal = legal_session c old new es xs has grown;
-      others = subst (OthersStaySilent 1) all others;
-      unfailing = ap (list_any tells_failure) (sym all) ∙ none_told c old new xs has.begun grown;
-      held = record {
-        no_faults = grown.matches.made.no_fault well ∙ has.begun.blank.faults;
-        programs = grown.matches.programs ∙ ap (λ (n : ℕ). counted_more n (media_blocks xs)) has.begun.blank.programs ∙ ap (λ (ys : List Entry). counted_more 0 (media_blocks ys)) all
-            ∙ small_count (media_blocks es) (few_pages es (short_history c old new es xs has grown)) ∙ ap media_blocks has.entries_are;
-        cells = has.cells;
-      };
-    }
-
--- the record of the group that served the whole trace
-pub recorded : (c : DriveConfig) (old new : Seen FlashMem) (trace : List Command) (es : List Entry) → HasServed c old new es → Serves memory_state old new trace (Ok tt) → IsRecordOf c trace es
-recorded c old new trace es has served = record {
-  session = session_by c old new trace (Ok tt) es served.es has served served.grown served.others;
-  whole = ap (completed 1) (sym (all_added c old new es served.es has served.grown)) ∙ served.completes ∙ ap numbered (take_all (length trace) trace (omega arith));
+-- so each beginning of them is kept
+kept-first : (c : DriveConfig) (f : Found) (es : List Entry) (m : ℕ) (image : List Cell) → (es ≡ []) ⊎ (es ≡ entries.Reopened ∷ []) → StandsForBeginning c f es 0 image → StandsForKept c f es 0 m image
+kept-first c f es m image first s = record {
+  beginning = s;
+  kept = record { beginning = s.beginning; none_owed = all_behind (λ e. IsFalse (is_owed m e)) s.kept s.lost (subst (AreLate m) s.beginning.split (first-late m es first)) };
 }
 
--- the group that has no further step for the trace
-pub spent_on : (c : DriveConfig) (old new : Seen FlashMem) (trace : List Command) (es : List Entry) → HasServed c old new es → Serves memory_state old new trace (Err stops.Turns) → IsSpent c trace
-spent_on c old new trace es has served = (es, session_by c old new trace (Err stops.Turns) es served.es has served served.grown served.others)
+-- ---- the whole run
 
--- ---- the sums
+-- the opening, as steps of the drive that it gives
+opened : {F : Type 0} (state : F → FlashState) (c : DriveConfig) (handed : F) (old : Seen F) → IsLoaded state c handed old → Runs (state handed) (state old.flash) (λ m image. StandsForKept c old.book.found old.book.entries 0 m image)
+opened state c handed old loaded =
+    runs_weakened (state handed) (state old.flash) (λ m image. StandsForBeginning c old.book.found old.book.entries 0 image) (λ m image. StandsForKept c old.book.found old.book.entries 0 m image) loaded.stops
+    (λ told m image above most stands. kept-first c old.book.found old.book.entries m image loaded.entries_are stands)
 
--- the sums that a group tells that served a trace
-pub told_totals : (c : DriveConfig) (old new : Seen FlashMem) (trace : List Command) (es : List Entry) (totals : Totals) → HasServed c old new es → Serves memory_state old new trace (Ok tt) → totals ≡ totals_of new.book.found new.book.entries → totals ≡ totals_of (fresh c) es
-told_totals c old new trace es totals has served told =
-    told ∙ ap (λ (x : Found). totals_of x new.book.entries) (same_found c old new served.es has.begun served.grown) ∙ ap (totals_of (fresh c)) (sym has.entries_are)
+-- what a stop in the opening or in a step may leave
+run-images : {F : Type 0} (state : F → FlashState) (c : DriveConfig) (handed : F) (old new : Seen F) (xs : List Entry) → HasServed state c handed old new → Grows state old new xs →
+    Runs (state handed) (state new.flash) (λ m image. StandsForKept new.book.config new.book.found new.book.entries 0 m image)
+run-images state c handed old new xs has grown = runs_joined (state handed) (state old.flash) (state new.flash) Image before behind where
+  Image : ℕ → List Cell → Type 0
+  Image = λ m image. StandsForKept new.book.config new.book.found new.book.entries 0 m image
 
--- they can be told in bytes
-pub served_small : (c : DriveConfig) (old new : Seen FlashMem) (trace : List Command) (es : List Entry) (totals : Totals) → HasServed c old new es → Serves memory_state old new trace (Ok tt) → length trace ≤ MOST_TRACE_COMMANDS → totals ≡ totals_of new.book.found new.book.entries → AreSmall totals
-served_small c old new trace es totals has served short told =
-    let r = recorded c old new trace es has served in
-    subst AreSmall (sym (told_totals c old new trace es totals has served told))
-    (small_fresh true c es r.session.legal (λ other some ne. (r.session.others other some ne).completes)
-    (omega (arith, short, ap length r.whole, length-enumerate_from 0 trace)) (short_history c old new es served.es has served.grown))
+  before : Runs (state handed) (state old.flash) (λ m image. StandsForKept new.book.config new.book.found new.book.entries 0 m image)
+  before =
+      runs_weakened (state handed) (state old.flash) (λ m image. StandsForKept c old.book.found old.book.entries 0 m image) (λ m image. StandsForKept new.book.config new.book.found new.book.entries 0 m image) (opened state c handed old has.loaded)
+      (λ told m image above most stands.
+      subst (λ (x : DriveConfig). StandsForKept x new.book.found new.book.entries 0 m image) (sym (grown.config_is ∙ has.loaded.config_is))
+      (subst (λ (x : Found). StandsForKept c x new.book.entries 0 m image) (sym grown.found_is)
+      (subst (λ (es : List Entry). StandsForKept c old.book.found es 0 m image) (sym grown.entries_are)
+      (kept-grown c old.book.found old.book.entries xs 0 m image (each_later m (state old.flash).moment xs most grown.outlasts.late) stands))))
+
+  behind : Runs (state old.flash) (state new.flash) (λ m image. StandsForKept new.book.config new.book.found new.book.entries 0 m image)
+  behind =
+      runs_weakened (state old.flash) (state new.flash) (λ m image. StandsForKept old.book.config old.book.found new.book.entries old.keeper.firm m image) (λ m image. StandsForKept new.book.config new.book.found new.book.entries 0 m image) grown.outlasts.images
+      (λ told m image above most stands.
+      subst (λ (x : DriveConfig). StandsForKept x new.book.found new.book.entries 0 m image) (sym grown.config_is)
+      (subst (λ (x : Found). StandsForKept old.book.config x new.book.entries 0 m image) (sym grown.found_is)
+      (kept-less old.book.config old.book.found new.book.entries old.keeper.firm 0 m image (omega arith) stands)))
+
+-- its session, behind some steps
+session-by : {F : Type 0} (state : F → FlashState) (c : DriveConfig) (trace : List Command) (end : Result ⊤ Stop) (handed given : F) (old new : Seen F) (xs : List Entry) → HasServed state c handed old new → given ≡ new.flash → Serves state old new trace end → Grows state old new xs → OthersStaySilent 1 xs →
+    IsSession state c trace end handed given new.book.found new.book.entries
+session-by {F} state c trace end handed given old new xs has same served grown others = record {
+  old = old;
+  new = new;
+  loaded = has.loaded;
+  served = served;
+  found_is = refl;
+  entries_are = refl;
+  flash_is = sym same;
+  legal = subst (λ (f : F). IsLegalOver (state f) new.book) (sym same) has.legal;
+  others = subst (OthersStaySilent 1) (sym grown.entries_are) (silent-joined 1 old.book.entries xs (first-silent old.book.entries has.loaded.entries_are).1 others);
+  held = record {
+    counted = subst (λ (k : Counts). CountedSince k (state new.flash) (start_of new.book) new.book.entries) (grown.handed_is ∙ has.loaded.handed_is) has.counted;
+    cells = has.cells;
+    apart = has.apart;
+    firm = has.firm;
+    stops = record { images = run-images state c handed old new xs has grown; cells = has.stands };
+  };
+}
+
+-- the record of the drive that served the whole trace
+recorded : {F : Type 0} (state : F → FlashState) (c : DriveConfig) (trace : List Command) (handed given : F) (old new : Seen F) → HasServed state c handed old new → given ≡ new.flash → Serves state old new trace (Ok tt) → IsRecordOf state c trace handed given new.book.found new.book.entries
+recorded state c trace handed given old new has same served = record {
+  session = session-by state c trace (Ok tt) handed given old new served.es has same served served.grown served.others;
+  whole = ap (completed 1) served.grown.entries_are ∙ filter_map-append (completed_by 1) old.book.entries served.es
+      ∙ ap (λ (xs : List (ℕ × Command)). xs ++ completed 1 served.es) (first-silent old.book.entries has.loaded.entries_are).0
+      ∙ served.completes ∙ ap numbered (take_all (length trace) trace (omega arith));
+}
+
+-- the drive that served a part of it
+cut : {F : Type 0} (state : F → FlashState) (c : DriveConfig) (trace : List Command) (stop : Stop) (handed given : F) (old new : Seen F) → HasServed state c handed old new → given ≡ new.flash → Serves state old new trace (Err stop) → IsCut state c trace stop handed given
+cut state c trace stop handed given old new has same served =
+    (new.book.found, new.book.entries, session-by state c trace (Err stop) handed given old new served.es has same served served.grown served.others)
+
+config-is : {F : Type 0} (state : F → FlashState) (c : DriveConfig) (handed : F) (old new : Seen F) (xs : List Entry) → HasServed state c handed old new → Grows state old new xs → new.book.config ≡ c
+config-is state c handed old new xs has grown = grown.config_is ∙ has.loaded.config_is
+
+-- how the run ended that served and printed so
+pub ended : {F : Type 0} (state : F → FlashState) (c : DriveConfig) (trace : List Command) (handed given : F) (old new : Seen F) (sink sink' : SinkState) (status : ℕ) → HasServed state c handed old new → given ≡ new.flash → ServesAndPrints state old new trace sink sink' status →
+    EndsRun state c trace handed given sink sink' status
+ended state c trace handed given old new sink sink' status has same (inl whole) =
+    inl (
+      whole.0,
+      (
+        new.book.found,
+        new.book.entries,
+        recorded state c trace handed given old new has same whole.1,
+        subst (λ (x : DriveConfig). Holds sink sink' (printed_text x (totals_of new.book.found new.book.entries) new.book.entries)) (config-is state c handed old new whole.1.es has whole.1.grown) whole.2,
+      ),
+    )
+ended state c trace handed given old new sink sink' status has same (inr (inl front)) =
+    inr (inl (
+      front.0,
+      (
+        new.book.found,
+        new.book.entries,
+        recorded state c trace handed given old new has same front.1,
+        subst (λ (x : DriveConfig). HoldsFront sink sink' (printed_text x (totals_of new.book.found new.book.entries) new.book.entries)) (config-is state c handed old new front.1.es has front.1.grown) front.2,
+      ),
+    ))
+ended state c trace handed given old new sink sink' status has same (inr (inr (inl some))) =
+    inr (inr (inl (
+      some.0,
+      (
+        new.book.found,
+        new.book.entries,
+        recorded state c trace handed given old new has same some.1,
+        subst (λ (x : DriveConfig). HoldsSome sink sink' (printed_text x (totals_of new.book.found new.book.entries) new.book.entries)) (config-is state c handed old new some.1.es has some.1.grown) some.2,
+      ),
+    )))
+ended state c trace handed given old new sink sink' status has same (inr (inr (inr (inl none)))) =
+    inr (inr (inr (inl (none.0, none.1, cut state c trace stops.NoMemory handed given old new has same none.2))))
+ended state c trace handed given old new sink sink' status has same (inr (inr (inr (inr turns)))) =
+    inr (inr (inr (inr (inl (turns.0, cut state c trace stops.Turns handed given old new has same turns.1)))))
 
 -- ---- what was printed
 

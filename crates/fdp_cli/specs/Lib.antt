@@ -1,10 +1,6 @@
-pub mod Asked
-pub mod Configured
-pub mod Faults
-pub mod Wanted
-pub mod OutputText
-pub mod Printing
-pub mod Servable
+pub mod GoesOn
+pub mod Loading
 pub mod Serving
 pub mod Session
+pub mod Stopping
 pub mod Top

@@ -17,6 +17,7 @@ use Rattle.fdp_rules.specs.Queue.{completed, numbered}
 use Rattle.fdp_rules.specs.Totals.{media_blocks}
 use Rattle.fdp_cli.specs.declared.serving.Stop.{Stop}
 use Rattle.fdp_cli.specs.declared.serving.Stop.TheVariants as stops
+use Rattle.fdp_cli.specs.Stopping.{OutlastsAll}
 
 -- ---- steps
 
@@ -37,7 +38,8 @@ pub record Tallies (old new : FlashState) (es : List Entry) (calls : List Call) 
   pub programs : new.programs ≡ counted_more old.programs (media_blocks es)
   pub failed : IsTrue (list_any tells_failure es) → IsTrue (list_any has_failed calls)
 
--- steps that added these entries, with these calls of the flash, or no step: each step added an entry, and there are 2^30 at most
+-- steps that added these entries, with these calls of the flash, or no step: each step added an entry, there are 2^30 at most, and a stop in
+-- any of them leaves what was completed before
 pub record Grows {F : Type 0} (state : F → FlashState) (old new : Seen F) (es : List Entry) : Type 0 where
   pub config_is : new.book.config ≡ old.book.config
   pub found_is : new.book.found ≡ old.book.found
@@ -47,6 +49,7 @@ pub record Grows {F : Type 0} (state : F → FlashState) (old new : Seen F) (es 
   pub matches : Tallies (state old.flash) (state new.flash) es calls
   pub steps : new.book.spent ≤ old.book.spent + length es
   pub few : old.book.spent ≤ 2 ^ 30 → new.book.spent ≤ 2 ^ 30
+  pub outlasts : OutlastsAll state old new es
 
 -- ---- a write
 

@@ -15,7 +15,7 @@ pub fn drive_process<B: Bench, K: Sink>(
     sink: &mut K,
 ) -> ExitCode
     ensures texts { SameTexts (B.state bench.old) (B.state bench.new) }
-    ensures status { Answers (B.state bench.old) (B.state bench.new) words.now (K.state sink.old) (K.state sink.new) (exit_status result) }
+    ensures status { Answers B.F.state (B.state bench.old) (B.state bench.new) words.now (K.state sink.old) (K.state sink.new) (exit_status result) }
 {
     ExitCode::from(drive_top(alloc, words, bench, sink))
 }

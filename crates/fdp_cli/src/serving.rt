@@ -1,5 +1,5 @@
 ghost use Rattle.std.specs.Prelude.{◌≡◌, ◌≤◌, All, MatchResult, length};
-ghost use Rattle.fdp_cli.specs.Servable.{IsServable};
+ghost use Rattle.fdp_finding.specs.Servable.{IsServable};
 ghost use Rattle.fdp_cli.specs.Serving.{EndsWrite, HasStep, IsIdle, IsPlacing, IsStopped, PlacesAll, Serves, ServesOne, StopsShort};
 
 use fdp_base::{Command, MOST_STEPS, MOST_TRACE_COMMANDS};

@@ -1,6 +1,7 @@
 //! Runs of the program, row by row: its input has texts and the words of runs, its output the status and the text of each run.
 #![tactic(auto)]
 
+mod image;
 mod repeat;
 mod rows;
 mod text;

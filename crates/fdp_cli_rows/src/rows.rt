@@ -1,3 +1,4 @@
+use crate::image::Image;
 use crate::repeat::Repeat;
 use crate::text::Text;
 use fdp_cli::drive_top;
@@ -15,6 +16,7 @@ pub struct Rows {
     open: Option<Text>,
     /// Lines of it that are to be repeated.
     repeat: Option<Repeat>,
+    image: Image,
     bench_fails: Option<u64>,
     sink_fails: Option<u64>,
     room: usize,
@@ -26,6 +28,7 @@ impl Rows {
             texts: Vec::new(alloc),
             open: None,
             repeat: None,
+            image: Image::none(),
             bench_fails: None,
             sink_fails: None,
             room: AMPLE,
@@ -82,7 +85,8 @@ impl Rows {
     }
 
     /// `text NAME` begins a text; `bench N` and `sink N` let that call of the next run fail, and `room N` gives its sink so
-    /// much room; `run WORD..` makes it. An underscore is an empty word.
+    /// much room; `again` lets it find the flash that the last run left, `tear PAGE` tears a page of that, and `flash N` lets it find a blank
+    /// flash whose call N fails; `run WORD..` makes it. An underscore is an empty word.
     fn command(
         &mut self,
         alloc: Global,
@@ -95,6 +99,9 @@ impl Rows {
             "bench" => self.bench_fails = rest.parse().ok(),
             "sink" => self.sink_fails = rest.parse().ok(),
             "room" => self.room = rest.parse().unwrap_or(AMPLE),
+            "again" => self.image.stay(),
+            "tear" => self.image.tear(alloc, rest.parse().unwrap_or(usize::MAX))?,
+            "flash" => self.image.fail(alloc, rest.parse().unwrap_or(0))?,
             "run" => self.run(alloc, rest, output)?,
             _ => {}
         }
@@ -107,9 +114,12 @@ impl Rows {
         for text in self.texts.iter().rev() {
             bench.add(alloc, &text.name, &text.bytes)?;
         }
+        let image = image_of(&words);
+        self.image.lay(alloc, &mut bench, image)?;
         let mut sink = SinkMem::new(alloc, self.room, failing(alloc, self.sink_fails.take())?)?;
         self.room = AMPLE;
         let status = drive_top(alloc, &words, &mut bench, &mut sink);
+        self.image.keep(alloc, &mut bench, image);
         push_end(alloc, status, sink.bytes(), output)
     }
 }
@@ -124,6 +134,14 @@ fn words_of(alloc: Global, line: &str) -> Result<Vec<String>, AllocError> {
         words.push(String::from_str(alloc, word)?)?;
     }
     Ok(words)
+}
+
+/// The name of the image, or an empty one.
+fn image_of(words: &[String]) -> &str {
+    match words.get(2) {
+        Some(word) => word.as_str(),
+        None => "",
+    }
 }
 
 fn failing(alloc: Global, call: Option<u64>) -> Result<Vec<u64>, AllocError> {

@@ -13,7 +13,7 @@ fn main(rt: HostRuntime) -> ExitCode {
         Err(error) if error.kind() == io::ErrorKind::OutOfMemory => return ExitCode::from(7),
         Err(_) => Vec::new(rt.alloc()),
     };
-    let mut bench = BenchFile::new(&rt);
+    let mut bench = BenchFile::new(rt.alloc(), &rt);
     let mut sink = SinkWriter::new(io::writer(&rt));
     drive_process(rt.alloc(), &words, &mut bench, &mut sink)
 }

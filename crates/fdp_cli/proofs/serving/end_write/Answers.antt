@@ -1,6 +1,7 @@
-use Rattle.std.proofs.Common.{subst}
-use Rattle.fdp_cli.specs.Serving.{PlacesAll, PlacesEach}
-use Rattle.fdp_cli.proofs.Served.{each-reserved, ends_committing, placing_ready}
+use Rattle.std.proofs.Common.{subst, sym}
+use Rattle.fdp_core.specs.Seen.{Seen}
+use Rattle.fdp_cli.specs.Serving.{PlacesAll, PlacesEach, StopsShort}
+use Rattle.fdp_cli.proofs.Served.{each-reserved, ends_committing, places_short, placing_ready}
 use Rattle.fdp_cli.proofs.serving.end_write.Given.{Over}
 use Rattle.fdp_cli.proofs.serving.end_write.Goals as goal
 
@@ -23,4 +24,10 @@ pub returns : goal.returns
 returns g c =
     let p = each-reserved g.F.Flash.state c.args.group.now c.place_all.new.group c.reserve_step.new.group c.args.ticket c.in-Some.ticket
     (subst (PlacesAll g.F.Flash.state c.args.group.now c.place_all.new.group c.args.ticket) c.in-Some.is c.in_ok-ticket.ensures) c.reserve_step.ensures.kept in
-    ends_committing g.F.Flash.state c.args.group.now c.reserve_step.new.group c.commit.new.self c.args.ticket c.in-Some.ticket p c.commit.result c.in_default-reserve_step.ensures.answer (c.commit.ensures _ p.places.to)
+    ends_committing g.F.Flash.state c.args.group.now c.reserve_step.new.group c.commit.new.self c.args.ticket c.in-Some.ticket p c.commit.result c.in_default-reserve_step.ensures.answer c.commit.ensures.stops (c.commit.ensures.step _ p.places.to)
+
+pub returns-in-Err : goal.returns-in-Err
+returns-in-Err g c =
+    let p = subst (PlacesAll g.F.Flash.state c.args.group.now c.place_all.new.group c.args.ticket) c.in-Some.is c.in_ok-ticket.ensures in
+    subst (λ (s : Seen g.row.F.Denot). StopsShort g.F.Flash.state c.args.group.now s c.in-Err.stop) (sym c.abandon.ensures)
+    (places_short g.F.Flash.state c.args.group.now c.place_all.new.group c.reserve_step.new.group c.args.ticket c.in-Some.ticket p.placed c.in-Err.stop p.places c.reserve_step.ensures.kept c.in-Err.ensures.answer)

@@ -12,7 +12,7 @@ pub end_write-requires : goal.end_write-requires
 end_write-requires g c =
     record {
       placing = started_placing g.F.Flash.state c.reserve_step.new.group c.start.new.self c.args.group.now.book.config c.args.number c.in_ok-begun.begun c.in-Going.ticket
-          (subst (λ (x : Command). IsWellFormed c.args.group.now.book.config x) (sym c.in_ok-begun.ensures) c.requires.servable.formed) c.in-Going.ensures;
+          (subst (λ (x : Command). IsWellFormed c.args.group.now.book.config x) (sym c.in_ok-begun.ensures) c.requires.servable.formed) c.in-Going.ensures.step;
     }
 
 pub returns-in_err-reserve_step : goal.returns-in_err-reserve_step
@@ -33,9 +33,9 @@ returns-in_err-begun g c =
 pub returns-in-Ended : goal.returns-in-Ended
 returns-in-Ended g c =
     subst (λ (x : Command). ServesOne g.F.Flash.state c.args.group.now c.start.new.self c.args.number x) c.in_ok-begun.ensures
-    (ends_at_once g.F.Flash.state c.args.group.now c.reserve_step.new.group c.start.new.self c.args.number c.in_ok-begun.begun c.in-Ended.done c.reserve_step.ensures.kept c.in_ok-reserve_step.ensures.answer c.requires.idle c.in-Ended.ensures)
+    (ends_at_once g.F.Flash.state c.args.group.now c.reserve_step.new.group c.start.new.self c.args.number c.in_ok-begun.begun c.in-Ended.done c.reserve_step.ensures.kept c.in_ok-reserve_step.ensures.answer c.in-Ended.ensures.stops c.requires.idle c.in-Ended.ensures.step)
 
 pub returns-in-Going : goal.returns-in-Going
 returns-in-Going g c =
     write_ends g.F.Flash.state c.args.group.now c.reserve_step.new.group c.start.new.self c.end_write.new.group c.args.number c.args.command.now c.in_ok-begun.begun c.in-Going.ticket c.end_write.result
-    c.in_ok-begun.ensures c.reserve_step.ensures.kept c.in_ok-reserve_step.ensures.answer c.in-Going.ensures c.end_write.ensures
+    c.in_ok-begun.ensures c.reserve_step.ensures.kept c.in_ok-reserve_step.ensures.answer c.in-Going.ensures.stops c.in-Going.ensures.step c.end_write.ensures
