@@ -17,11 +17,12 @@ commands() {
 
 # the instructions of a run over a trace
 instructions() {
-    valgrind --tool=callgrind --callgrind-out-file=/dev/null "$top/crates/fdpdrive/out/fdpdrive" run "$top/examples/large.toml" blank "$1" \
+    rm -f "$work/drive.img"
+    valgrind --tool=callgrind --callgrind-out-file=/dev/null "$top/crates/fdpdrive/out/fdpdrive" run "$top/examples/large.toml" "$work/drive.img" "$1" \
         2>&1 >/dev/null | sed -n 's/.*Collected : //p'
 }
 
-"$top/fdpdrive" run "$top/examples/drive-s.toml" blank /dev/null >/dev/null
+"$top/fdpdrive" run "$top/examples/drive-s.toml" "$work/first.img" /dev/null >/dev/null
 for size in 1 64; do
     count=$((4096 / size))
     commands write $((count / 2)) "$size" > "$work/half"
