@@ -1,2 +1,4 @@
+pub mod CommandText
+pub mod HistoryText
 pub mod Output
 pub mod RunOutput

@@ -8,7 +8,6 @@ use Rattle.fdp_rules.specs.History.{Found, point_of}
 use Rattle.fdp_rules.specs.LogPages.{usage_of}
 use Rattle.fdp_base.specs.Numbers.{numbers_below, numbers_from}
 use Rattle.fdp_output.specs.Output.{queue_text, stats_line}
-use Rattle.fdp_rules.specs.PlainState.{PlainState}
 use Rattle.fdp_rules.specs.Point.{Point}
 use Rattle.fdp_rules.specs.Room.{handles_in_force}
 use Rattle.fdp_base.specs.EventCodes.{flags_code, kind_code}
@@ -18,9 +17,9 @@ use Rattle.fdp_base.specs.Text.{hex, line}
 abbrev pub totals_line : DriveConfig → Totals → List ℕ
 totals_line c t = stats_line (c.block * t.host_blocks) (c.block * t.media_blocks) (c.block * c.unit_pages * t.erases)
 
--- the line of a handle: 0 unused, 1 specified by a host, 2 by the controller
-abbrev pub usage_line : PlainState → ℕ → List ℕ
-usage_line s ruh = line (codes "ruh" ∷ decimal ruh ∷ decimal (usage_of s ruh) ∷ [])
+-- the line of a handle and its usage: 0 unused, 1 specified by a host, 2 by the controller
+abbrev pub usage_line : ℕ → ℕ → List ℕ
+usage_line ruh usage = line (codes "ruh" ∷ decimal ruh ∷ decimal usage ∷ [])
 
 -- the line of an event: class, kind, flags, placement identifier, position, namespace, moved blocks, address, group, handle
 abbrev pub event_line : List ℕ → Event → List ℕ
@@ -30,7 +29,7 @@ event_line class e = line (codes "event" ∷ class ∷ hex 2 (kind_code e.kind) 
 -- the usage of each handle, then the events, first those that hosts ask for
 abbrev pub placement_text : DriveConfig → Point → List ℕ
 placement_text c p =
-    flat_map (usage_line p.state) (numbers_below (handles_in_force c p.state))
+    flat_map (λ ruh. usage_line ruh (usage_of p.state ruh)) (numbers_below (handles_in_force c p.state))
     ++ flat_map (event_line (codes "host")) p.host_events
     ++ flat_map (event_line (codes "ctrl")) p.controller_events
 

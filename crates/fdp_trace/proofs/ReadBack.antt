@@ -13,7 +13,7 @@ use Rattle.fdp_trace.specs.Words.{is_blank, words_of}
 use Rattle.fdp_trace.specs.Lines.{Part, Fixed, Number, range_parts, IsLine, write, write_placed, read, zeroes, dealloc, flush, status, update, log, log_ctrl, log_host, set_fdp, get_fdp, set_events, create, delete}
 use Rattle.fdp_trace.specs.Demands.{IsInRange, Spells}
 use Rattle.fdp_trace.specs.Grammar.{is_skipped, Says}
-use Rattle.fdp_trace.specs.CommandText.{range_words, on_word, argument_words, command_text}
+use Rattle.fdp_output.specs.CommandText.{range_words, on_word, argument_words, command_text}
 use Rattle.fdp_trace.specs.Printer.{spaced_behind}
 use Rattle.fdp_trace.proofs.Parts.{zip_weaker, in_range, within_both, ranges_found}
 use Rattle.fdp_trace.proofs.Spelling.{IsWord, spaced_is, words_back, ascii_behind, number_word, number_back}

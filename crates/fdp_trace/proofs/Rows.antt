@@ -14,7 +14,7 @@ use Rattle.fdp_trace.specs.declared.command_word.CommandWord.TheVariants as word
 use Rattle.fdp_trace.specs.Reader.Shapes.{word_named, accepts}
 use Rattle.fdp_trace.specs.Reader.Reading.{◌>>=◌, field}
 use Rattle.fdp_trace.specs.Reader.Commands.{choice, directive, write_of, read_of, zero_of, ranges_of, dealloc_of, flush_of, delete_of, status_of, numbers_of, update_of, class_of, log_of, set_fdp_of, set_events_of, create_of, spelled}
-use Rattle.fdp_trace.specs.CommandText.{on_word}
+use Rattle.fdp_output.specs.CommandText.{on_word}
 use Rattle.fdp_trace.specs.Lines.{Part, Fixed, Number, bits, amount, range_parts, IsLine, write, write_placed, read, zeroes, dealloc, flush, status, update, log, log_ctrl, log_host, set_fdp, get_fdp, set_events, create, delete}
 use Rattle.fdp_trace.specs.Demands.{IsNumberFor}
 use Rattle.fdp_trace.proofs.Parts.{Follows, in_range, ranged, field_then, end_then, word_then, ranged_then, numbers_ranged, ranges_ranged}

@@ -1,6 +1,5 @@
 pub mod Words
 pub mod Numbers
-pub mod CommandText
 pub mod Lines
 pub mod Demands
 pub mod Grammar

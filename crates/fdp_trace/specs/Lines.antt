@@ -8,7 +8,7 @@ use Rattle.fdp_base.specs.declared.codes.Directive.TheVariants as directives
 use Rattle.fdp_base.specs.declared.codes.ReceiveOperation.TheVariants as receives
 use Rattle.fdp_base.specs.declared.codes.SendOperation.TheVariants as sends
 use Rattle.fdp_base.specs.declared.payload.Payload.TheVariants.{Pattern}
-use Rattle.fdp_trace.specs.CommandText.{on_word}
+use Rattle.fdp_output.specs.CommandText.{on_word}
 use Rattle.fdp_trace.specs.declared.limits.TheConstants.{MOST_AMOUNT}
 
 -- a word of a line: one that is fixed, or a number with its least and its greatest value

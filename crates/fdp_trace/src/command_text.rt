@@ -1,7 +1,7 @@
 //! Commands in the form of a trace.
 
 ghost use Rattle.std.specs.Prelude.{◌≡◌, ◌≤◌, ℕ, List, ◌++◌, ◌∷◌, false, length, OnOk, OnErr, map, flat_map, decimal, []};
-ghost use Rattle.fdp_trace.specs.CommandText.{payload_word, directive_words, range_words, on_word, class_words, argument_words, command_text};
+ghost use Rattle.fdp_output.specs.CommandText.{payload_word, directive_words, range_words, on_word, class_words, argument_words, command_text};
 ghost use Rattle.fdp_trace.specs.Printer.{spaced_behind};
 ghost use Rattle.fdp_trace.specs.Printer.{Extends};
 ghost use Rattle.fdp_trace.specs.Demands.{Spells};
@@ -179,8 +179,8 @@ fn push_types(text: &mut Vec<u8>, numbers: &[u8]) -> Result<(), AllocError>
     Ok(())
 }
 
-/// Adds a space and a number.
-fn push_number(text: &mut Vec<u8>, number: u64) -> Result<(), AllocError>
+/// Adds a space and a number. An `Err` may leave the space.
+pub fn push_number(text: &mut Vec<u8>, number: u64) -> Result<(), AllocError>
     ensures ok { OnOk result (text.new.items ≡ text.old.items ++ 32 ∷ decimal number) }
     ensures err { OnErr result (Extends text.old.items text.new.items) }
 {
@@ -188,8 +188,8 @@ fn push_number(text: &mut Vec<u8>, number: u64) -> Result<(), AllocError>
     push_decimal(text, number)
 }
 
-/// Adds a space and a word.
-fn push_word(text: &mut Vec<u8>, word: &[u8]) -> Result<(), AllocError>
+/// Adds a space and a word. An `Err` may leave the space.
+pub fn push_word(text: &mut Vec<u8>, word: &[u8]) -> Result<(), AllocError>
     ensures ok { OnOk result (text.new.items ≡ text.old.items ++ 32 ∷ word.now) }
     ensures err { OnErr result (Extends text.old.items text.new.items) }
 {

@@ -63,7 +63,8 @@ fn push_head(
     Ok(())
 }
 
-fn push_status(text: &mut Vec<u8>, status: Status) -> Result<(), AllocError>
+/// Adds a status: its type, a slash, its code. An `Err` may leave a part of it.
+pub fn push_status(text: &mut Vec<u8>, status: Status) -> Result<(), AllocError>
     ensures ok { OnOk result (text.new.items ≡ text.old.items ++ status_text status) }
     ensures err { OnErr result (Extends text.old.items text.new.items) }
 {

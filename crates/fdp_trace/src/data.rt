@@ -13,7 +13,7 @@ use std::alloc::AllocError;
 /// Bytes of a log or a status on one line.
 const LINE: usize = 32;
 
-/// Adds the lines of the data.
+/// Adds the lines of the data that a command answers. An `Err` may leave some of them.
 pub fn push_data(text: &mut Vec<u8>, command: &Command, bytes: &[u8]) -> Result<(), AllocError>
     ensures ok { OnOk result (text.new.items ≡ text.old.items ++ data_text command.now bytes.now) }
     ensures err { OnErr result (Extends text.old.items text.new.items) }

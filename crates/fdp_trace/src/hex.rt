@@ -7,7 +7,7 @@ ghost use Rattle.fdp_trace.specs.Printer.{Extends};
 use fdp_base::hex_digit;
 use std::alloc::AllocError;
 
-/// Adds the lowest digits of a number, the highest of them first.
+/// Adds the lowest digits of a number, the highest of them first. An `Err` may leave some of them.
 #[tactic(auto, unfolding(fdp_base::specs::Text::hex))]
 pub fn push_hex(text: &mut Vec<u8>, digits: u8, n: u32) -> Result<(), AllocError>
     ensures ok { OnOk result (text.new.items ≡ text.old.items ++ hex digits n) }

@@ -16,9 +16,12 @@ mod number;
 mod trace;
 mod words;
 
-pub use command_text::{print_command, printed_is_read};
-pub use completion::print_completion;
+pub use command_text::{print_command, printed_is_read, push_number, push_word};
+pub use completion::{print_completion, push_status};
+pub use data::push_data;
 pub use decimal::{push_decimal, push_wide_decimal};
 pub use fault::{FaultKind, TraceFault};
+pub use hex::push_hex;
 pub use limits::MOST_AMOUNT;
+pub use number::number_of_digits;
 pub use trace::read_trace;

@@ -39,9 +39,9 @@ fn number(word: &[u8]) -> Option<u128>
     ensures { result ≡ option_map (min (2 ^ 64)) (number_of word.now) }
 {
     if is_decimal(word) {
-        Some(value(word, 10))
+        Some(number_of_digits(word, 10))
     } else if is_hexadecimal(word) {
-        Some(value(&word[2..], 16))
+        Some(number_of_digits(&word[2..], 16))
     } else {
         None
     }
@@ -71,7 +71,8 @@ fn are_hex_digits(digits: &[u8]) -> bool
     digits.iter().all(|b| b.is_ascii_hexdigit())
 }
 
-fn value(digits: &[u8], radix: u8) -> u128
+/// The number that digits spell, or 2^64 where it is at least that.
+pub fn number_of_digits(digits: &[u8], radix: u8) -> u128
     requires low { 1 ≤ radix }
     requires high { radix ≤ 36 }
     ensures { result ≡ min (2 ^ 64) (value_of radix digits.now) }

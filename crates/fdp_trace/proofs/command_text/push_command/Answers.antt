@@ -1,6 +1,6 @@
 use Rattle.std.proofs.Common.{List, ℕ, ◌++◌, append_assoc, ap, sym, ◌∙◌}
 use Rattle.fdp_base.specs.CommandKinds.{word_of}
-use Rattle.fdp_trace.specs.CommandText.{argument_words}
+use Rattle.fdp_output.specs.CommandText.{argument_words}
 use Rattle.fdp_trace.specs.Printer.{spaced_behind}
 use Rattle.fdp_trace.proofs.Printed.{when_ok}
 use Rattle.fdp_trace.proofs.Spelling.{spaced_is}

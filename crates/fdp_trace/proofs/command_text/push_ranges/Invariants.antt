@@ -1,6 +1,6 @@
 use Rattle.std.proofs.Common.{◌≡◌, ◌++◌, take}
 use Rattle.std.specs.Prelude.{flat_map}
-use Rattle.fdp_trace.specs.CommandText.{range_words}
+use Rattle.fdp_output.specs.CommandText.{range_words}
 use Rattle.fdp_trace.specs.Printer.{spaced_behind}
 use Rattle.fdp_trace.specs.Printer.{Extends}
 use Rattle.fdp_trace.proofs.command_text.push_ranges.Given as goal

@@ -1,4 +1,6 @@
--- A command in the form of a trace, with single spaces and decimal numbers.
+-- A command in the form of a trace, with single spaces and decimal numbers. What no line of a trace can say is left out: the bytes of a payload, for
+-- which the word `bytes` stands, a group, a management operation, and that nothing is to be deallocated. A command that the drive does not serve has
+-- no line; its text is the word `entry` with its opcode, its flags and its feature.
 use Rattle.std.specs.Prelude.{ℕ, Bool, ◌==◌, if◌then◌else◌, List, [], ◌∷◌, map, flat_map, codes, decimal}
 use Rattle.fdp_base.specs.declared.command.Command.{Command}
 use Rattle.fdp_base.specs.declared.command.Command.TheVariants as commands
