@@ -1,22 +1,22 @@
 -- The commands of a trace are well formed.
-use Rattle.std.proofs.Common.{◌≡◌, ◌≢◌, ◌∙◌, ℕ, suc, Bool, true, false, List, [], ◌∷◌, ap, length, refl, sym, arith}
-use Rattle.std.proofs.lemmas.Bool.{false≢true}
-use Rattle.std.specs.Prelude.{not, ◌==◌, codes, IsFalse, ◌&&◌}
-use Rattle.std.specs.List.{All, AllZip, filter, list_all}
+use Rattle.std.proofs.Common.{◌≡◌, ℕ, suc, true, List, [], ◌∷◌, length, refl, arith}
+use Rattle.std.specs.Prelude.{not, ◌==◌, codes, IsFalse, Result, Ok, Err, IfErr, IfOk, MatchResult}
+use Rattle.std.specs.Global.{Vec}
+use Rattle.std.specs.List.{All, AllZip, filter}
 use Rattle.std.proofs.lemmas.List.Elements.{All-cons, All-nil}
 use Rattle.fdp_base.specs.declared.command.Command.{Command}
-use Rattle.fdp_base.specs.declared.command.Command.TheVariants as commands
-use Rattle.fdp_base.specs.declared.command.GetLog.{GetLog}
 use Rattle.fdp_base.specs.declared.config.DriveConfig.{DriveConfig}
 use Rattle.fdp_base.specs.declared.limits.TheConstants.{MOST_ENTRY_BLOCKS}
 use Rattle.fdp_base.specs.CommandKinds.{IsWellFormed}
 use Rattle.fdp_base.specs.Geometry.{IsWithin}
+use Rattle.fdp_trace.specs.declared.fault.TraceFault.{TraceFault}
+use Rattle.fdp_trace.specs.Answer.{IsCause}
 use Rattle.fdp_trace.specs.Demands.{IsInRange}
 use Rattle.fdp_trace.specs.Grammar.{IsTraceOf, Says, is_skipped}
 use Rattle.fdp_trace.specs.Lines.{Fixed, IsLine, Part, amount, bits, write, write_placed, read, zeroes, dealloc, flush, status, update, log, log_ctrl, log_host, set_fdp, get_fdp, set_events, create, delete}
 use Rattle.std.proofs.lemmas.Bool.Decides.{nat_tests}
 use Rattle.std.specs.Str.Lines.{lines}
-use Rattle.fdp_finding.specs.Servable.{IsServable, is_served}
+use Rattle.fdp_finding.specs.Traced.{IsServable}
 
 -- the amount in the third place of a line is in its range
 third : (a b : Part) (n : ℕ) (more : List Part) (words : List (List ℕ)) → AllZip IsInRange (a ∷ b ∷ amount n ∷ more) words → IsWithin 1 MOST_ENTRY_BLOCKS n
@@ -61,23 +61,25 @@ formed_line c line command words (delete nsid) h = tt
 pub formed : (c : DriveConfig) (line : List ℕ) (command : Command) → Says line command → IsWellFormed c command
 formed c line command says = let s = says.1 in formed_line c s.0 command _ s.1 s.2
 
-both : (a b : Bool) → (a && b) ≡ true → (a ≡ true) × (b ≡ true)
-both true b e = (refl, e)
-both false b e = absurd (cc)
+formed_lines : (c : DriveConfig) (ls : List (List ℕ)) (commands : List Command) → AllZip Says ls commands → All (IsWellFormed c) commands
+formed_lines c [] [] say = All-nil (IsWellFormed c)
+formed_lines c [] (command ∷ commands) say = absurd say
+formed_lines c (line ∷ ls) [] say = absurd say
+formed_lines c (line ∷ ls) (command ∷ commands) say =
+    All-cons (IsWellFormed c) command commands (formed c line command say.0) (formed_lines c ls commands say.1)
 
--- one that is served is no log
-no-log : (command : Command) → is_served command ≡ true → (x : GetLog) → command ≢ commands.Log x
-no-log command served x same = absurd (false≢true (sym (ap is_served same) ∙ served))
+-- a trace is one that a drive of any configuration can serve
+pub servable_trace : (c : DriveConfig) (text : List ℕ) (commands : List Command) → IsTraceOf text commands → IsServable c commands
+servable_trace c text commands trace =
+    record { formed = formed_lines c (filter (λ line. not (is_skipped line)) (lines text)) commands trace.0; few = trace.1.0 }
 
--- the commands of lines, all of them such as are served, may be begun
-servable : (c : DriveConfig) (ls : List (List ℕ)) (commands : List Command) → AllZip Says ls commands → list_all is_served commands ≡ true → All (IsServable c) commands
-servable c [] [] say all = All-nil (IsServable c)
-servable c [] (command ∷ commands) say all = absurd say
-servable c (line ∷ ls) [] say all = absurd say
-servable c (line ∷ ls) (command ∷ commands) say all =
-    let served = both (is_served command) (list_all is_served commands) all in
-    All-cons (IsServable c) command commands (record { served = no-log command served.0; formed = formed c line command say.0 }) (servable c ls commands say.1 served.1)
+-- what is read of a text, by its grammar
+pub read_answer : (text : List ℕ) (r : Result (Vec Command) TraceFault) → IfOk r (λ commands. IsTraceOf text commands.items) → IfErr r (IsCause text)
+    → MatchResult r (λ commands. IsTraceOf text commands.items) (λ fault. IsCause text fault)
+read_answer text (Ok commands) says cause = says
+read_answer text (Err fault) says cause = cause
 
--- the commands of a trace, all of them such as are served, may be begun
-pub servable_trace : (c : DriveConfig) (text : List ℕ) (commands : List Command) → IsTraceOf text commands → list_all is_served commands ≡ true → All (IsServable c) commands
-servable_trace c text commands trace all = servable c (filter (λ line. not (is_skipped line)) (lines text)) commands trace.0 all
+pub read_servable : (text : List ℕ) (r : Result (Vec Command) TraceFault) → IfOk r (λ commands. IsTraceOf text commands.items)
+    → IfOk r (λ commands. (c : DriveConfig) → IsServable c commands.items)
+read_servable text (Ok commands) says = λ c. servable_trace c text commands.items says
+read_servable text (Err fault) says = tt

@@ -1,2 +1,3 @@
 pub mod Configuring
 pub mod Formed
+pub mod Traces

@@ -6,12 +6,13 @@ use Rattle.fdp_config.specs.declared.fault.NoConfig.{NoConfig}
 use Rattle.fdp_config.specs.declared.fault.NoConfig.TheVariants.{Faulty}
 use Rattle.fdp_config.specs.Table.{row_of}
 use Rattle.fdp_config.specs.Words.{no_config_words}
-use Rattle.fdp_trace.specs.declared.fault.FaultKind.{FaultKind}
 use Rattle.fdp_trace.specs.FaultWord.{kind_word}
 use Rattle.fdp_finding.specs.declared.fault.Fault.{Fault}
 use Rattle.fdp_finding.specs.declared.fault.Fault.TheVariants as faults
 use Rattle.fdp_finding.specs.declared.image.ImageFault.{ImageFault}
 use Rattle.fdp_finding.specs.declared.image.ImageFault.TheVariants as images
+use Rattle.fdp_finding.specs.declared.no_trace.NoTrace.{NoTrace}
+use Rattle.fdp_finding.specs.declared.no_trace.NoTrace.TheVariants as traces
 
 -- a fault of a configuration text as one of a run
 abbrev pub of_config : ConfigFault → Fault
@@ -27,9 +28,8 @@ abbrev pub status_of : Fault → ℕ
 status_of faults.Usage = 1
 status_of faults.NotBuilt = 10
 status_of (faults.Config cause) = 2
-status_of faults.TraceAbsent = 3
-status_of faults.TraceLong = 3
-status_of (faults.TraceLine line kind) = 3
+status_of (faults.NoQueue trace) = 3
+status_of (faults.Trace trace cause) = 3
 status_of (faults.Image cause) = 4
 status_of faults.Flash = 5
 status_of faults.Source = 6
@@ -51,18 +51,23 @@ image_words images.Spent = codes "image spent"
 abbrev pub image_fault : ImageFault → List ℕ
 image_fault cause = codes "fault 4 " ++ (image_words cause ++ 10 ∷ [])
 
--- the line of a bad line of the trace
-abbrev pub line_fault : ℕ → FaultKind → List ℕ
-line_fault number kind = codes "fault 3 trace 1 line " ++ (decimal number ++ (32 ∷ (kind_word kind ++ 10 ∷ [])))
+-- the words for a text that is that of no trace
+abbrev pub no_trace_words : NoTrace → List ℕ
+no_trace_words traces.Absent = codes "absent"
+no_trace_words traces.TooLong = codes "long"
+no_trace_words (traces.Line line kind) = codes "line " ++ (decimal line ++ (codes " " ++ kind_word kind))
+
+-- the line for the trace of a number
+abbrev pub trace_fault : ℕ → List ℕ → List ℕ
+trace_fault number words = codes "fault 3 trace " ++ (decimal number ++ (32 ∷ (words ++ 10 ∷ [])))
 
 -- the line that a run prints; want of memory has none
 abbrev pub fault_text : Fault → List ℕ
 fault_text faults.Usage = codes "fault 1 usage\n"
 fault_text faults.NotBuilt = codes "fault 10 not-built\n"
 fault_text (faults.Config cause) = config_fault cause
-fault_text faults.TraceAbsent = codes "fault 3 trace 1 absent\n"
-fault_text faults.TraceLong = codes "fault 3 trace 1 long\n"
-fault_text (faults.TraceLine number kind) = line_fault number kind
+fault_text (faults.NoQueue trace) = trace_fault trace (codes "queue")
+fault_text (faults.Trace trace cause) = trace_fault trace (no_trace_words cause)
 fault_text (faults.Image cause) = image_fault cause
 fault_text faults.Flash = codes "fault 5 flash\n"
 fault_text faults.Source = codes "fault 6 source\n"

@@ -1,5 +1,5 @@
 pub mod Asked
 pub mod Configured
 pub mod Faults
-pub mod Servable
+pub mod Traced
 pub mod Wanted

@@ -1,126 +1,38 @@
--- What a run finds to serve: a configuration and the commands of a trace.
-use Rattle.std.specs.Prelude.{String, ◌≡◌, ◌⊎◌, ℕ, ◌<◌, ◌≤◌, true, false, IsTrue, List, length, Option, Some, None, Result, Ok, Err}
+-- What a run finds to serve: a configuration, an image and traces; or what it lacks.
+use Rattle.std.specs.Prelude.{String, ◌≡◌, ℕ, ◌+◌, ◌<◌, ◌≤◌, List, [], length, take, map, slice_index_or, Ok, Err}
+use Rattle.std.specs.Global.{Vec}
+use Rattle.std.specs.List.{AllZip}
 use Rattle.std.specs.declared.alloc.Global.{Global}
-use Rattle.std.specs.List.{list_all}
 use Rattle.fdp_base.specs.declared.command.Command.{Command}
 use Rattle.fdp_base.specs.declared.config.DriveConfig.{DriveConfig}
-use Rattle.fdp_base.specs.declared.limits.TheConstants.{LONGEST_TRACE}
 use Rattle.fdp_base.specs.Config.{IsValidConfig}
 use Rattle.fdp_base.specs.Counts.{Rose}
 use Rattle.fdp_config.specs.declared.fault.NoConfig.{NoConfig}
 use Rattle.fdp_io.specs.Bench.{BenchState}
-use Rattle.fdp_trace.specs.Grammar.{IsTraceOf, IsFaultOf}
+use Rattle.fdp_finding.specs.declared.asked.Form.{Form}
 use Rattle.fdp_finding.specs.declared.fault.Fault.{Fault}
 use Rattle.fdp_finding.specs.declared.fault.Fault.TheVariants as faults
+use Rattle.fdp_finding.specs.declared.no_trace.NoTrace.{NoTrace}
 use Rattle.fdp_finding.specs.Asked.{Names, asked_of}
-use Rattle.fdp_finding.specs.Servable.{is_served}
 use Rattle.fdp_finding.specs.Configured.{ReadsConfig, ReadsNoConfig}
+use Rattle.fdp_finding.specs.Traced.{ReadsNoTrace, ReadsTrace}
 
--- a text comes to these commands: it is their trace, and all of them are such as are served
-pub record IsServedTrace (text : List ℕ) (commands : List Command) : Type 0 where
-  pub trace : IsTraceOf text commands
-  pub served : list_all is_served commands ≡ true
+-- the commands of each trace
+abbrev pub commands_of : List (Vec Command) → List (List Command)
+commands_of traces = map (λ trace. trace.items) traces
 
--- a text is the trace of commands that are not all served
-pub record IsUnservedTrace (text : List ℕ) : Type 0 where
-  pub commands : List Command
-  pub trace : IsTraceOf text commands
-  pub unserved : list_all is_served commands ≡ false
-
--- a text that may be there is there, of at most as many bytes as a trace may have
-pub record IsReadable (found : Option (List ℕ)) (text : List ℕ) : Type 0 where
-  pub there : found ≡ Some text
-  pub short : length text ≤ LONGEST_TRACE
-
--- it is there, and longer
-pub record IsTooLong (found : Option (List ℕ)) : Type 0 where
-  pub text : List ℕ
-  pub there : found ≡ Some text
-  pub long : LONGEST_TRACE < length text
-
--- the fault of a text, unless memory was wanting; no text comes to a fault of the words, of a configuration or of the drive
-abbrev pub HasFault : List ℕ → Fault → Type 0
-HasFault text faults.Usage = ⊥
-HasFault text faults.NotBuilt = IsUnservedTrace text
-HasFault text (faults.Config cause) = ⊥
-HasFault text faults.TraceAbsent = ⊥
-HasFault text faults.TraceLong = ⊥
-HasFault text (faults.TraceLine line kind) = IsFaultOf text line kind
-HasFault text (faults.Image cause) = ⊥
-HasFault text faults.Flash = ⊥
-HasFault text faults.Source = ⊥
-HasFault text faults.NoMemory = Unit {0}
-HasFault text faults.Turns = ⊥
-
--- a text that may be there comes to these commands, or to this fault
-abbrev pub ComesTo : Option (List ℕ) → Result (List Command) Fault → Type 0
-ComesTo found (Ok commands) = (text : List ℕ) × IsReadable found text × IsServedTrace text commands
-ComesTo found (Err faults.Usage) = ⊥
-ComesTo found (Err faults.NotBuilt) = (text : List ℕ) × IsReadable found text × IsUnservedTrace text
-ComesTo found (Err (faults.Config cause)) = ⊥
-ComesTo found (Err faults.TraceAbsent) = found ≡ None
-ComesTo found (Err faults.TraceLong) = IsTooLong found
-ComesTo found (Err (faults.TraceLine line kind)) = (text : List ℕ) × IsReadable found text × IsFaultOf text line kind
-ComesTo found (Err (faults.Image cause)) = ⊥
-ComesTo found (Err faults.Flash) = ⊥
-ComesTo found (Err faults.Source) = ⊥
-ComesTo found (Err faults.NoMemory) = ⊥
-ComesTo found (Err faults.Turns) = ⊥
-
--- where the bench tells its texts, the text of this name comes to this
-abbrev pub Reads : BenchState → List ℕ → Result (List Command) Fault → Type 0
-Reads bench name found = IsTrue bench.told → ComesTo (bench.text name) found
-
--- why a run finds no configuration of this name
-abbrev pub ConfigLacks : BenchState → BenchState → List ℕ → Fault → Type 0
-ConfigLacks old new name faults.Usage = ⊥
-ConfigLacks old new name faults.NotBuilt = ⊥
-ConfigLacks old new name (faults.Config cause) = ReadsNoConfig old name cause
-ConfigLacks old new name faults.TraceAbsent = ⊥
-ConfigLacks old new name faults.TraceLong = ⊥
-ConfigLacks old new name (faults.TraceLine line kind) = ⊥
-ConfigLacks old new name (faults.Image cause) = ⊥
-ConfigLacks old new name faults.Flash = ⊥
-ConfigLacks old new name faults.Source = Rose old.faults new.faults
-ConfigLacks old new name faults.NoMemory = Unit {0}
-ConfigLacks old new name faults.Turns = ⊥
-
--- why a run finds no commands of this name
-abbrev pub TraceLacks : BenchState → BenchState → List ℕ → Fault → Type 0
-TraceLacks old new name faults.Usage = ⊥
-TraceLacks old new name faults.NotBuilt = Reads old name (Err faults.NotBuilt)
-TraceLacks old new name (faults.Config cause) = ⊥
-TraceLacks old new name faults.TraceAbsent = Reads old name (Err faults.TraceAbsent)
-TraceLacks old new name faults.TraceLong = Reads old name (Err faults.TraceLong)
-TraceLacks old new name (faults.TraceLine line kind) = Reads old name (Err (faults.TraceLine line kind))
-TraceLacks old new name (faults.Image cause) = ⊥
-TraceLacks old new name faults.Flash = ⊥
-TraceLacks old new name faults.Source = Rose old.faults new.faults
-TraceLacks old new name faults.NoMemory = Unit {0}
-TraceLacks old new name faults.Turns = ⊥
-
--- a call of the bench that failed was counted where that is the fault, and nothing was where it is another
-abbrev pub CountsSource : ℕ → ℕ → Fault → Type 0
-CountsSource old new faults.Usage = new ≡ old
-CountsSource old new faults.NotBuilt = new ≡ old
-CountsSource old new (faults.Config cause) = new ≡ old
-CountsSource old new faults.TraceAbsent = new ≡ old
-CountsSource old new faults.TraceLong = new ≡ old
-CountsSource old new (faults.TraceLine line kind) = new ≡ old
-CountsSource old new (faults.Image cause) = new ≡ old
-CountsSource old new faults.Flash = new ≡ old
-CountsSource old new faults.Source = Rose old new
-CountsSource old new faults.NoMemory = new ≡ old
-CountsSource old new faults.Turns = new ≡ old
-
--- the words ask for a configuration, an image and a trace, and these are they; a drive can be made with the configuration
-pub record Finds (bench : BenchState) (words : List (String Global)) (c : DriveConfig) (image : List ℕ) (trace : List Command) : Type 0 where
+-- the words ask for a form, a configuration, an image and traces, and these are they, a trace a queue; a drive can be made with the configuration
+pub record Finds (bench : BenchState) (words : List (String Global)) (form : Form) (c : DriveConfig) (image : List ℕ) (traces : List (List Command)) : Type 0 where
   pub names : Names
   pub asked : asked_of words ≡ Ok names
+  pub form_is : form ≡ names.form
   pub config : ReadsConfig bench names.config c
   pub valid : IsValidConfig c
   pub image_is : image ≡ names.image
-  pub commands : Reads bench names.trace (Ok trace)
+  pub queued : length names.traces ≤ c.queues
+  pub commands : AllZip (ReadsTrace bench) names.traces traces
+
+-- ---- what is lacking
 
 -- the words ask for texts
 pub record AsksForTexts (words : List (String Global)) : Type 0 where
@@ -133,24 +45,90 @@ pub record LacksConfig (bench : BenchState) (words : List (String Global)) (caus
   pub asked : asked_of words ≡ Ok names
   pub none : ReadsNoConfig bench names.config cause
 
--- the words ask for texts; that of the configuration is one, and that of the trace has this fault
-pub record LacksTrace (bench : BenchState) (words : List (String Global)) (fault : Fault) : Type 0 where
+-- some of these names have no queue, and this is the number of the first of them
+pub record AreUnqueued (queues : ℕ) (names : List (List ℕ)) (trace : ℕ) : Type 0 where
+  pub many : queues < length names
+  pub first : trace ≡ queues + 1
+
+-- each of these names has a queue, the texts in front of this one are traces, and this one is none, for this cause
+pub record IsFirstLacking (bench : BenchState) (queues : ℕ) (names : List (List ℕ)) (trace : ℕ) (cause : NoTrace) : Type 0 where
+  pub queued : length names ≤ queues
+  pub index : ℕ
+  pub number : trace ≡ index + 1
+  pub within : index < length names
+  pub front : List (List Command)
+  pub read : AllZip (ReadsTrace bench) (take index names) front
+  pub none : ReadsNoTrace bench (slice_index_or names index []) cause
+
+-- the words ask for texts; that of the configuration is one, and this holds of its queues and of the names of the traces
+pub record LacksTraces (bench : BenchState) (words : List (String Global)) (Lacking : ℕ → List (List ℕ) → Type 0) : Type 0 where
   pub names : Names
   pub asked : asked_of words ≡ Ok names
   pub config : DriveConfig
   pub configured : ReadsConfig bench names.config config
-  pub lacks : Reads bench names.trace (Err fault)
+  pub lacking : Lacking config.queues names.traces
 
 -- the cause of each fault
 abbrev pub Lacks : BenchState → BenchState → List (String Global) → Fault → Type 0
 Lacks old new words faults.Usage = asked_of words ≡ Err faults.Usage
-Lacks old new words faults.NotBuilt = (asked_of words ≡ Err faults.NotBuilt) ⊎ LacksTrace old words faults.NotBuilt
+Lacks old new words faults.NotBuilt = asked_of words ≡ Err faults.NotBuilt
 Lacks old new words (faults.Config cause) = LacksConfig old words cause
-Lacks old new words faults.TraceAbsent = LacksTrace old words faults.TraceAbsent
-Lacks old new words faults.TraceLong = LacksTrace old words faults.TraceLong
-Lacks old new words (faults.TraceLine line kind) = LacksTrace old words (faults.TraceLine line kind)
+Lacks old new words (faults.NoQueue trace) = LacksTraces old words (λ queues names. AreUnqueued queues names trace)
+Lacks old new words (faults.Trace trace cause) = LacksTraces old words (λ queues names. IsFirstLacking old queues names trace cause)
 Lacks old new words (faults.Image cause) = ⊥
 Lacks old new words faults.Flash = ⊥
 Lacks old new words faults.Source = AsksForTexts words × Rose old.faults new.faults
 Lacks old new words faults.NoMemory = Unit {0}
 Lacks old new words faults.Turns = ⊥
+
+-- why a run finds no configuration of this name
+abbrev pub ConfigLacks : BenchState → BenchState → List ℕ → Fault → Type 0
+ConfigLacks old new name faults.Usage = ⊥
+ConfigLacks old new name faults.NotBuilt = ⊥
+ConfigLacks old new name (faults.Config cause) = ReadsNoConfig old name cause
+ConfigLacks old new name (faults.NoQueue trace) = ⊥
+ConfigLacks old new name (faults.Trace trace cause) = ⊥
+ConfigLacks old new name (faults.Image cause) = ⊥
+ConfigLacks old new name faults.Flash = ⊥
+ConfigLacks old new name faults.Source = Rose old.faults new.faults
+ConfigLacks old new name faults.NoMemory = Unit {0}
+ConfigLacks old new name faults.Turns = ⊥
+
+-- why it finds no traces of these names, with so many queues
+abbrev pub TracesLack : BenchState → BenchState → ℕ → List (List ℕ) → Fault → Type 0
+TracesLack old new queues names faults.Usage = ⊥
+TracesLack old new queues names faults.NotBuilt = ⊥
+TracesLack old new queues names (faults.Config cause) = ⊥
+TracesLack old new queues names (faults.NoQueue trace) = AreUnqueued queues names trace
+TracesLack old new queues names (faults.Trace trace cause) = IsFirstLacking old queues names trace cause
+TracesLack old new queues names (faults.Image cause) = ⊥
+TracesLack old new queues names faults.Flash = ⊥
+TracesLack old new queues names faults.Source = Rose old.faults new.faults
+TracesLack old new queues names faults.NoMemory = Unit {0}
+TracesLack old new queues names faults.Turns = ⊥
+
+-- why it finds no commands of the name of the trace with this number
+abbrev pub TraceLacks : BenchState → BenchState → ℕ → List ℕ → Fault → Type 0
+TraceLacks old new number name faults.Usage = ⊥
+TraceLacks old new number name faults.NotBuilt = ⊥
+TraceLacks old new number name (faults.Config cause) = ⊥
+TraceLacks old new number name (faults.NoQueue trace) = ⊥
+TraceLacks old new number name (faults.Trace trace cause) = (trace ≡ number) × ReadsNoTrace old name cause
+TraceLacks old new number name (faults.Image cause) = ⊥
+TraceLacks old new number name faults.Flash = ⊥
+TraceLacks old new number name faults.Source = Rose old.faults new.faults
+TraceLacks old new number name faults.NoMemory = Unit {0}
+TraceLacks old new number name faults.Turns = ⊥
+
+-- a call of the bench that failed was counted where that is the fault, and nothing was where it is another
+abbrev pub CountsSource : ℕ → ℕ → Fault → Type 0
+CountsSource old new faults.Usage = new ≡ old
+CountsSource old new faults.NotBuilt = new ≡ old
+CountsSource old new (faults.Config cause) = new ≡ old
+CountsSource old new (faults.NoQueue trace) = new ≡ old
+CountsSource old new (faults.Trace trace cause) = new ≡ old
+CountsSource old new (faults.Image cause) = new ≡ old
+CountsSource old new faults.Flash = new ≡ old
+CountsSource old new faults.Source = Rose old new
+CountsSource old new faults.NoMemory = new ≡ old
+CountsSource old new faults.Turns = new ≡ old

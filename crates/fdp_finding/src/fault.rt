@@ -1,26 +1,24 @@
-ghost use Rattle.std.specs.Prelude.{◌≡◌, ◌++◌, OnOk};
-ghost use Rattle.fdp_finding.specs.Faults.{config_fault, fault_text, image_fault, line_fault, status_of};
+ghost use Rattle.std.specs.Prelude.{◌≡◌, ◌++◌, OnOk, codes};
+ghost use Rattle.fdp_finding.specs.Faults.{config_fault, fault_text, image_fault, no_trace_words, status_of, trace_fault};
 
 use crate::image::ImageFault;
+use crate::no_trace::NoTrace;
 use fdp_config::{ConfigFault, NoConfig};
-use fdp_trace::{FaultKind, push_decimal};
 use std::alloc::{AllocError, Global};
 
 /// Why a run ended without its output.
 #[derive(Debug, Drop)]
 pub enum Fault {
-    /// The words are not `run`, a configuration, an image and 1 to 16 traces, or one of them begins with `-`.
+    /// The words are not `run` or `record`, a configuration, an image and 1 to 16 traces, or one of them begins with `-`.
     Usage,
-    /// The words or the trace ask for what is not built.
+    /// The words are `make`, a number and an image: a generated load, which is not built.
     NotBuilt,
     /// There is no configuration.
     Config(NoConfig),
-    /// There is no such trace.
-    TraceAbsent,
-    /// The trace has more than 16,777,216 bytes.
-    TraceLong,
-    /// The first bad line of the trace, from 1.
-    TraceLine { line: usize, kind: FaultKind },
+    /// There are more traces than queues; `trace` is the number of the first one without a queue.
+    NoQueue { trace: usize },
+    /// The trace of this number, from 1, is none.
+    Trace { trace: usize, cause: NoTrace },
     /// The image is not one that this configuration goes on with.
     Image(ImageFault),
     /// A call failed while the flash was taken or opened, or while a drive was made on it.
@@ -28,7 +26,7 @@ pub enum Fault {
     /// A text could not be read.
     Source,
     NoMemory,
-    /// The trace needs a further step, and the drive has made all that it may make.
+    /// A trace needs a further step, and the drive has made all that it may make.
     Turns,
 }
 
@@ -40,9 +38,8 @@ impl Fault {
         match self {
             Fault::Usage => 1,
             Fault::Config(_) => 2,
-            Fault::TraceAbsent => 3,
-            Fault::TraceLong => 3,
-            Fault::TraceLine { .. } => 3,
+            Fault::NoQueue { .. } => 3,
+            Fault::Trace { .. } => 3,
             Fault::Image(_) => 4,
             Fault::Flash => 5,
             Fault::Source => 6,
@@ -79,9 +76,8 @@ pub fn push_fault(alloc: Global, fault: &Fault, into: &mut Vec<u8>) -> Result<()
     match fault {
         Fault::Usage => into.extend_from_slice(b"fault 1 usage\n"),
         Fault::Config(cause) => push_config_fault(alloc, cause, into),
-        Fault::TraceAbsent => into.extend_from_slice(b"fault 3 trace 1 absent\n"),
-        Fault::TraceLong => into.extend_from_slice(b"fault 3 trace 1 long\n"),
-        Fault::TraceLine { line, kind } => push_line_fault(*line, *kind, into),
+        Fault::NoQueue { trace } => push_queue_fault(alloc, *trace, into),
+        Fault::Trace { trace, cause } => push_trace_fault(alloc, *trace, *cause, into),
         Fault::Image(cause) => push_image_fault(alloc, *cause, into),
         Fault::Flash => into.extend_from_slice(b"fault 5 flash\n"),
         Fault::Source => into.extend_from_slice(b"fault 6 source\n"),
@@ -105,13 +101,21 @@ fn push_image_fault(alloc: Global, cause: ImageFault, into: &mut Vec<u8>) -> Res
     into.extend_from_slice(line.as_bytes())
 }
 
-fn push_line_fault(line: usize, kind: FaultKind, into: &mut Vec<u8>) -> Result<(), AllocError>
-    ensures { OnOk result (into.new.items ≡ into.old.items ++ line_fault line kind) }
+fn push_queue_fault(alloc: Global, trace: usize, into: &mut Vec<u8>) -> Result<(), AllocError>
+    ensures { OnOk result (into.new.items ≡ into.old.items ++ trace_fault trace (codes "queue")) }
 {
-    into.extend_from_slice(b"fault 3 trace 1 line ")?;
-    push_decimal(into, line as u64)?;
-    into.push(b' ')?;
-    into.extend_from_slice(kind.word().as_bytes())?;
-    into.push(b'\n')?;
-    Ok(())
+    let line = format!(in alloc; "fault 3 trace {trace} queue\n")?;
+    into.extend_from_slice(line.as_bytes())
+}
+
+fn push_trace_fault(
+    alloc: Global,
+    trace: usize,
+    cause: NoTrace,
+    into: &mut Vec<u8>,
+) -> Result<(), AllocError>
+    ensures { OnOk result (into.new.items ≡ into.old.items ++ trace_fault trace (no_trace_words cause)) }
+{
+    let line = format!(in alloc; "fault 3 trace {trace} {cause}\n")?;
+    into.extend_from_slice(line.as_bytes())
 }

@@ -1,13 +1,16 @@
-//! What a run is asked for: its words, its configuration and its trace, and the faults of a run with their lines.
+//! What a run is asked for: its words, its configuration and its traces, and the faults of a run with their lines.
 #![tactic(auto)]
 
 mod asked;
 mod fault;
 mod image;
+mod no_trace;
 mod reading;
 
+pub use asked::{Form, MOST_TRACES};
 pub use fault::{Fault, push_fault};
 pub use image::ImageFault;
+pub use no_trace::NoTrace;
 pub use reading::{Wanted, find};
 
 #[cfg(test)]

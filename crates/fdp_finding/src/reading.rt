@@ -1,30 +1,33 @@
-ghost use Rattle.std.specs.Prelude.{◌≡◌, ◌≤◌, All, Ok, IfOk, MatchResult, length};
-ghost use Rattle.std.specs.List.{list_all};
+ghost use Rattle.std.specs.Prelude.{◌≡◌, ◌≤◌, All, IfOk, MatchResult, length, map, string_bytes};
+ghost use Rattle.std.specs.List.{AllZip};
 ghost use Rattle.fdp_base.specs.declared.config.DriveConfig.{DriveConfig};
 ghost use Rattle.fdp_base.specs.Config.{IsValidConfig};
 ghost use Rattle.fdp_io.specs.Bench.{SameFlashes, SameTexts};
-ghost use Rattle.fdp_finding.specs.Asked.{asked_of};
+ghost use Rattle.fdp_trace.specs.Answer.{IsCause};
+ghost use Rattle.fdp_trace.specs.Grammar.{IsTraceOf};
 ghost use Rattle.fdp_finding.specs.Configured.{ReadsConfig};
-ghost use Rattle.fdp_finding.specs.Wanted.{ConfigLacks, CountsSource, Finds, HasFault, IsServedTrace, Lacks, Reads, TraceLacks};
-ghost use Rattle.fdp_finding.specs.Servable.{IsServable, is_served};
+ghost use Rattle.fdp_finding.specs.Traced.{IsServable, ReadsTrace};
+ghost use Rattle.fdp_finding.specs.Wanted.{ConfigLacks, CountsSource, Finds, Lacks, TraceLacks, TracesLack, commands_of};
 
-use crate::asked::asked;
+use crate::asked::{Form, asked};
 use crate::fault::Fault;
-use fdp_base::{Command, DriveConfig, LONGEST_CONFIG, LONGEST_TRACE, MOST_TRACE_COMMANDS};
+use crate::no_trace::NoTrace;
+use fdp_base::{Command, DriveConfig, LONGEST_CONFIG, LONGEST_TRACE};
 use fdp_config::{NoConfig, read_config};
 use fdp_io::{Bench, TextRead};
 use fdp_trace::{TraceFault, read_trace};
 use std::alloc::Global;
 
-/// A configuration, the name of an image, and the commands of a trace.
+/// The form of a run, a configuration, the name of an image, and the commands of each trace, the first for queue 1.
 #[derive(Debug, Drop)]
 pub struct Wanted<'a> {
+    pub form: Form,
     pub config: DriveConfig,
     pub image: &'a str,
-    pub trace: Vec<Command>,
+    pub traces: Vec<Vec<Command>>,
 }
 
-/// The configuration, the image and the commands that the words ask for.
+/// The form, the configuration, the image and the traces that the words ask for.
 pub fn find<'a, B: Bench>(
     alloc: Global,
     words: &'a [String],
@@ -37,22 +40,25 @@ pub fn find<'a, B: Bench>(
         (λ _. (B.state bench.new).faults ≡ (B.state bench.old).faults)
         (λ fault. CountsSource (B.state bench.old).faults (B.state bench.new).faults fault) }
     ensures answer { MatchResult result
-        (λ found. Finds (B.state bench.old) words.now found.config found.image.now found.trace.items)
+        (λ found. Finds (B.state bench.old) words.now found.form found.config found.image.now (commands_of found.traces.items))
         (λ fault. Lacks (B.state bench.old) (B.state bench.new) words.now fault) }
-    ensures served { IfOk result (λ found. All (IsServable found.config) found.trace.items) }
-    ensures few { IfOk result (λ found. length found.trace.items ≤ MOST_TRACE_COMMANDS) }
+    ensures queued { IfOk result (λ found. length found.traces.items ≤ found.config.queues) }
+    ensures servable { IfOk result (λ found. All (λ trace. IsServable found.config trace.items) found.traces.items) }
 {
     let names = match asked(words) {
         Ok(names) => names,
         Err(fault) => return Err(fault),
     };
     let config = find_config(alloc, names.config, bench)?;
-    let trace = find_trace(alloc, names.trace, bench)?;
-    Ok(Wanted {
-        config,
-        image: names.image,
-        trace,
-    })
+    match find_traces(alloc, names.traces, config.queues, bench) {
+        Ok(traces) => Ok(Wanted {
+            form: names.form,
+            config,
+            image: names.image,
+            traces,
+        }),
+        Err(fault) => Err(fault),
+    }
 }
 
 /// The configuration of this name.
@@ -81,8 +87,13 @@ fn find_config<B: Bench>(alloc: Global, name: &str, bench: &mut B) -> Result<Dri
     }
 }
 
-/// The commands of the trace of this name. Their grammar makes them well formed on a drive of any configuration.
-fn find_trace<B: Bench>(alloc: Global, name: &str, bench: &mut B) -> Result<Vec<Command>, Fault>
+/// The commands of the traces of these names, each of which has a queue.
+fn find_traces<B: Bench>(
+    alloc: Global,
+    names: &[String],
+    queues: u8,
+    bench: &mut B,
+) -> Result<Vec<Vec<Command>>, Fault>
     ensures texts { SameTexts (B.state bench.old) (B.state bench.new) }
     ensures flashes { SameFlashes (B.state bench.old) (B.state bench.new) }
     ensures faults { (B.state bench.old).faults ≤ (B.state bench.new).faults }
@@ -90,65 +101,76 @@ fn find_trace<B: Bench>(alloc: Global, name: &str, bench: &mut B) -> Result<Vec<
         (λ _. (B.state bench.new).faults ≡ (B.state bench.old).faults)
         (λ fault. CountsSource (B.state bench.old).faults (B.state bench.new).faults fault) }
     ensures answer { MatchResult result
-        (λ commands. Reads (B.state bench.old) name.now (Ok commands.items))
-        (λ fault. TraceLacks (B.state bench.old) (B.state bench.new) name.now fault) }
-    ensures served { IfOk result (λ commands. (c : DriveConfig) → All (IsServable c) commands.items) }
-    ensures few { IfOk result (λ commands. length commands.items ≤ MOST_TRACE_COMMANDS) }
+        (λ traces. AllZip (ReadsTrace (B.state bench.old)) (map string_bytes names.now) (commands_of traces.items))
+        (λ fault. TracesLack (B.state bench.old) (B.state bench.new) queues (map string_bytes names.now) fault) }
+    ensures queued { IfOk result (λ traces. (length names.now ≤ queues) × (length traces.items ≡ length names.now)) }
+    ensures servable { IfOk result (λ traces. (c : DriveConfig) → All (λ trace. IsServable c trace.items) traces.items) }
+{
+    if names.len() > usize::from(queues) {
+        let trace = usize::from(queues) + 1;
+        return Err(Fault::NoQueue { trace });
+    }
+    let mut traces = Vec::new(alloc);
+    for (index, name) in names.iter().enumerate() {
+        match find_trace(alloc, index + 1, name.as_str(), bench) {
+            Ok(trace) => {
+                if traces.push(trace).is_err() {
+                    return Err(Fault::NoMemory);
+                }
+            }
+            Err(fault) => return Err(fault),
+        }
+    }
+    Ok(traces)
+}
+
+/// The commands of the name of the trace with this number.
+fn find_trace<B: Bench>(
+    alloc: Global,
+    number: usize,
+    name: &str,
+    bench: &mut B,
+) -> Result<Vec<Command>, Fault>
+    ensures texts { SameTexts (B.state bench.old) (B.state bench.new) }
+    ensures flashes { SameFlashes (B.state bench.old) (B.state bench.new) }
+    ensures faults { (B.state bench.old).faults ≤ (B.state bench.new).faults }
+    ensures counts { MatchResult result
+        (λ _. (B.state bench.new).faults ≡ (B.state bench.old).faults)
+        (λ fault. CountsSource (B.state bench.old).faults (B.state bench.new).faults fault) }
+    ensures answer { MatchResult result
+        (λ commands. ReadsTrace (B.state bench.old) name.now commands.items)
+        (λ fault. TraceLacks (B.state bench.old) (B.state bench.new) number name.now fault) }
+    ensures servable { IfOk result (λ commands. (c : DriveConfig) → IsServable c commands.items) }
 {
     let mut text = Vec::new(alloc);
     match bench.read_text(name, &mut text, LONGEST_TRACE) {
-        TextRead::Done => read_commands(alloc, text.as_slice()),
-        TextRead::Missing => Err(Fault::TraceAbsent),
-        TextRead::TooLong => Err(Fault::TraceLong),
+        TextRead::Done => match read_commands(alloc, text.as_slice()) {
+            Ok(commands) => Ok(commands),
+            Err(TraceFault::Line { line, kind }) => Err(Fault::Trace {
+                trace: number,
+                cause: NoTrace::Line { line, kind },
+            }),
+            Err(TraceFault::NoMemory) => Err(Fault::NoMemory),
+        },
+        TextRead::Missing => Err(Fault::Trace {
+            trace: number,
+            cause: NoTrace::Absent,
+        }),
+        TextRead::TooLong => Err(Fault::Trace {
+            trace: number,
+            cause: NoTrace::TooLong,
+        }),
         TextRead::Failed => Err(Fault::Source),
         TextRead::NoMemory => Err(Fault::NoMemory),
     }
 }
 
-/// The commands of a text, all of them such as are served.
-fn read_commands(alloc: Global, text: &[u8]) -> Result<Vec<Command>, Fault>
+/// The commands of a text. Their grammar makes them well formed on a drive of any configuration.
+fn read_commands(alloc: Global, text: &[u8]) -> Result<Vec<Command>, TraceFault>
     ensures answer { MatchResult result
-        (λ commands. IsServedTrace text.now commands.items)
-        (λ fault. HasFault text.now fault) }
-    ensures served { IfOk result (λ commands. (c : DriveConfig) → All (IsServable c) commands.items) }
-    ensures few { IfOk result (λ commands. length commands.items ≤ MOST_TRACE_COMMANDS) }
+        (λ commands. IsTraceOf text.now commands.items)
+        (λ fault. IsCause text.now fault) }
+    ensures servable { IfOk result (λ commands. (c : DriveConfig) → IsServable c commands.items) }
 {
-    match read_trace(alloc, text) {
-        Ok(commands) => {
-            if all_served(commands.as_slice()) {
-                Ok(commands)
-            } else {
-                Err(Fault::NotBuilt)
-            }
-        }
-        Err(TraceFault::Line { line, kind }) => Err(Fault::TraceLine { line, kind }),
-        Err(TraceFault::NoMemory) => Err(Fault::NoMemory),
-    }
-}
-
-fn all_served(commands: &[Command]) -> bool
-    ensures { result ≡ list_all is_served commands.now }
-{
-    commands.iter().all(|command| is_served(command))
-}
-
-/// Whether a run serves a command: any but a log and a setting of events.
-fn is_served(command: &Command) -> bool
-    ensures { result ≡ is_served command.now }
-{
-    match command {
-        Command::Log(_) | Command::SetEvents(_) => false,
-        Command::Write(_)
-        | Command::Read(_)
-        | Command::Zero(_)
-        | Command::Dealloc(_)
-        | Command::Flush(_)
-        | Command::Delete(_)
-        | Command::Status(_)
-        | Command::Update(_)
-        | Command::SetFdp(_)
-        | Command::GetFdp(_)
-        | Command::Create(_)
-        | Command::Other(_) => true,
-    }
+    read_trace(alloc, text)
 }

@@ -1,17 +1,17 @@
-use crate::{Fault, ImageFault, find, push_fault};
+use crate::{Fault, Form, ImageFault, find, push_fault};
 use fdp_config::Key;
 use fdp_io::BenchMem;
 use std::alloc::{AllocError, Global};
 use std::test::Fail;
 
-/// The drive of `examples/drive-s.toml`.
+/// The drive of `examples/drive-s.toml`, with two queues.
 const DRIVE_S: &[u8] = b"\
     block = 512\n\
     unit_pages = 8\n\
     groups = 1\n\
     units = 12\n\
     area_units = 4\n\
-    queues = 1\n\
+    queues = 2\n\
     blocks_per_command = 4\n\
     fdp = [[\"initial\"]]\n\
     enabled = true\n\
@@ -21,26 +21,70 @@ const DRIVE_S: &[u8] = b"\
     turns = 0\n\
 ";
 
-/// What a run of these words finds: the image, and how many commands.
-fn found(alloc: Global, image: &str) -> Result<Option<(bool, usize)>, AllocError> {
-    let mut words = Vec::new(alloc);
-    for word in ["run", "c", image, "t"] {
-        words.push(String::from_str(alloc, word)?)?;
-    }
+/// A bench with the configuration `c`, and the traces `t` of two commands, `e` of none, and `b` with a bad second line.
+fn bench(alloc: Global) -> Result<BenchMem, AllocError> {
     let mut bench = BenchMem::new(alloc, Vec::new(alloc));
     bench.add(alloc, "c", DRIVE_S)?;
     bench.add(alloc, "t", b"read 1 0 1\nread 1 1 1\n")?;
-    match find(alloc, &words, &mut bench) {
-        Ok(wanted) => Ok(Some((wanted.image == image, wanted.trace.len()))),
-        Err(_) => Ok(None),
+    bench.add(alloc, "e", b"")?;
+    bench.add(alloc, "b", b"flush 1\nflush\n")?;
+    Ok(bench)
+}
+
+/// The status of what these words ask for, and its line; where it is found, its form, and how many commands each trace has, a digit a trace.
+fn asked(alloc: Global, words: &str) -> Result<(u8, Vec<u8>), AllocError> {
+    let mut owned = Vec::new(alloc);
+    for word in words.split(' ') {
+        owned.push(String::from_str(alloc, word)?)?;
     }
+    let mut bench = bench(alloc)?;
+    let mut text = Vec::new(alloc);
+    match find(alloc, &owned, &mut bench) {
+        Ok(wanted) => {
+            text.extend_from_slice(word_of(wanted.form))?;
+            for trace in &wanted.traces {
+                text.push(b'0' + (trace.len() % 10) as u8)?;
+            }
+            Ok((0, text))
+        }
+        Err(fault) => {
+            push_fault(alloc, &fault, &mut text)?;
+            Ok((fault.status(), text))
+        }
+    }
+}
+
+fn word_of(form: Form) -> &'static [u8] {
+    match form {
+        Form::Run => b"run ",
+        Form::Record => b"record ",
+    }
+}
+
+/// Whether these words come to a status and a line.
+fn comes_to(alloc: Global, words: &str, status: u8, line: &[u8]) -> Result<bool, AllocError> {
+    let (ended, text) = asked(alloc, words)?;
+    Ok(ended == status && text.as_slice() == line)
 }
 
 #[test]
 fn a_run_is_found(rt: HostRuntime) -> Result<(), Fail> {
     let alloc = rt.alloc();
-    assert!(rt; found(alloc, "drive.img")? == Some((true, 2)));
-    assert!(rt; found(alloc, "-")?.is_none());
+    assert!(rt; comes_to(alloc, "run c i t", 0, b"run 2")?);
+    assert!(rt; comes_to(alloc, "record c i e t", 0, b"record 02")?);
+    Ok(())
+}
+
+#[test]
+fn a_run_is_refused(rt: HostRuntime) -> Result<(), Fail> {
+    let alloc = rt.alloc();
+    assert!(rt; comes_to(alloc, "run c i", 1, b"fault 1 usage\n")?);
+    assert!(rt; comes_to(alloc, "run c -i t", 1, b"fault 1 usage\n")?);
+    assert!(rt; comes_to(alloc, "run c i t t t", 3, b"fault 3 trace 3 queue\n")?);
+    assert!(rt; comes_to(alloc, "run c i t n", 3, b"fault 3 trace 2 absent\n")?);
+    assert!(rt; comes_to(alloc, "run c i b t", 3, b"fault 3 trace 1 line 2 count\n")?);
+    assert!(rt; comes_to(alloc, "make 8192 i", 10, b"fault 10 not-built\n")?);
+    assert!(rt; comes_to(alloc, "make 8193 i", 1, b"fault 1 usage\n")?);
     Ok(())
 }
 
