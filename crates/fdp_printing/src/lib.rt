@@ -1,9 +1,15 @@
-//! The output of a run, printed piece by piece.
+//! The output of a run, and its history, printed piece by piece.
 #![tactic(auto)]
 
+mod closing;
+mod completions;
+mod history;
+mod pieces;
 mod print;
 
-pub use print::{Cut, print_output};
+pub use closing::{Closing, Placement};
+pub use pieces::Cut;
+pub use print::{print_output, print_record};
 
 #[cfg(test)]
 mod tests;
