@@ -1,27 +1,23 @@
 -- A step of relocation within a step of a group: its entries and calls.
-use Rattle.std.proofs.Common.{◌≡◌, ◌≢◌, ℕ, ◌<◌, Bool, true, false, List, [], ◌∷◌, ◌++◌, refl, sym, ◌∙◌, ap, subst, inl, inr}
-use Rattle.std.specs.Prelude.{not, IsTrue}
-use Rattle.std.specs.List.{list_any}
+use Rattle.std.proofs.Common.{◌≡◌, ◌≢◌, ℕ, ◌<◌, Bool, true, false, List, [], ◌∷◌, ◌++◌, refl, sym, ap, subst, inl, inr}
+use Rattle.std.specs.Prelude.{not}
 use Rattle.std.proofs.lemmas.List.Elements.{All-nil}
 use Rattle.std.proofs.lemmas.Bool.{false≢true}
 use Rattle.fdp_base.specs.declared.entry.Copied.{Copied}
 use Rattle.fdp_base.specs.declared.entry.Entry.{Entry}
 use Rattle.fdp_base.specs.declared.entry.Entry.TheVariants as entries
-use Rattle.fdp_book.specs.Book.{BookSeen, IsLonger, point_in, state_in}
+use Rattle.fdp_book.specs.Book.{BookSeen, IsLonger, state_in}
 use Rattle.fdp_book.specs.Relocating.{told_by}
-use Rattle.fdp_calls.specs.Calls.{erase_at, fetch_at, has_failed, program_at}
-use Rattle.fdp_calls.proofs.Made.{calls-none}
+use Rattle.fdp_calls.specs.Calls.{fetch_at, program_at}
 use Rattle.fdp_collector.specs.declared.step.Lost.TheVariants as lost
 use Rattle.fdp_collector.specs.declared.step.Step.{Step}
 use Rattle.fdp_collector.specs.declared.step.Step.TheVariants as steps
-use Rattle.fdp_core.specs.Advancing.{Advances, AreCallsOfMove, ComesTo, IsDueIn, MovesCopies, TellsMore, move_of, CopiesPage}
+use Rattle.fdp_core.specs.Advancing.{Advances, AreCallsOfMove, IsDueIn, TellsMore, move_of, CopiesPage}
 use Rattle.fdp_core.specs.Passes.{Relocates}
 use Rattle.fdp_core.specs.Seen.{Seen, Stands, stage_of}
 use Rattle.fdp_core.specs.Steps.{Matches}
 use Rattle.fdp_core.proofs.Called.{fails-behind, saving-fails}
-use Rattle.fdp_core.proofs.Passing.{IsPrefix, calls_by, fails-by, longer-none, matches-by, matches-joined, prefix-matches, prefix-stands, resting-prefix, saving-prefix, settled-prefix, worn-made}
-use Rattle.fdp_durability.specs.Saved.{SettlesDrive}
-use Rattle.fdp_flash.specs.declared.answer.Wrote.{Wrote}
+use Rattle.fdp_core.proofs.Passing.{calls_by, fails-by, longer-none, matches-by, matches-joined, prefix-matches, prefix-stands, resting-prefix, saving-prefix, settled-prefix, worn-made}
 use Rattle.fdp_flash.specs.declared.answer.Wrote.TheVariants as wrote
 use Rattle.fdp_flash.specs.FlashState.{Call, FlashState}
 use Rattle.fdp_isolation.specs.Laned.{IsKnown}
@@ -29,18 +25,16 @@ use Rattle.fdp_locations.proofs.Ending.{rests-same}
 use Rattle.fdp_passes.specs.declared.due.Due.TheVariants as due
 use Rattle.fdp_relocation.specs.declared.advance.Advance.{Advance}
 use Rattle.fdp_relocation.specs.declared.advance.Advance.TheVariants as advance
-use Rattle.fdp_relocation.specs.Collected.{Collects, FailsIn, FailsToSettle, Moves, SavesMove, Steps, StepsErase, StepsSettled}
+use Rattle.fdp_relocation.specs.Collected.{Collects, Moves, SavesMove, Steps, StepsSettled}
 use Rattle.fdp_relocation.specs.Entries.{IsRelocationIn, AreRelocationIn}
 use Rattle.fdp_relocation.proofs.Keeping.{keeps-longer}
 use Rattle.fdp_relocation.proofs.Telling.{moved-inside, told-inside}
-use Rattle.fdp_rules.specs.Sites.{moved_blocks}
 use Rattle.fdp_saving.specs.declared.saved.Saved.{Saved}
 use Rattle.fdp_saving.specs.declared.saved.Saved.TheVariants as savings
 use Rattle.fdp_survival.specs.Books.{IsSafe}
 use Rattle.fdp_units.specs.UnitTable.{IsGroup}
 use Rattle.fdp_saving.specs.Calls.{FailAtEnd, AreCallsOfRenewal, AreCallsOfCheckpoint}
 use Rattle.fdp_snapshot.specs.declared.state.Summary.{Summary}
-use Rattle.fdp_survival.proofs.Savings.{settling-same}
 use Rattle.fdp_ledger.specs.Ledger.{IsLedger}
 use Rattle.fdp_ledger.specs.WornOut.{IsWornOut}
 use Rattle.fdp_ledger.specs.declared.counts.Counts.{Counts}

@@ -17,7 +17,7 @@ use Rattle.fdp_book.specs.declared.room.Replies.{Replies}
 use Rattle.fdp_book.specs.declared.ticket.Done.{Done}
 use Rattle.fdp_book.specs.declared.ticket.Ticket.{Ticket}
 use Rattle.fdp_book.specs.Book.{BookSeen, IsLed, point_in, state_in}
-use Rattle.fdp_book.specs.FirstSteps.{IsAnswerable, is_answered}
+use Rattle.fdp_book.specs.FirstSteps.{is_answered}
 use Rattle.fdp_book.specs.Stages.{IsFree}
 use Rattle.fdp_book.specs.Steps as book
 use Rattle.fdp_book.proofs.Histories.Commanded.{success-follows}
@@ -137,7 +137,7 @@ pub record IsAnswer (told : Bool) (b : BookSeen) (queue : ℕ) (command : Comman
   pub unapplied : reply.applied ≡ false
 
 -- one that is answered so is neither a write nor one that is saved
-answered-other : (command : Command) → is_answered command ≡ true → is_write command ≡ false
+pub answered-other : (command : Command) → is_answered command ≡ true → is_write command ≡ false
 answered-other (commands.Write w) is = absurd (false≢true is)
 answered-other (commands.Read r) is = refl
 answered-other (commands.Zero z) is = refl
@@ -153,7 +153,7 @@ answered-other (commands.SetEvents set) is = refl
 answered-other (commands.Create create) is = refl
 answered-other (commands.Other o) is = refl
 
-answered-unsaved : (command : Command) → is_answered command ≡ true → is_saved command ≡ false
+pub answered-unsaved : (command : Command) → is_answered command ≡ true → is_saved command ≡ false
 answered-unsaved (commands.Write w) is = absurd (false≢true is)
 answered-unsaved (commands.Read r) is = refl
 answered-unsaved (commands.Zero z) is = absurd (false≢true is)
@@ -171,19 +171,6 @@ answered-unsaved (commands.GetFdp g) is = refl
 answered-unsaved (commands.SetEvents set) is = absurd (false≢true is)
 answered-unsaved (commands.Create create) is = absurd (false≢true is)
 answered-unsaved (commands.Other o) is = refl
-
-pub unapplied-by : {told : Bool} (b : BookSeen) (command : Command) (reply : Reply) → IsAnswerable b command → IsSuccess told b.config (point_in b) command reply → reply.applied ≡ false
-unapplied-by b command reply is success = success.applied ∙ answered-unsaved command is.answered
-
-pub answer-of : (told : Bool) (b : BookSeen) (queue : ℕ) (command : Command) (r : Replies) → IsQueue b.config queue → IsWellFormed b.config command → IsAnswerable b command → IsSuccess told b.config (point_in b) command r.history → IsAnswer told b queue command r.history
-answer-of told b queue command r queue_is formed is success = record {
-  queue_is = queue_is;
-  formed = formed;
-  accepted = is.accepted;
-  other = answered-other command is.answered;
-  success = success;
-  unapplied = unapplied-by b command r.history is success;
-}
 
 answer-fine : (told : Bool) (b : BookSeen) (queue : ℕ) (command : Command) (reply : Reply) → IsAnswer told b queue command reply → is_media_error reply.status ≡ false
 answer-fine told b queue command reply is = ap is_media_error is.success.status

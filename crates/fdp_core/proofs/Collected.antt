@@ -14,8 +14,7 @@ use Rattle.fdp_durability.specs.Saved.{firm_renewed, firm_with}
 use Rattle.fdp_durability.proofs.Beginnings.{stands-less}
 use Rattle.fdp_flash.specs.declared.answer.Wrote.TheVariants as wrote
 use Rattle.fdp_flash.specs.FlashState.{FlashState}
-use Rattle.fdp_flash.specs.Runs.{Runs}
-use Rattle.fdp_flash.proofs.Runs.{no_run, runs_joined, runs_weakened}
+use Rattle.fdp_flash.proofs.Runs.{runs_joined, runs_weakened}
 use Rattle.fdp_image.specs.Kept.{StandsForBeginning}
 use Rattle.fdp_keeper.specs.Keeper.{IsKeeperOf, KeeperSeen}
 use Rattle.fdp_ledger.specs.declared.counts.Counts.{Counts}

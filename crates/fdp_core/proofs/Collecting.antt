@@ -1,36 +1,25 @@
 -- A step of relocation as a step of its own.
-use Rattle.std.proofs.Common.{◌≡◌, ℕ, ◌+◌, ◌-◌, ◌≤◌, ◌<◌, true, false, List, [], ◌∷◌, length, refl, sym, ◌∙◌, subst, arith, ◌^◌, ◌++◌, ap, inl, inr}
+use Rattle.std.proofs.Common.{◌≡◌, ℕ, ◌+◌, ◌-◌, ◌≤◌, ◌<◌, true, false, List, [], ◌∷◌, length, refl, sym, ◌∙◌, subst, arith, ◌^◌, ap, inl, inr}
 use Rattle.std.specs.Prelude.{IsTrue, ◌==◌}
 use Rattle.std.proofs.lemmas.Bool.Decides.{nat_tests}
-use Rattle.fdp_base.specs.declared.entry.Copied.{Copied}
 use Rattle.fdp_base.specs.declared.entry.Entry.{Entry}
-use Rattle.fdp_base.specs.declared.entry.Entry.TheVariants as entries
 use Rattle.fdp_book.specs.Book.{BookSeen, IsLonger, state_in}
-use Rattle.fdp_calls.specs.Calls.{fetch_at, program_at}
 use Rattle.fdp_collector.specs.Step.{IsUncalled}
 use Rattle.fdp_core.specs.Answers as answers
 use Rattle.fdp_core.specs.Answers.{CollectsStep}
-use Rattle.fdp_core.specs.Seen.{Seen, Stands, stage_of}
+use Rattle.fdp_core.specs.Seen.{Seen, stage_of}
 use Rattle.fdp_core.specs.Sound.{IsSound}
-use Rattle.fdp_core.specs.Steps.{Adds, IsGrown, Matches, steps_of}
+use Rattle.fdp_core.specs.Steps.{IsGrown, Matches, steps_of}
 use Rattle.fdp_core.proofs.Sound.{begun}
-use Rattle.fdp_flash.specs.declared.cell.Cell.{Cell}
 use Rattle.fdp_flash.specs.FlashState.{Call, FlashState}
-use Rattle.fdp_flash.specs.Runs.{Runs}
-use Rattle.fdp_isolation.specs.Laned.{IsKnown}
-use Rattle.fdp_ledger.specs.Ledger.{IsLedger}
 use Rattle.fdp_ledger.specs.WornOut.{IsWornOut}
-use Rattle.fdp_rules.specs.History.{state_of}
 use Rattle.fdp_isolation.proofs.Alike.{laned-alike}
 use Rattle.fdp_ledger.specs.declared.counts.Counts.{Counts}
 use Rattle.fdp_ledger.proofs.Alike.{ledger-alike}
-use Rattle.fdp_locations.proofs.Ending.{rests-same}
-use Rattle.fdp_passes.specs.declared.due.Due.TheVariants as due
 use Rattle.fdp_relocation.specs.declared.advance.Advance.{Advance}
 use Rattle.fdp_relocation.specs.declared.advance.Advance.TheVariants as advance
 use Rattle.fdp_saving.specs.declared.saved.Saved.TheVariants as savings
 use Rattle.fdp_relocation.specs.Collected.{Collects}
-use Rattle.fdp_units.specs.UnitTable.{IsGroup}
 use Rattle.fdp_core.specs.Advancing.{Advances, ComesTo, MovesCopies, TellsMore}
 use Rattle.fdp_survival.specs.Books.{IsSafe}
 use Rattle.fdp_core.specs.Stops.{Outlasts, OutlastsStops}

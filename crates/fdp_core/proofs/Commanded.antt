@@ -1,6 +1,6 @@
 -- A command other than a write: what stands behind the step that saved its change and made it, could not save it, or answered it.
-use Rattle.std.proofs.Common.{◌≡◌, ℕ, ◌+◌, ◌<◌, ◌≤◌, Bool, true, false, List, [], Option, refl, sym, ◌∙◌, ap, subst, arith}
-use Rattle.std.specs.Prelude.{IsTrue, None}
+use Rattle.std.proofs.Common.{◌≡◌, ℕ, ◌+◌, ◌<◌, ◌≤◌, Bool, true, false, List, [], Option, refl, sym, subst, arith}
+use Rattle.std.specs.Prelude.{IsTrue}
 use Rattle.std.specs.List.{count_by}
 use Rattle.std.proofs.lemmas.Bool.{false≢true}
 use Rattle.fdp_base.specs.declared.command.Command.{Command}
@@ -11,7 +11,7 @@ use Rattle.fdp_base.specs.declared.entry.Entry.{Entry}
 use Rattle.fdp_base.specs.declared.entry.Reply.{Reply}
 use Rattle.fdp_base.specs.declared.entry.Spot.{Spot}
 use Rattle.fdp_base.specs.declared.status.TheConstants.Status as statuses
-use Rattle.fdp_base.specs.CommandKinds.{IsWellFormed, is_setting, is_write}
+use Rattle.fdp_base.specs.CommandKinds.{is_setting, is_write}
 use Rattle.fdp_base.specs.Placement.{classes_of}
 use Rattle.fdp_book.specs.declared.ticket.Done.{Done}
 use Rattle.fdp_book.specs.Book.{BookSeen, IsLed, point_in, state_in, written_in}
@@ -30,7 +30,7 @@ use Rattle.fdp_core.proofs.Ends.{no-fetches}
 use Rattle.fdp_core.proofs.Grown.{host}
 use Rattle.fdp_core.proofs.Made.{MayFault, made-completes, made-whole, may-fault, saving-failed, sound-behind, unmade-whole}
 use Rattle.fdp_core.proofs.Refusals.{uncompleted}
-use Rattle.fdp_core.proofs.Sound.{begun, same-flash, sound-begun, sound-entry, sound-told}
+use Rattle.fdp_core.proofs.Sound.{begun, same-flash, sound-entry, sound-told}
 use Rattle.fdp_flash.specs.declared.cell.Cell.{Cell}
 use Rattle.fdp_flash.specs.FlashState.{FlashState}
 use Rattle.fdp_isolation.specs.Laned.{IsKnown}
@@ -46,10 +46,9 @@ use Rattle.fdp_locations.proofs.Left.{holds-left, left-none}
 use Rattle.fdp_pages.specs.PageTables.{PageTables}
 use Rattle.fdp_pages.specs.Steps.{ChangesOwners, LeavesUnits}
 use Rattle.fdp_relocation.proofs.Moving.{blank-recounted}
-use Rattle.fdp_rules.specs.Answer.{IsSuccess, bare}
+use Rattle.fdp_rules.specs.Answer.{bare}
 use Rattle.fdp_rules.specs.Change.{is_media_error}
-use Rattle.fdp_rules.specs.Refusal.{refusal_of}
-use Rattle.fdp_rules.specs.Step.{Follows, IsQueue}
+use Rattle.fdp_rules.specs.Step.{Follows}
 use Rattle.fdp_saving.specs.declared.saved.Saved.TheVariants as savings
 use Rattle.fdp_saving.proofs.Failing.{doubtful_failed, saved_well}
 use Rattle.fdp_survival.specs.Books.{IsInOrder}

@@ -1,6 +1,6 @@
 -- What saves a drive stands for its history behind each step.
-use Rattle.std.proofs.Common.{◌≡◌, ◌≢◌, ℕ, ◌+◌, ◌-◌, ◌^◌, ◌≤◌, Bool, true, false, not, IsTrue, List, [], ◌∷◌, ◌++◌, length, refl, sym, ◌∙◌, ap, subst, arith, append_assoc, length-append}
-use Rattle.std.specs.Prelude.{IsFalse, if◌then◌else◌}
+use Rattle.std.proofs.Common.{◌≡◌, ◌≢◌, ℕ, ◌+◌, ◌^◌, ◌≤◌, Bool, true, false, IsTrue, List, [], ◌∷◌, ◌++◌, length, refl, sym, ◌∙◌, ap, subst, arith, append_assoc, length-append}
+use Rattle.std.specs.Prelude.{IsFalse}
 use Rattle.std.proofs.lemmas.List.{append-nil}
 use Rattle.fdp_base.specs.declared.config.DriveConfig.{DriveConfig}
 use Rattle.fdp_base.specs.declared.entry.Entry.{Entry}
@@ -47,7 +47,7 @@ use Rattle.fdp_rules.specs.Step.{Follows}
 use Rattle.fdp_rules.proofs.Pushes.{point_of-push}
 use Rattle.fdp_saving.specs.declared.saved.Saved.{Saved}
 use Rattle.fdp_saving.specs.declared.saved.Saved.TheVariants as answers
-use Rattle.fdp_saving.specs.Saver.{after_checkpoint, after_renewal, after_saving, needs_checkpoint, renewed}
+use Rattle.fdp_saving.specs.Saver.{after_checkpoint, after_saving, needs_checkpoint, renewed}
 use Rattle.fdp_saving.specs.Saving.{EndsCheckpoint, EndsSaving}
 use Rattle.fdp_saving.proofs.Joined.{ready_sure}
 use Rattle.fdp_snapshot.specs.declared.state.Summary.{Summary}

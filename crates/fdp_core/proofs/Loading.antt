@@ -1,5 +1,5 @@
 -- A group that was opened over a flash.
-use Rattle.std.proofs.Common.{◌≡◌, ℕ, ◌+◌, ◌≤◌, ◌^◌, true, false, List, length, refl, sym, ◌∙◌, ap, subst, arith}
+use Rattle.std.proofs.Common.{◌≡◌, ℕ, true, false, List, length, refl, sym, ◌∙◌, ap, subst, arith}
 use Rattle.fdp_base.specs.declared.config.DriveConfig.{DriveConfig}
 use Rattle.fdp_book.specs.Book.{BookSeen}
 use Rattle.fdp_core.specs.Sound.{IsWhole}
@@ -9,7 +9,6 @@ use Rattle.fdp_ledger.specs.Counted.{counts_of}
 use Rattle.fdp_loading.specs.Loaded as loaded
 use Rattle.fdp_core.specs.Loading.{IsLoaded}
 use Rattle.fdp_core.specs.Seen.{Seen}
-use Rattle.fdp_flash.specs.declared.cell.Cell.{Cell}
 use Rattle.fdp_flash.specs.Runs.{Runs}
 use Rattle.fdp_image.specs.Kept.{StandsForBeginning}
 use Rattle.fdp_loading.specs.Refused.{IsNotLoaded}

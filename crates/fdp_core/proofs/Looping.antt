@@ -1,16 +1,14 @@
 -- A pass that is made step by step until its end.
-use Rattle.std.proofs.Common.{◌≡◌, ℕ, ◌+◌, ◌≤◌, ◌<◌, ◌⊎◌, Bool, true, false, ◌||◌, List, [], ◌∷◌, ◌++◌, Option, Some, None, refl, sym, ◌∙◌, ap, subst, arith, inl, inr, append_assoc, not, length}
+use Rattle.std.proofs.Common.{◌≡◌, ℕ, ◌+◌, ◌≤◌, ◌<◌, ◌⊎◌, Bool, true, false, List, [], ◌∷◌, ◌++◌, Option, Some, None, refl, sym, ◌∙◌, ap, subst, arith, inl, inr, append_assoc, not, length}
 use Rattle.std.specs.Prelude.{IsTrue, is_some, if◌then◌else◌}
 use Rattle.std.specs.List.{list_any}
 use Rattle.std.specs.Option.{option_map_or}
 use Rattle.std.proofs.lemmas.Bool.{false≢true}
-use Rattle.std.proofs.lemmas.List.Folds.{list_any-append}
 use Rattle.fdp_base.specs.declared.config.DriveConfig.{DriveConfig}
 use Rattle.fdp_base.specs.declared.entry.Entry.{Entry}
 use Rattle.fdp_base.specs.declared.entry.Entry.TheVariants as entries
 use Rattle.fdp_book.specs.Book.{BookSeen, state_in}
-use Rattle.fdp_calls.specs.Calls.{erase_at, fetch_at, has_failed, program_at}
-use Rattle.fdp_collector.specs.declared.step.Lost.TheVariants as lost
+use Rattle.fdp_calls.specs.Calls.{erase_at, has_failed}
 use Rattle.fdp_base.specs.Config.{IsValidConfig}
 use Rattle.fdp_core.specs.declared.group.pass.PassEnd.{PassEnd}
 use Rattle.fdp_core.specs.declared.group.pass.PassEnd.TheVariants as ends
@@ -20,18 +18,13 @@ use Rattle.fdp_core.specs.Passes.{EndsPass, EndsRest, FailsInPass, MakesNone, Ma
 use Rattle.fdp_isolation.specs.Laned.{IsKnown}
 use Rattle.fdp_core.specs.Seen.{Seen, Stands, stage_of}
 use Rattle.fdp_core.proofs.Passing.{erases-none, relocates-joined, relocates-none}
-use Rattle.fdp_flash.specs.declared.cell.Cell.{Cell}
 use Rattle.fdp_flash.specs.FlashState.{Call, FlashState}
-use Rattle.fdp_flash.specs.Runs.{Runs}
-use Rattle.fdp_ledger.specs.Ledger.{IsLedger}
 use Rattle.fdp_ledger.proofs.Blank.{ErasesNoUnit}
-use Rattle.fdp_locations.proofs.Ending.{rests-same}
 use Rattle.fdp_locations.proofs.Others.{is-group}
 use Rattle.fdp_pages.specs.PageTables.{copies_at, passes_at}
 use Rattle.fdp_passes.specs.declared.due.Due.TheVariants as due
 use Rattle.fdp_passes.specs.Due.{IsDue, copies_in}
 use Rattle.fdp_passes.specs.GroupPasses.{GroupPasses, Pass}
-use Rattle.fdp_relocation.specs.declared.advance.Advance.{Advance}
 use Rattle.fdp_relocation.specs.declared.advance.Advance.TheVariants as advance
 use Rattle.fdp_saving.specs.declared.saved.Saved.TheVariants as savings
 use Rattle.fdp_flash.specs.declared.answer.Wrote.TheVariants as wrote
@@ -40,14 +33,14 @@ use Rattle.fdp_relocation.specs.Toil.{wanted_at, work}
 use Rattle.fdp_relocation.proofs.Toil.Steps.{CopiesOn, MovesOn, copies-on, erases-on, moves-on, wanted-few, ErasesOn}
 use Rattle.fdp_units.specs.DataUnits.{is_free}
 use Rattle.fdp_units.specs.UnitTable.{Cut, HasNoVictim, IsGroup, count_in, toil_of}
-use Rattle.fdp_saving.specs.Calls.{AreCallsOfCheckpoint, AreCallsOfSaving, FailAtEnd}
+use Rattle.fdp_saving.specs.Calls.{FailAtEnd}
 use Rattle.fdp_core.specs.Advancing.{Advances, ComesTo, AreCallsOfMove, ErasesVictim, AreCallsOfSettling}
 use Rattle.fdp_pages.specs.Joined.{AreJoined}
 use Rattle.fdp_ledger.specs.WornOut.{IsWornOut}
 use Rattle.fdp_journal.specs.JournalState.{JournalState}
 use Rattle.fdp_core.proofs.Called.{well-joined, fails-behind}
 use Rattle.fdp_collector.specs.Step.{IsUncalled}
-use Rattle.fdp_saving.proofs.Failing.{renewed_well, saved_well, written_well}
+use Rattle.fdp_saving.proofs.Failing.{saved_well, written_well}
 
 -- ---- what is known
 

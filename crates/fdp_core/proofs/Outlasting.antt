@@ -1,11 +1,10 @@
 -- What a stop may leave of steps that follow one another.
-use Rattle.std.proofs.Common.{◌≡◌, ℕ, ◌+◌, ◌≤◌, IsTrue, List, [], ◌∷◌, ◌++◌, refl, sym, ◌∙◌, ap, subst, arith}
+use Rattle.std.proofs.Common.{◌≡◌, ℕ, ◌≤◌, List, [], ◌++◌, sym, subst, arith}
 use Rattle.std.specs.Prelude.{All, IsFalse}
 use Rattle.std.proofs.lemmas.List.Elements.{All-append, All-nil, All-weaker}
 use Rattle.fdp_base.specs.declared.config.DriveConfig.{DriveConfig}
 use Rattle.fdp_base.specs.declared.entry.Entry.{Entry}
-use Rattle.fdp_book.specs.Book.{BookSeen, IsLonger}
-use Rattle.fdp_core.specs.Passes.{Relocates}
+use Rattle.fdp_book.specs.Book.{IsLonger}
 use Rattle.fdp_core.specs.Seen.{Seen}
 use Rattle.fdp_core.specs.Stops.{Outlasts, OutlastsStops}
 use Rattle.fdp_core.proofs.Looping.{IsPassing}

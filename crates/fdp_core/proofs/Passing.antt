@@ -10,8 +10,7 @@ use Rattle.std.proofs.lemmas.List.Sums.{sum_by-append}
 use Rattle.fdp_base.specs.declared.config.DriveConfig.{DriveConfig}
 use Rattle.fdp_base.specs.declared.config.Geometry.{Geometry}
 use Rattle.fdp_base.specs.declared.entry.Entry.{Entry}
-use Rattle.fdp_base.specs.declared.entry.Entry.TheVariants as entries
-use Rattle.fdp_book.specs.Book.{BookSeen, IsLonger, point_in, state_in, written_in}
+use Rattle.fdp_book.specs.Book.{BookSeen, IsLonger, state_in, written_in}
 use Rattle.fdp_book.specs.Relocating.{told_by}
 use Rattle.fdp_book.specs.Relocating as book
 use Rattle.fdp_calls.specs.Calls.{MakesCalls, counted_more, erase_at, fetch_at, has_failed, program_at}
@@ -39,17 +38,10 @@ use Rattle.fdp_base.specs.EntryKinds.{empties}
 use Rattle.fdp_ledger.proofs.Blank.{none-free_starved, ErasesNoUnit, erased-behind, erased-none, erased-relocated}
 use Rattle.fdp_ledger.proofs.Emptied.{emptied-joined, emptied-none, same-emptied}
 use Rattle.fdp_ledger.proofs.Relocated.{emptied-relocated}
-use Rattle.fdp_locations.specs.Located.{AreUnitsOf}
-use Rattle.fdp_pages.specs.Joined.{AreJoined}
-use Rattle.fdp_relocation.specs.declared.advance.Advance.{Advance}
-use Rattle.fdp_relocation.specs.declared.advance.Advance.TheVariants as advance
-use Rattle.fdp_relocation.specs.Collected.{Collects, StaysUncalled}
+use Rattle.fdp_relocation.specs.Collected.{StaysUncalled}
 use Rattle.fdp_relocation.specs.Entries.{AreRelocationIn, IsRelocationIn}
-use Rattle.fdp_relocation.proofs.Keeping.{keeps-longer, keeps-self, keeps-then}
-use Rattle.fdp_relocation.proofs.Telling.{moved-inside, told-inside}
-use Rattle.fdp_rules.specs.Sites.{moved_blocks}
+use Rattle.fdp_relocation.proofs.Keeping.{keeps-self, keeps-then}
 use Rattle.fdp_rules.specs.Totals.{media_blocks, media_blocks_of}
-use Rattle.fdp_units.specs.UnitTable.{IsGroup}
 use Rattle.fdp_saving.specs.Calls.{FailAtEnd}
 use Rattle.fdp_ledger.proofs.System.{AreBehindData, emptied-system}
 use Rattle.fdp_locations.specs.Stored.{HoldsWritten}

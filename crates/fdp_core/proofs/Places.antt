@@ -1,5 +1,5 @@
 -- How a group places a page, or fails to.
-use Rattle.std.proofs.Common.{◌≡◌, ℕ, ◌+◌, ◌<◌, ◌≤◌, Bool, true, false, List, [], ◌∷◌, Option, Some, refl, ap, sym, ◌∙◌, subst, arith, inl, inr}
+use Rattle.std.proofs.Common.{◌≡◌, ℕ, ◌+◌, ◌<◌, ◌≤◌, Bool, false, List, [], ◌∷◌, Option, Some, refl, ap, sym, ◌∙◌, subst, arith, inl, inr}
 use Rattle.std.specs.Prelude.{Contains, IsTrue, ◌==◌}
 use Rattle.std.proofs.lemmas.Bool.{false≢true}
 use Rattle.std.proofs.lemmas.Bool.Decides.{nat_tests}
@@ -9,24 +9,22 @@ use Rattle.fdp_base.specs.declared.entry.Entry.TheVariants as entries
 use Rattle.fdp_base.specs.declared.entry.Spot.{Spot}
 use Rattle.fdp_base.specs.declared.status.TheConstants.Status as statuses
 use Rattle.fdp_base.specs.CommandKinds.{blocks_written}
-use Rattle.fdp_book.specs.declared.ticket.Done.{Done}
 use Rattle.fdp_book.specs.declared.ticket.Ticket.{Ticket}
 use Rattle.fdp_book.specs.Book.{BookSeen, point_in, state_in}
-use Rattle.fdp_book.specs.Shutting.{ShutsAndEnds}
 use Rattle.fdp_book.specs.Steps as book
 use Rattle.fdp_book.specs.Tickets.{IsNextSpot, IsTicketOf}
 use Rattle.fdp_book.proofs.Histories.Follows.{end-follows}
 use Rattle.fdp_calls.specs.Calls.{FailedAt, MakesCalls, program_at}
 use Rattle.fdp_calls.specs.Media.{IsProgrammedTo}
-use Rattle.fdp_calls.proofs.Made.{counted_more-none, counted_more-one, failed-last}
+use Rattle.fdp_calls.proofs.Made.{counted_more-one}
 use Rattle.fdp_core.specs.declared.answer.Placed.{Placed}
 use Rattle.fdp_core.specs.declared.answer.Placed.TheVariants as placed
-use Rattle.fdp_core.specs.Answers.{FailsToPlace, Places, PlacesPage}
+use Rattle.fdp_core.specs.Answers.{Places, PlacesPage}
 use Rattle.fdp_core.specs.Seen.{HasMoments, Seen}
-use Rattle.fdp_core.proofs.Grown.{adds, completes, host}
+use Rattle.fdp_core.proofs.Grown.{adds, host}
 use Rattle.fdp_core.proofs.Sound.{begun}
 use Rattle.fdp_flash.specs.declared.cell.Cell.{Cell}
-use Rattle.fdp_flash.specs.FlashState.{FlashState, IsWellFormed as IsFlashFormed}
+use Rattle.fdp_flash.specs.FlashState.{FlashState}
 use Rattle.fdp_history.specs.Orderly.{IsOrderly}
 use Rattle.fdp_history.proofs.Points.{orderly-next}
 use Rattle.fdp_isolation.specs.Laned.{IsKnown}

@@ -1,18 +1,15 @@
 -- What an entry more makes of a history.
-use Rattle.std.proofs.Common.{◌≡◌, ◌≤◌, Bool, true, false, ◌||◌, IsTrue, List, [], ◌∷◌, ◌++◌, Option, refl, sym, ◌∙◌, ap, subst, arith}
+use Rattle.std.proofs.Common.{◌≡◌, ◌≤◌, Bool, true, false, ◌||◌, IsTrue, List, [], ◌∷◌, ◌++◌, refl, sym, ◌∙◌, ap, subst, arith}
 use Rattle.std.specs.List.{list_any}
 use Rattle.std.proofs.lemmas.Bool.{false≢true}
 use Rattle.std.proofs.lemmas.List.Folds.{list_any-append}
 use Rattle.fdp_base.specs.declared.config.DriveConfig.{DriveConfig}
 use Rattle.fdp_base.specs.declared.entry.Entry.{Entry}
-use Rattle.fdp_base.specs.declared.entry.Spot.{Spot}
-use Rattle.fdp_book.specs.Book.{BookSeen, IsLonger, point_in, state_in, written_in, first_in}
+use Rattle.fdp_book.specs.Book.{BookSeen, IsLonger, point_in}
 use Rattle.fdp_core.specs.Seen.{HasMoments, IsLegalOver}
 use Rattle.fdp_flash.specs.FlashState.{FlashState}
 use Rattle.fdp_ledger.specs.Told.{is_media_reply}
-use Rattle.fdp_locations.specs.Written.{Written, written_after, written_by}
-use Rattle.fdp_locations.proofs.Histories.{written_by-push}
-use Rattle.fdp_rules.specs.History.{Found, point_of, state_of}
+use Rattle.fdp_rules.specs.History.{Found}
 use Rattle.fdp_rules.specs.Legal.{IsLegal}
 use Rattle.fdp_rules.specs.Next.{next}
 use Rattle.fdp_rules.specs.Point.{Point}

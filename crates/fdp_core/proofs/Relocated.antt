@@ -2,29 +2,25 @@
 use Rattle.std.proofs.Common.{◌≡◌, ℕ, ◌≤◌, ◌<◌, true, List, [], ◌∷◌, length, sym, ◌∙◌, ap, subst, arith, Bool, inl, inr, refl, not}
 use Rattle.std.specs.Prelude.{IsTrue}
 use Rattle.fdp_base.specs.declared.config.DriveConfig.{DriveConfig}
-use Rattle.fdp_base.specs.declared.config.Geometry.{Geometry}
 use Rattle.fdp_base.specs.declared.entry.Entry.{Entry}
 use Rattle.fdp_base.specs.Placement.{geometry_of}
-use Rattle.fdp_book.specs.Book.{BookSeen, IsLonger, state_in, written_in}
+use Rattle.fdp_book.specs.Book.{BookSeen, IsLonger, written_in}
 use Rattle.fdp_book.specs.Relocating.{MayFollow, MovesPass, Relocates, told_by}
 use Rattle.fdp_collector.specs.declared.step.Lost.TheVariants as lost
 use Rattle.fdp_collector.specs.declared.step.Step.{Step}
 use Rattle.fdp_collector.specs.declared.step.Step.TheVariants as steps
-use Rattle.fdp_core.specs.Seen.{HoldsHistory, IsLegalOver}
+use Rattle.fdp_core.specs.Seen.{IsLegalOver}
 use Rattle.fdp_core.specs.Sound.{IsSound}
 use Rattle.fdp_core.proofs.Apart.{apart-relocated, apart-moved}
 use Rattle.fdp_core.proofs.Pushed.{legal-none, legal-one}
 use Rattle.fdp_flash.specs.declared.cell.Cell.{Cell}
 use Rattle.fdp_flash.specs.FlashState.{Call, FlashState}
 use Rattle.fdp_flash.specs.Runs.{Runs}
-use Rattle.fdp_isolation.specs.Laned.{AreLaned, IsKnown}
+use Rattle.fdp_isolation.specs.Laned.{IsKnown}
 use Rattle.fdp_ledger.specs.declared.counts.Counts.{Counts}
-use Rattle.fdp_ledger.specs.Ledger.{IsLedger}
 use Rattle.fdp_ledger.proofs.Moved.{ledger-moved}
 use Rattle.fdp_ledger.proofs.Relocated.{ledger-relocated}
-use Rattle.fdp_locations.specs.Located.{AreUnitsOf}
 use Rattle.fdp_locations.specs.Stored.{HoldsWritten}
-use Rattle.fdp_pages.specs.Joined.{AreJoined}
 use Rattle.fdp_relocation.specs.declared.advance.Advance.{Advance}
 use Rattle.fdp_relocation.specs.declared.advance.Advance.TheVariants as advance
 use Rattle.fdp_relocation.specs.Collected.{Collects, Moves, SavesMove, Stage, Steps, StepsSettled}
@@ -34,8 +30,6 @@ use Rattle.fdp_saving.specs.declared.saved.Saved.{Saved}
 use Rattle.fdp_saving.specs.declared.saved.Saved.TheVariants as savings
 use Rattle.fdp_flash.specs.declared.answer.Wrote.TheVariants as wrote
 use Rattle.fdp_survival.specs.Books.{IsSafe}
-use Rattle.fdp_durability.specs.Saved.{SettlesDrive}
-use Rattle.fdp_flash.specs.declared.answer.Wrote.{Wrote}
 use Rattle.fdp_isolation.proofs.Saved.{laned-saved}
 use Rattle.fdp_ledger.proofs.System.{ledger-system}
 use Rattle.fdp_ledger.proofs.Called.{after-made}

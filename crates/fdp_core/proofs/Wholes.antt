@@ -20,7 +20,6 @@ use Rattle.fdp_core.proofs.Outlasting.{outlasts-all, outlasts-part}
 use Rattle.fdp_core.proofs.Rooms.{begun_seen}
 use Rattle.fdp_core.proofs.Sound.{begun, sound-begun}
 use Rattle.fdp_durability.specs.Firm.{completes}
-use Rattle.fdp_flash.specs.declared.cell.Cell.{Cell}
 use Rattle.fdp_flash.specs.FlashState.{FlashState}
 use Rattle.fdp_flash.proofs.Runs.{no_run}
 use Rattle.fdp_image.specs.Kept.{StandsForBeginning, is_completed}

@@ -1,10 +1,9 @@
 -- What the calls of a group answer, each with its cause.
-use Rattle.std.specs.Prelude.{◌≡◌, ◌≢◌, ◌⊎◌, ℕ, ◌+◌, ◌<◌, ◌≤◌, true, false, IsTrue, IsFalse, List, [], ◌∷◌, ◌++◌, None, Some, length, option_map}
+use Rattle.std.specs.Prelude.{◌≡◌, ◌⊎◌, ℕ, ◌+◌, ◌<◌, ◌≤◌, true, false, IsTrue, IsFalse, List, [], ◌∷◌, ◌++◌, None, Some, length, option_map}
 use Rattle.std.specs.List.{list_any}
 use Rattle.fdp_base.specs.declared.command.Command.{Command}
 use Rattle.fdp_base.specs.declared.command.Command.TheVariants as commands
 use Rattle.fdp_base.specs.declared.command.Read.{Read}
-use Rattle.fdp_base.specs.declared.entry.Copied.{Copied}
 use Rattle.fdp_base.specs.declared.entry.Entry.{Entry}
 use Rattle.fdp_base.specs.declared.entry.Entry.TheVariants as entries
 use Rattle.fdp_base.specs.declared.entry.Reply.{Reply}
@@ -14,13 +13,10 @@ use Rattle.fdp_base.specs.declared.status.TheConstants.Status as statuses
 use Rattle.fdp_base.specs.CommandKinds.{blocks_written, is_saved, write_of}
 use Rattle.fdp_book.specs.declared.ticket.Done.{Done}
 use Rattle.fdp_book.specs.declared.ticket.Ticket.{Ticket}
-use Rattle.fdp_book.specs.Book.{BookSeen, point_in, position_in, state_in}
+use Rattle.fdp_book.specs.Book.{point_in, position_in, state_in}
 use Rattle.fdp_book.specs.Commanded.{applied_reply}
-use Rattle.fdp_book.specs.Relocating.{told_by}
 use Rattle.fdp_book.specs.Tickets.{IsNextSpot, IsTicketOf, WantsUnit}
-use Rattle.fdp_calls.specs.Calls.{erase_at, fetch_at, has_failed, program_at}
-use Rattle.fdp_collector.specs.declared.step.Lost.{Lost}
-use Rattle.fdp_collector.specs.declared.step.Step.TheVariants as steps
+use Rattle.fdp_calls.specs.Calls.{has_failed, program_at}
 use Rattle.fdp_collector.specs.Step.{IsUncalled}
 use Rattle.fdp_core.specs.declared.answer.Begun.{Begun}
 use Rattle.fdp_core.specs.declared.answer.Begun.TheVariants as begun
@@ -33,12 +29,7 @@ use Rattle.fdp_core.specs.Steps.{Adds, Completes, Matches}
 use Rattle.fdp_flash.specs.declared.answer.Wrote.{Wrote}
 use Rattle.fdp_flash.specs.declared.answer.Wrote.TheVariants as wrote
 use Rattle.fdp_flash.specs.FlashState.{Call, FlashState}
-use Rattle.fdp_journal.specs.JournalState.{JournalState}
 use Rattle.fdp_ledger.specs.WornOut.{IsWornOut}
-use Rattle.fdp_pages.specs.PageTables.{passes_at}
-use Rattle.fdp_passes.specs.declared.due.Due.{Due}
-use Rattle.fdp_passes.specs.declared.due.Due.TheVariants as due
-use Rattle.fdp_passes.specs.Due.{IsDue}
 use Rattle.fdp_relocation.specs.declared.advance.Advance.{Advance}
 use Rattle.fdp_relocation.specs.declared.advance.Advance.TheVariants as advance
 use Rattle.fdp_relocation.specs.Entries.{AreRelocationIn}
@@ -48,14 +39,14 @@ use Rattle.fdp_rules.specs.History.{state_of}
 use Rattle.fdp_rules.specs.PlainState.{Going, PlainState}
 use Rattle.fdp_rules.specs.Refusal.{refusal_of}
 use Rattle.fdp_rules.specs.Room.{roomiest}
-use Rattle.fdp_rules.specs.Sites.{is_there, moved_blocks}
+use Rattle.fdp_rules.specs.Sites.{is_there}
 use Rattle.fdp_rules.specs.Step.{MaySucceed, exceeds_budget, goes_to}
 use Rattle.fdp_rules.specs.Target.{Target}
 use Rattle.fdp_saving.specs.declared.saved.Saved.{Saved}
 use Rattle.fdp_saving.specs.declared.saved.Saved.TheVariants as savings
-use Rattle.fdp_saving.specs.Calls.{AreCallsOfCheckpoint, AreCallsOfRenewal, AreCallsOfSaving, FailAtEnd}
+use Rattle.fdp_saving.specs.Calls.{AreCallsOfCheckpoint, AreCallsOfSaving, FailAtEnd}
 use Rattle.fdp_snapshot.specs.declared.state.Summary.{Summary}
-use Rattle.fdp_units.specs.UnitTable.{HasNoFree, toil_of}
+use Rattle.fdp_units.specs.UnitTable.{toil_of}
 use Rattle.fdp_core.specs.Advancing.{ComesTo}
 
 -- ---- the first step of a command

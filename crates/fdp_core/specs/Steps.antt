@@ -1,9 +1,7 @@
 -- What a step of a group adds to its history.
-use Rattle.std.specs.Prelude.{◌≡◌, ◌≢◌, ℕ, ◌+◌, false, IsTrue, List, [], ◌∷◌, ◌++◌}
+use Rattle.std.specs.Prelude.{◌≡◌, ℕ, ◌+◌, false, IsTrue, List, [], ◌∷◌, ◌++◌}
 use Rattle.std.specs.List.{list_any}
 use Rattle.fdp_base.specs.declared.command.Command.{Command}
-use Rattle.fdp_base.specs.declared.command.Command.TheVariants as commands
-use Rattle.fdp_base.specs.declared.command.GetLog.{GetLog}
 use Rattle.fdp_base.specs.declared.entry.Entry.{Entry}
 use Rattle.fdp_base.specs.declared.entry.Entry.TheVariants as entries
 use Rattle.fdp_base.specs.CommandKinds.{IsWellFormed}
@@ -20,10 +18,9 @@ use Rattle.fdp_rules.specs.Change.{is_media_error}
 use Rattle.fdp_rules.specs.Step.{IsQueue}
 use Rattle.fdp_rules.specs.Totals.{media_blocks}
 
--- a command may be begun in a queue under a number, with this room: any but a log
+-- a command may be begun in a queue under a number, with this room
 pub record MayBegin {F : Type 0} (group : Seen F) (queue number : ℕ) (command : Command) (room : RoomSeen) : Type 0 where
   pub queue_is : IsQueue group.book.config queue
-  pub served : (log : GetLog) → command ≢ commands.Log log
   pub formed : IsWellFormed group.book.config command
   pub free : IsFree (state_in group.book) queue number
   pub room_is : room ≡ room_for command group.book.config

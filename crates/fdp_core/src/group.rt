@@ -33,10 +33,14 @@ mod collect;
 mod commit;
 mod end;
 mod load;
+mod log;
 mod pass;
 mod place;
 mod read;
+mod refuse;
 mod start;
+mod succeed;
+mod telling;
 
 /// A drive over a flash.
 #[derive(Drop)]

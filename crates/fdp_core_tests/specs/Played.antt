@@ -1,10 +1,7 @@
 -- A player as contracts see it, when it may make a step, and what the step comes to.
-use Rattle.std.specs.Prelude.{◌≡◌, ◌≢◌, ◌⊎◌, ℕ, ◌<◌, List, Option, Some, None, slice_get, option_map}
+use Rattle.std.specs.Prelude.{◌≡◌, ◌⊎◌, ℕ, ◌<◌, List, Option, Some, None, slice_get, option_map}
 use Rattle.std.specs.Option.{option_flatten}
 use Rattle.fdp_base.specs.declared.command.Command.{Command}
-use Rattle.fdp_base.specs.declared.command.Command.TheVariants as commands
-use Rattle.fdp_base.specs.declared.command.GetLog.{GetLog}
-use Rattle.fdp_base.specs.declared.config.DriveConfig.{DriveConfig}
 use Rattle.fdp_base.specs.CommandKinds.{IsWellFormed}
 use Rattle.fdp_rules.specs.PlainState.{Going}
 use Rattle.fdp_rules.specs.Step.{IsQueue}
@@ -38,15 +35,10 @@ with_spare group spare = record group { book = record group.book { spare = spare
 
 -- ---- when a step may be made
 
--- a command that a drive serves: any but a log
-pub record IsPlayable (c : DriveConfig) (command : Command) : Type 0 where
-  pub served : (log : GetLog) → command ≢ commands.Log log
-  pub formed : IsWellFormed c command
-
 -- a command may be begun in a queue under a number
 pub record MayPlay {F : Type 0} (group : Seen F) (queue number : ℕ) (command : Command) : Type 0 where
   pub queue_is : IsQueue group.book.config queue
-  pub playable : IsPlayable group.book.config command
+  pub formed : IsWellFormed group.book.config command
   pub free : IsFree (state_in group.book) queue number
   pub spare : 0 < group.book.spare
 

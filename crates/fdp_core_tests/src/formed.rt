@@ -1,9 +1,7 @@
 //! Tests of what a drive asks of a command before its first step.
-ghost use Rattle.std.specs.Prelude.{◌<◌, ◌↔◌, ◌≡◌, IsTrue};
-ghost use Rattle.fdp_base.specs.declared.command.Command.TheVariants as commands;
-ghost use Rattle.fdp_base.specs.declared.command.GetLog.{GetLog};
+ghost use Rattle.std.specs.Prelude.{◌<◌, ◌↔◌, IsTrue};
 ghost use Rattle.fdp_rules.specs.Step.{IsQueue};
-ghost use Rattle.fdp_core_tests.specs.Played.{IsPlayable, MayPlay};
+ghost use Rattle.fdp_core_tests.specs.Played.{MayPlay};
 
 use fdp_base::{Command, DriveConfig};
 use fdp_commands::is_well_formed;
@@ -16,7 +14,7 @@ pub fn may_play<F: Flash>(group: &Group<F>, queue: u8, number: u16, command: &Co
     ensures row { IsTrue result → queue < 17 }
 {
     is_queue(group.config(), queue)
-        && is_playable(command, group.config())
+        && is_well_formed(group.config(), command)
         && group.is_free(queue, number)
         && has_spare(group)
 }
@@ -33,32 +31,4 @@ fn is_queue(config: &DriveConfig, queue: u8) -> bool
     ensures { IsTrue result ↔ IsQueue config.now queue }
 {
     1 <= queue && queue <= config.queues
-}
-
-/// Whether a drive serves a command that is so formed: a queue entry can hold it, and it is no log.
-fn is_playable(command: &Command, config: &DriveConfig) -> bool
-    ensures { IsTrue result ↔ IsPlayable config.now command.now }
-{
-    !is_log(command) && is_well_formed(config, command)
-}
-
-fn is_log(command: &Command) -> bool
-    ensures { IsTrue result ↔ ((log : GetLog) × (command.now ≡ commands.Log log)) }
-{
-    match command {
-        Command::Log(_) => true,
-        Command::Write(_)
-        | Command::Read(_)
-        | Command::Zero(_)
-        | Command::Dealloc(_)
-        | Command::Flush(_)
-        | Command::Delete(_)
-        | Command::Status(_)
-        | Command::Update(_)
-        | Command::SetFdp(_)
-        | Command::GetFdp(_)
-        | Command::SetEvents(_)
-        | Command::Create(_)
-        | Command::Other(_) => false,
-    }
 }

@@ -71,7 +71,7 @@ impl<F: Flash> Player<F> {
 
     /// The first step of a command of a queue, under the next number: what it came to if it is completed. A write that the queue
     /// had before is forgotten. It does nothing where there is no memory for a step, the queue is none of the drive, or the command is not
-    /// served.
+    /// well formed.
     pub fn start(
         &mut self,
         alloc: Global,

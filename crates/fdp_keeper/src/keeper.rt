@@ -139,6 +139,14 @@ impl Keeper {
         })
     }
 
+    /// What a checkpoint says of the drive beside the pages of its blocks. Its totals are those of the last saving.
+    pub fn summary(&self) -> &Summary
+        ensures summary { result.now ≡ self.now.summary }
+        ensures writable { IsWritable result.now }
+    {
+        self.outline.summary()
+    }
+
     /// How many entries of the history no stop loses.
     pub fn firm(&self) -> u64
         ensures { result ≡ self.now.firm }

@@ -62,19 +62,21 @@ any_same g f places sixteen same =
     ap (λ (n : ℕ). list_any g (numbers_from 1 n)) (sym sixteen)
     ∙ any_from g f 1 places (λ i below. same (1 + i) ∙ ap f (place_is places i sixteen below))
 
-usage_same : (s : PlainState) (places : List (Option Space)) (ruh : ℕ) → length places ≡ 16 → ((nsid : ℕ) → option_map namespace_of (in_place places nsid) ≡ s.namespaces nsid) → usage_in places ruh ≡ usage_of s ruh
+pub usage_same : (s : PlainState) (places : List (Option Space)) (ruh : ℕ) → length places ≡ 16 → ((nsid : ℕ) → option_map namespace_of (in_place places nsid) ≡ s.namespaces nsid) → usage_in places ruh ≡ usage_of s ruh
 usage_same s places ruh sixteen same =
     let given = any_same (gives_handle s ruh) (gives ruh) places sixteen (λ nsid. gives_same s places ruh nsid (same nsid)) in
     let listed = any_same (lists_handle s ruh) (lists ruh) places sixteen (λ nsid. lists_same s places ruh nsid (same nsid)) in
     ap (λ (b : Bool). if b then 1 else if list_any (lists ruh) places then 2 else 0) (sym given)
     ∙ ap (λ (b : Bool). if list_any (gives_handle s ruh) namespace_ids then 1 else if b then 2 else 0) (sym listed)
 
+-- how many handles there are
+pub handles_told : (t : Told) (p : Point) → Tells t p → handle_count t.config t.summary.enabled t.summary.index ≡ handle_count t.config p.state.enabled p.state.index
+handles_told t p tells = ap (λ (b : Bool). handle_count t.config b t.summary.index) tells.enabled ∙ ap (handle_count t.config p.state.enabled) tells.index
+
 pub usages_told : (t : Told) (p : Point) → length t.summary.spaces ≡ 16 → Tells t p → usages_log (handle_count t.config t.summary.enabled t.summary.index) t.summary.spaces ≡ usage_log t.config p.state
 usages_told t p sixteen tells =
     let each : usage_in t.summary.spaces ≡ usage_of p.state = λ i. λ ruh. usage_same p.state t.summary.spaces ruh sixteen tells.namespaces i in
-    let count : handle_count t.config t.summary.enabled t.summary.index ≡ handle_count t.config p.state.enabled p.state.index =
-    ap (λ (b : Bool). handle_count t.config b t.summary.index) tells.enabled ∙ ap (handle_count t.config p.state.enabled) tells.index in
-    ap (λ (n : ℕ). usages_log n t.summary.spaces) count
+    ap (λ (n : ℕ). usages_log n t.summary.spaces) (handles_told t p tells)
     ∙ ap (λ (f : ℕ → ℕ). to_le_bytes w16 (handle_count t.config p.state.enabled p.state.index) ++ zeros 6 ++ flat_map (λ ruh. f ruh ∷ zeros 7) (numbers_below (handle_count t.config p.state.enabled p.state.index))) each
 
 -- ---- which page it is

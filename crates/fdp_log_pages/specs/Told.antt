@@ -1,10 +1,13 @@
 -- A drive as its log pages tell it.
-use Rattle.std.specs.Prelude.{◌≡◌, ℕ, ◌<◌, ◌≤◌, length, option_map}
+use Rattle.std.specs.Prelude.{◌≡◌, ℕ, ◌<◌, ◌≤◌, Option, Some, None, if◌then◌else◌, length, nat_lt, option_map}
 use Rattle.fdp_base.specs.Config.{IsInRange}
 use Rattle.fdp_base.specs.declared.config.DriveConfig.{DriveConfig}
 use Rattle.fdp_base.specs.declared.entry.Totals.{Totals}
 use Rattle.fdp_image.specs.Checkpoint.{in_place, namespace_of}
+use Rattle.fdp_rules.specs.LogPages.{usage_of}
+use Rattle.fdp_rules.specs.PlainState.{PlainState}
 use Rattle.fdp_rules.specs.Point.{Point}
+use Rattle.fdp_rules.specs.Room.{handles_in_force}
 use Rattle.fdp_snapshot.specs.declared.state.Summary.{Summary}
 
 -- its configuration, its outline, and its sums; those of the outline do not matter
@@ -30,3 +33,7 @@ pub record Tells (t : Told) (p : Point) : Type 0 where
   pub namespaces : (nsid : ℕ) → option_map namespace_of (in_place t.summary.spaces nsid) ≡ p.state.namespaces nsid
   pub host_events : t.summary.host_events ≡ p.host_events
   pub controller_events : t.summary.controller_events ≡ p.controller_events
+
+-- the usage of a handle, where there is one of this number
+abbrev pub usage_told : DriveConfig → PlainState → ℕ → Option ℕ
+usage_told c s ruh = if nat_lt ruh (handles_in_force c s) then Some (usage_of s ruh) else None

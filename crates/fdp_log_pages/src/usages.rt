@@ -39,7 +39,7 @@ fn put_usage(into: &mut [u8], offset: u64, ruh: u8, places: &[Option<Space>])
 }
 
 /// Who specified a handle for a namespace that uses it.
-fn usage_of(places: &[Option<Space>], ruh: u8) -> Usage
+pub fn usage_of(places: &[Option<Space>], ruh: u8) -> Usage
     ensures { usage_code result ≡ usage_in places.now ruh }
 {
     if is_given(places, ruh) {

@@ -1,15 +1,16 @@
-ghost use Rattle.std.specs.Prelude.{◌≡◌, ◌*◌, ◌==◌, ◌%◌, ◌≤◌, if◌then◌else◌, length};
+ghost use Rattle.std.specs.Prelude.{◌≡◌, ◌*◌, ◌==◌, ◌%◌, ◌≤◌, if◌then◌else◌, length, slice_get};
 ghost use Rattle.fdp_base.specs.Placement.{handle_count};
 ghost use Rattle.fdp_commands.specs.Lengths.{IsLogLength};
-ghost use Rattle.fdp_log_pages.specs.Told.{CanTell, Tells};
+ghost use Rattle.fdp_log_pages.specs.Told.{CanTell, Tells, usage_told};
 ghost use Rattle.fdp_pieces.specs.Parts.{PutsPiece};
 ghost use Rattle.fdp_rules.specs.LogPages.{log_page, transfer_of, zeros};
 ghost use Rattle.fdp_rules.specs.Point.{Point};
 
 use crate::configurations::{configurations_length, put_configurations};
 use crate::events::put_events;
-use crate::usages::put_usages;
+use crate::usages::{put_usages, usage_of};
 use fdp_base::{Command, DriveConfig, Event, GetLog, LogPage, Totals};
+use fdp_layouts::Coded;
 use fdp_logs::statistics_log;
 use fdp_pieces::put_piece;
 use fdp_snapshot::Summary;
@@ -74,6 +75,31 @@ impl<'a> LogView<'a> {
         ensures { (p : Point) → Tells self.now p → into.new ≡ transfer_of log.now.offset log.now.dwords (log_page self.now.config p log.now.lid log.now.lsp) }
     {
         self.put_page(into, log.offset, log.lid, log.lsp);
+    }
+
+    /// Whether placement is enabled, and the index of its configuration.
+    pub fn setting(&self) -> (bool, u8)
+        ensures { (p : Point) → Tells self.now p → (result.0 ≡ p.state.enabled) × (result.1 ≡ p.state.index) }
+    {
+        (self.summary.enabled, self.summary.index)
+    }
+
+    /// Who specified a handle: 0 nobody, since no namespace uses it; 1 a host; 2 the controller. None where there is no such handle.
+    pub fn usage(&self, ruh: u8) -> Option<u8>
+        ensures { (p : Point) → Tells self.now p → result ≡ usage_told self.now.config p.state ruh }
+    {
+        if ruh < self.handles() {
+            Some(usage_of(self.summary.spaces.as_slice(), ruh).code())
+        } else {
+            None
+        }
+    }
+
+    /// An event that is kept of a class, the oldest with index 0; the events of hosts, or those of the controller.
+    pub fn event(&self, host: bool, index: u32) -> Option<Event>
+        ensures { (p : Point) → Tells self.now p → result ≡ slice_get (if host then p.host_events else p.controller_events) index }
+    {
+        self.events(u8::from(host)).get(index as usize).copied()
     }
 
     fn page_length(&self, lid: u8, lsp: u8) -> u64

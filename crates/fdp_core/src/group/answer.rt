@@ -12,7 +12,7 @@ use fdp_book::{Done, Room};
 use fdp_flash::Flash;
 
 impl<F: Flash> Group<F> {
-    /// Answers a command that is not refused, and is neither a read nor saved: it changes nothing.
+    /// Answers a command that is not refused, and is neither a read nor a log nor saved: it changes nothing.
     pub(super) fn answer(&mut self, queue: u8, number: u16, command: Command, room: Room) -> Done
         requires queue { IsQueue self.old.book.config queue }
         requires formed { IsWellFormed self.old.book.config command }
@@ -22,12 +22,7 @@ impl<F: Flash> Group<F> {
         ensures step { EndsAtOnce F.state self.old self.new queue number command result }
         ensures stops { OutlastsStops F.state self.old self.new }
     {
-        self.book.known();
         let replies = self.book.answer(&command, room);
-        let moment = self.flash.moment();
-        self.book.begin();
-        let done = self.book.complete(queue, number, command, replies, moment);
-        self.book.known();
-        done
+        self.succeed(queue, number, command, replies)
     }
 }

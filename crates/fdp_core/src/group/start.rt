@@ -11,7 +11,8 @@ use fdp_flash::Flash;
 
 impl<F: Flash> Group<F> {
     /// The first step of a command: it refuses it, reads for it, answers it, saves its change and makes it, or, where it is a write, starts it.
-    /// It looks at each group, and at each block that the command names; a delete at each block of its namespace.
+    /// It looks at each group, and at each block that the command names; a delete at each block of its namespace; a log at each handle, or
+    /// at each event, of its page.
     pub fn start(&mut self, queue: u8, number: u16, command: Command, room: Room) -> Begun
         requires may { MayBegin self.old queue number command room }
         requires spare { 0 < self.old.book.spare }
@@ -21,17 +22,12 @@ impl<F: Flash> Group<F> {
         self.book.known();
         match self.book.first_step(&command) {
             FirstStep::Refused(status) => {
-                let (_, replies) = room.end(status, false);
-                let moment = self.flash.moment();
-                self.book.begin();
-                let done = self.book.complete(queue, number, command, replies, moment);
-                self.book.known();
-                Begun::Ended(done)
+                Begun::Ended(self.refuse(queue, number, command, status, room))
             }
             FirstStep::Read(read) => Begun::Ended(self.read(queue, number, command, read, room)),
             FirstStep::Answered => Begun::Ended(self.answer(queue, number, command, room)),
             FirstStep::Saved => Begun::Ended(self.change(queue, number, command, room)),
-            FirstStep::Log(_) => unreachable!(),
+            FirstStep::Log(asked) => Begun::Ended(self.log(queue, number, command, asked, room)),
             FirstStep::Write(admission) => {
                 self.book.begin();
                 let ticket = self.book.start(queue, number, command, admission, room);

@@ -1,6 +1,5 @@
-use Rattle.std.proofs.Common.{take, drop, ◌++◌, ◌≡◌, ◌+◌, ◌<◌, ◌≤◌, List, ℕ, ap, refl, subst, sym, ◌∙◌, length}
+use Rattle.std.proofs.Common.{take, drop, ◌++◌, ◌+◌, ◌<◌, ◌≤◌, ap, refl, subst, sym, ◌∙◌, length}
 use Rattle.std.specs.Prelude.{IsTrue}
-use Rattle.fdp_base.specs.Placement.{geometry_of}
 use Rattle.fdp_core.specs.Advancing.{Advances, TellsMore}
 use Rattle.fdp_core.specs.Seen.{Seen, Stands, stage_of}
 use Rattle.fdp_core.specs.Sound.{IsKept, IsSound}

@@ -1,92 +1,16 @@
-use Rattle.std.proofs.Common.{◌≡◌, ◌<◌, ◌∙◌, ap, sym, subst, [], None, Bool, false, refl, arith, ◌&&◌}
-use Rattle.std.specs.Prelude.{IsFalse}
-use Rattle.fdp_base.specs.declared.entry.Reply.{Reply}
-use Rattle.fdp_base.specs.declared.status.TheConstants.Status as statuses
-use Rattle.fdp_base.specs.CommandKinds.{IsWellFormed, is_saved, is_write}
-use Rattle.fdp_book.specs.Book.{BookSeen, point_in}
-use Rattle.fdp_book.specs.FirstSteps.{IsAnswerable}
-use Rattle.fdp_book.specs.Steps.{Completes}
-use Rattle.fdp_core.specs.Answers.{EndsAtOnce}
+use Rattle.std.proofs.Common.{subst}
+use Rattle.fdp_book.specs.Book.{point_in}
 use Rattle.fdp_core.specs.Seen.{Seen}
-use Rattle.fdp_core.specs.Sound.{IsKept}
-use Rattle.fdp_core.specs.Stops.{OutlastsStops}
-use Rattle.fdp_core.proofs.Begins.{IsAnswer, answer-of, begins-succeeded, sound-succeeded, unapplied-by}
-use Rattle.fdp_core.proofs.Ends.{no-read}
-use Rattle.fdp_core.proofs.Grown.{host}
-use Rattle.fdp_core.proofs.Kept.{kept-begun}
-use Rattle.fdp_core.proofs.Sound.{begun}
-use Rattle.fdp_core.proofs.Wholes.{answered-kept, entry-stops, order-begun, survives-uncalled}
-use Rattle.fdp_image.specs.Kept.{is_completed}
-use Rattle.fdp_pages.specs.Steps.{ChangesOwners}
-use Rattle.fdp_rules.specs.Change.{is_status}
-use Rattle.fdp_rules.specs.Step.{IsQueue}
-use Rattle.fdp_survival.specs.Books.{IsInOrder}
-use Rattle.fdp_core.proofs.group.Group.answer.Given.{Over}
+use Rattle.fdp_core.proofs.Begins.{answered-other, answered-unsaved}
+use Rattle.fdp_rules.specs.Answer.{IsSuccess}
 use Rattle.fdp_core.proofs.group.Group.answer.Goals as goal
 
--- the answer, from the book before the step began
-completed : (g : Over) (c : goal.After-known-2 g) → Completes (begun c.self.inside.book) c.complete-done.new.self [] c.args.queue c.args.number c.args.command c.answer-replies.result.history c.moment-moment.result c.complete-done.result
-completed g c = subst (λ (b : BookSeen). Completes b c.complete-done.new.self [] c.args.queue c.args.number c.args.command c.answer-replies.result.history c.moment-moment.result c.complete-done.result) c.begin.ensures c.complete-done.ensures.step
+pub succeed-requires-clause-other : goal.succeed-requires-clause-other
+succeed-requires-clause-other g c = answered-other c.args.command c.requires.answerable.answered
 
-answerable : (g : Over) (c : goal.After-known-2 g) → IsAnswerable c.self.inside.book c.args.command
-answerable g c = subst (λ (s : Seen g.row.F.Denot). IsAnswerable s.book c.args.command) (sym c.self.view_is) c.requires.answerable
+pub succeed-requires-clause-unsaved : goal.succeed-requires-clause-unsaved
+succeed-requires-clause-unsaved g c = answered-unsaved c.args.command c.requires.answerable.answered
 
--- it is an answer
-is-answer : (g : Over) (c : goal.After-known-2 g) → IsAnswer (g.F.Flash.state c.self.inside.flash).told c.self.inside.book c.args.queue c.args.command c.answer-replies.result.history
-is-answer g c =
-    let told = (g.F.Flash.state c.self.inside.flash).told in
-    let b = c.self.inside.book in
-    answer-of told b c.args.queue c.args.command c.answer-replies.result
-    (subst (λ (s : Seen g.row.F.Denot). IsQueue s.book.config c.args.queue) (sym c.self.view_is) c.requires.queue)
-    (subst (λ (s : Seen g.row.F.Denot). IsWellFormed s.book.config c.args.command) (sym c.self.view_is) c.requires.formed)
-    (answerable g c) (c.answer-replies.ensures.success told)
-
-owners : (g : Over) (c : goal.After-known-2 g) → ChangesOwners c.self.inside.book.pages c.complete-done.new.self.pages
-owners g c = subst (λ (b : BookSeen). ChangesOwners b.pages c.complete-done.new.self.pages) c.begin.ensures c.complete-done.ensures.pages
-
-order : (g : Over) (c : goal.After-known-2 g) → IsInOrder c.self.inside.book
-order g c = record { known = record { config = c.known.ensures.config; orderly = c.known.ensures.orderly; units = c.known.ensures.units; joined = c.known.ensures.joined; led = c.known.ensures.led; generation = c.known.ensures.generation }; standing = c.known.ensures.standing; listed = c.known.ensures.listed }
-
--- no change is completed
-uncompleted : (g : Over) (c : goal.After-known-2 g) → IsFalse (is_completed c.args.command c.answer-replies.result.history)
-uncompleted g c =
-    let is = is-answer g c in
-    ap (λ (saved : Bool). saved && is_status c.answer-replies.result.history.status statuses.SUCCESS) (sym is.success.applied ∙ is.unapplied)
-
-kept : (g : Over) (c : goal.After-known-2 g) → IsKept c.self.inside.handed (g.F.Flash.state c.self.inside.flash) c.complete-done.new.self c.self.inside.keeper
-kept g c =
-    let old = c.self.inside in
-    let f = g.F.Flash.state old.flash in
-    answered-kept old.handed f f (begun old.book) c.complete-done.new.self c.args.queue c.args.number c.args.command c.answer-replies.result.history c.moment-moment.result c.complete-done.result old.keeper
-    (order-begun old.book (order g c)) (kept-begun old.handed f old.book old.keeper c.self.invariant.kept) (no-read f) (completed g c) (is-answer g c).unapplied (uncompleted g c) (owners g c)
-
-pub complete-done-requires-clause-unapplied : goal.complete-done-requires-clause-unapplied
-complete-done-requires-clause-unapplied g c =
-    let b = c.self.inside.book in
-    unapplied-by b c.args.command c.answer-replies.result.history (subst (λ (s : Seen g.row.F.Denot). IsAnswerable s.book c.args.command) (sym c.self.view_is) c.requires.answerable) (c.answer-replies.ensures.success false)
-
-pub invariant_of-self : goal.invariant_of-self
-invariant_of-self g c =
-    let old = c.self.inside in
-    record {
-      sound = sound-succeeded old.handed (g.F.Flash.state old.flash) old.book c.complete-done.new.self old.block.items c.args.queue c.args.number c.args.command c.answer-replies.result.history c.moment-moment.result c.complete-done.result
-          c.self.invariant.sound (order g c).known c.known-2.ensures.led (is-answer g c) (completed g c) (owners g c);
-      kept = kept g c;
-    }
-
-pub returns-clause-step : goal.returns-clause-step
-returns-clause-step g c =
-    let old = c.self.inside in
-    let new : Seen g.row.F.Denot = record { book = c.complete-done.new.self; keeper = old.keeper; handed = old.handed; flash = old.flash } in
-    subst (λ (s : Seen g.row.F.Denot). 0 < s.book.spare → EndsAtOnce g.F.Flash.state s new c.args.queue c.args.number c.args.command c.complete-done.result) c.self.view_is
-    (λ spare. begins-succeeded g.F.Flash.state (record { book = old.book; keeper = old.keeper; handed = old.handed; flash = old.flash }) new c.args.queue c.args.number c.args.command c.answer-replies.result.history c.moment-moment.result c.complete-done.result
-    spare refl refl (is-answer g c) (completed g c) c.moment-moment.ensures)
-    c.requires.spare
-
-pub returns-clause-stops : goal.returns-clause-stops
-returns-clause-stops g c =
-    let old = c.self.inside in
-    let new : Seen g.row.F.Denot = record { book = c.complete-done.new.self; keeper = old.keeper; handed = old.handed; flash = old.flash } in
-    subst (λ (s : Seen g.row.F.Denot). OutlastsStops g.F.Flash.state s new) c.self.view_is
-    (entry-stops g.F.Flash.state (record { book = old.book; keeper = old.keeper; handed = old.handed; flash = old.flash }) new (host c.args.queue c.args.number c.args.command c.answer-replies.result.history c.moment-moment.result) (completed g c).step (uncompleted g c)
-    (survives-uncalled old.book old.keeper.firm (g.F.Flash.state old.flash)) c.self.invariant.kept.safe (kept g c).safe (omega arith))
+pub succeed-requires-clause-success : goal.succeed-requires-clause-success
+succeed-requires-clause-success g c = λ told.
+    subst (λ (s : Seen g.row.F.Denot). IsSuccess told s.book.config (point_in s.book) c.args.command c.answer-replies.result.history) c.self.view_is (c.answer-replies.ensures.success told)

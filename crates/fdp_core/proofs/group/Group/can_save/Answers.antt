@@ -1,5 +1,4 @@
-use Rattle.std.proofs.Common.{◌+◌, ◌<◌, ◌^◌, arith, subst}
-use Rattle.std.specs.Prelude.{length}
+use Rattle.std.proofs.Common.{arith, subst}
 use Rattle.fdp_core.specs.Seen.{Seen}
 use Rattle.fdp_keeper.specs.Keeper.{CanSave}
 use Rattle.fdp_rules.specs.History.{totals_of}

@@ -1,6 +1,5 @@
-use Rattle.std.proofs.Common.{◌≡◌, ◌+◌, ◌^◌, ◌<◌, ℕ, [], true, false, refl, sym, ◌∙◌, ap, subst, inr}
+use Rattle.std.proofs.Common.{◌<◌, ℕ, [], true, false, refl, sym, ap, subst, inr}
 use Rattle.fdp_base.specs.declared.entry.Reply.{Reply}
-use Rattle.fdp_base.specs.declared.status.Status.{Status}
 use Rattle.fdp_base.specs.declared.status.TheConstants.Status as statuses
 use Rattle.fdp_book.specs.declared.ticket.Done.{Done}
 use Rattle.fdp_book.specs.Book.{BookSeen, state_in}

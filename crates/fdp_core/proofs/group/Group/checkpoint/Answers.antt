@@ -1,15 +1,12 @@
-use Rattle.std.proofs.Common.{◌≡◌, ◌<◌, ◌+◌, [], true, false, refl, sym, ◌∙◌, ap, subst, arith}
-use Rattle.std.proofs.lemmas.List.{append-nil}
+use Rattle.std.proofs.Common.{◌<◌, sym, subst}
 use Rattle.fdp_book.specs.Book.{BookSeen}
 use Rattle.fdp_core.specs.Answers.{FailsToSave, SavesAll}
 use Rattle.fdp_core.specs.Seen.{Seen}
 use Rattle.fdp_core.specs.Sound.{IsWhole}
 use Rattle.fdp_core.specs.Stops.{OutlastsStops}
 use Rattle.fdp_core.proofs.Checkpoints.{fails-to-save, saves-all, unwritten-stops, unwritten-whole, written-stops, written-whole}
-use Rattle.fdp_core.proofs.Sound.{begun}
 use Rattle.fdp_keeper.specs.Keeper.{CanSave}
 use Rattle.fdp_survival.specs.Books.{IsInOrder}
-use Rattle.fdp_core.proofs.group.Group.checkpoint.Given.{Over}
 use Rattle.fdp_core.proofs.group.Group.checkpoint.Goals as goal
 
 pub checkpoint-requires : goal.checkpoint-requires

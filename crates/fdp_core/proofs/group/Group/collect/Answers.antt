@@ -1,4 +1,4 @@
-use Rattle.std.proofs.Common.{◌≡◌, ◌<◌, ℕ, true, false, refl, sym, subst, ap, ◌∙◌, arith, List}
+use Rattle.std.proofs.Common.{◌≡◌, ◌<◌, ℕ, true, false, refl, sym, subst, ap, ◌∙◌, List}
 use Rattle.std.specs.Prelude.{IsTrue, ◌==◌, ◌+◌, ◌≤◌, length}
 use Rattle.fdp_book.specs.Book.{BookSeen, IsLonger, state_in}
 use Rattle.fdp_core.specs.Advancing.{Advances, TellsMore}
@@ -6,17 +6,14 @@ use Rattle.fdp_core.specs.Answers as answers
 use Rattle.fdp_core.specs.Seen.{Seen, stage_of}
 use Rattle.fdp_core.specs.Sound.{IsWhole}
 use Rattle.fdp_core.specs.Steps.{IsGrown}
-use Rattle.fdp_core.specs.Stops.{Outlasts, OutlastsStops}
+use Rattle.fdp_core.specs.Stops.{OutlastsStops}
 use Rattle.fdp_core.proofs.Collecting.{cancelled, cancelled-epochs, collect-stops, collected, from-begun, grown-cancelled, grown-kept, may-still, sound-cancelled}
 use Rattle.fdp_core.proofs.Kept.{kept-alike}
-use Rattle.fdp_core.proofs.Outlasting.{outlasts-all}
 use Rattle.fdp_core.proofs.Rooms.{begun_seen}
 use Rattle.fdp_core.proofs.Sound.{begun}
-use Rattle.fdp_core.proofs.Wholes.{unbegun, whole-begun}
+use Rattle.fdp_core.proofs.Wholes.{whole-begun}
 use Rattle.fdp_relocation.specs.declared.advance.Advance.{Advance}
 use Rattle.fdp_relocation.specs.Collected.{Collects}
-use Rattle.fdp_survival.specs.Books.{IsSafe}
-use Rattle.fdp_core.proofs.group.Group.collect.Given.{Over}
 use Rattle.fdp_core.proofs.group.Group.collect.Goals as goal
 use Rattle.fdp_image.specs.Kept.{AreFirm, IsStopSafe}
 use Rattle.fdp_base.specs.declared.entry.Entry.{Entry}

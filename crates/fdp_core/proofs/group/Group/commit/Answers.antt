@@ -1,9 +1,9 @@
-use Rattle.std.proofs.Common.{refl, sym, subst, Err, inr}
+use Rattle.std.proofs.Common.{sym, subst, Err, inr}
 use Rattle.fdp_book.specs.Book.{point_in, state_in}
 use Rattle.fdp_book.specs.Steps as book
 use Rattle.fdp_book.specs.Tickets.{IsTicketOf}
 use Rattle.fdp_core.specs.Seen.{Seen}
-use Rattle.fdp_core.proofs.Commits.{commits-err, verdict-ends, verdict-fine, verdict-status}
+use Rattle.fdp_core.proofs.Commits.{commits-err}
 use Rattle.fdp_core.proofs.group.Group.commit.Goals as goal
 use Rattle.fdp_rules.specs.Step.{MaySucceed}
 

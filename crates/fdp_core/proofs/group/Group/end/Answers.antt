@@ -1,6 +1,5 @@
-use Rattle.std.proofs.Common.{ℕ, [], false, refl, sym, subst, inl, arith}
-use Rattle.fdp_base.specs.declared.status.TheConstants.Status as statuses
-use Rattle.fdp_book.specs.Book.{BookSeen, state_in}
+use Rattle.std.proofs.Common.{ℕ, [], false, refl, sym, subst, arith}
+use Rattle.fdp_book.specs.Book.{state_in}
 use Rattle.fdp_book.specs.Steps.{Completes}
 use Rattle.fdp_book.specs.Tickets.{IsTicketOf}
 use Rattle.fdp_core.specs.Ending.{Ends, MayEnd}

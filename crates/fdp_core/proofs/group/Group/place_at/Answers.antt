@@ -27,7 +27,7 @@ use Rattle.fdp_keeper.specs.Keeper.{CanSave, KeeperSeen, KeepsMade}
 use Rattle.fdp_ledger.specs.Calls.{FailsToProgram}
 use Rattle.fdp_flash.specs.FlashState.{FlashState}
 use Rattle.fdp_survival.specs.Books.{IsInOrder}
-use Rattle.fdp_core.specs.Sound.{IsKept, IsSound, IsWhole}
+use Rattle.fdp_core.specs.Sound.{IsSound, IsWhole}
 use Rattle.fdp_core.specs.Stops.{OutlastsStops}
 use Rattle.fdp_saving.specs.declared.saved.Saved.{Saved}
 use Rattle.fdp_book.specs.declared.write_place.WritePlace.{WritePlace}

@@ -1,99 +1,32 @@
-use Rattle.std.proofs.Common.{◌≡◌, ◌<◌, ◌∙◌, ap, sym, subst, [], None, refl, arith}
-use Rattle.std.specs.Prelude.{IsFalse}
-use Rattle.fdp_base.specs.declared.entry.Reply.{Reply}
-use Rattle.fdp_base.specs.declared.status.TheConstants.Status as statuses
+use Rattle.std.proofs.Common.{◌≡◌, ◌<◌, ◌∙◌, ap, subst, None, refl, arith}
 use Rattle.fdp_core.specs.Sound.{IsKept}
 use Rattle.fdp_core.specs.Stops.{OutlastsStops}
-use Rattle.fdp_core.proofs.Ends.{no-read}
-use Rattle.fdp_core.proofs.Grown.{host}
 use Rattle.fdp_core.proofs.Kept.{kept-begun}
-use Rattle.fdp_core.proofs.Refusals.{refused-status, uncompleted}
-use Rattle.fdp_core.proofs.Wholes.{answered-kept, entry-stops, order-begun, started-kept, survives-uncalled}
-use Rattle.fdp_image.specs.Kept.{is_completed}
-use Rattle.fdp_rules.specs.Change.{is_status}
+use Rattle.fdp_core.proofs.Wholes.{entry-stops, order-begun, started-kept, survives-uncalled}
 use Rattle.fdp_survival.specs.Books.{IsInOrder}
 use Rattle.fdp_base.specs.declared.command.Command.{Command}
 use Rattle.fdp_book.specs.Book.{BookSeen, point_in}
 use Rattle.fdp_book.specs.FirstSteps.{IsAdmitted}
 use Rattle.fdp_book.specs.Steps as book
 use Rattle.fdp_commands.specs.declared.admission.Admission.{Admission}
-use Rattle.fdp_core.specs.Answers.{EndsAtOnce, Starts}
+use Rattle.fdp_core.specs.Answers.{Starts}
 use Rattle.fdp_core.specs.Seen.{Seen}
-use Rattle.fdp_core.specs.Steps.{MayBegin}
-use Rattle.fdp_core.proofs.Begins.{IsRefusal, begins-refused, begins-started, sound-refused, sound-started}
+use Rattle.fdp_core.proofs.Begins.{begins-started, sound-started}
 use Rattle.fdp_core.proofs.Sound.{begun}
 use Rattle.fdp_pages.specs.Steps.{ChangesOwners}
 use Rattle.fdp_rules.specs.Refusal.{refusal_of}
 use Rattle.fdp_core.proofs.group.Group.start.Given.{Over}
 use Rattle.fdp_core.proofs.group.Group.start.Goals as goal
 
--- ---- a refusal
-
--- the answer, from the book before the step began
-completed : (g : Over) (c : goal.After-known-in-Refused g) → book.Completes (begun c.self.inside.book) c.complete-done.new.self [] c.args.queue c.args.number c.args.command c.end-replies.result.1.history c.moment-moment.result c.complete-done.result
-completed g c = subst (λ (b : BookSeen). book.Completes b c.complete-done.new.self [] c.args.queue c.args.number c.args.command c.end-replies.result.1.history c.moment-moment.result c.complete-done.result) c.begin.ensures c.complete-done.ensures.step
-
-refusal : (g : Over) (c : goal.After-known-in-Refused g) → IsRefusal c.self.inside.book c.args.queue c.args.number c.args.command c.in-Refused.status c.end-replies.result.1.history
-refusal g c =
-    let may = subst (λ (s : Seen g.row.F.Denot). MayBegin s c.args.queue c.args.number c.args.command c.args.room) (sym c.self.view_is) c.requires.may in
-    record { queue_is = may.queue_is; formed = may.formed; free = may.free; refused = c.in-Refused.ensures; reply_is = c.end-replies.ensures.reply.history_is }
-
-owners-refused : (g : Over) (c : goal.After-known-in-Refused g) → ChangesOwners c.self.inside.book.pages c.complete-done.new.self.pages
-owners-refused g c = subst (λ (b : BookSeen). ChangesOwners b.pages c.complete-done.new.self.pages) c.begin.ensures c.complete-done.ensures.pages
-
-order-refused : (g : Over) (c : goal.After-known-in-Refused g) → IsInOrder c.self.inside.book
-order-refused g c = record { known = record { config = c.known.ensures.config; orderly = c.known.ensures.orderly; units = c.known.ensures.units; joined = c.known.ensures.joined; led = c.known.ensures.led; generation = c.known.ensures.generation }; standing = c.known.ensures.standing; listed = c.known.ensures.listed }
-
--- no change is completed
-unsuccessful : (g : Over) (c : goal.After-known-in-Refused g) → IsFalse (is_completed c.args.command c.end-replies.result.1.history)
-unsuccessful g c =
-    let is = refusal g c in
-    uncompleted c.args.command c.end-replies.result.1.history (ap (λ (r : Reply). is_status r.status statuses.SUCCESS) is.reply_is ∙ refused-status c.self.inside.book.config (point_in c.self.inside.book) c.args.command c.in-Refused.status is.refused)
-
-kept-refused : (g : Over) (c : goal.After-known-in-Refused g) → IsKept c.self.inside.handed (g.F.Flash.state c.self.inside.flash) c.complete-done.new.self c.self.inside.keeper
-kept-refused g c =
-    let old = c.self.inside in
-    let f = g.F.Flash.state old.flash in
-    answered-kept old.handed f f (begun old.book) c.complete-done.new.self c.args.queue c.args.number c.args.command c.end-replies.result.1.history c.moment-moment.result c.complete-done.result old.keeper
-    (order-begun old.book (order-refused g c)) (kept-begun old.handed f old.book old.keeper c.self.invariant.kept) (no-read f) (completed g c) (ap (λ (r : Reply). r.applied) (refusal g c).reply_is) (unsuccessful g c) (owners-refused g c)
-
-pub invariant_of-self : goal.invariant_of-self
-invariant_of-self g c =
-    let old = c.self.inside in
-    record {
-      sound = sound-refused old.handed (g.F.Flash.state old.flash) old.book c.complete-done.new.self old.block.items c.args.queue c.args.number c.args.command c.in-Refused.status c.end-replies.result.1.history c.moment-moment.result c.complete-done.result
-          c.self.invariant.sound (order-refused g c).known c.known-in-Refused.ensures.led (refusal g c) (completed g c) (owners-refused g c);
-      kept = kept-refused g c;
-    }
-
-pub returns-in-Refused-clause-step : goal.returns-in-Refused-clause-step
-returns-in-Refused-clause-step g c =
-    let old = c.self.inside in
-    let new : Seen g.row.F.Denot = record { book = c.complete-done.new.self; keeper = old.keeper; handed = old.handed; flash = old.flash } in
-    subst (λ (s : Seen g.row.F.Denot). 0 < s.book.spare → EndsAtOnce g.F.Flash.state s new c.args.queue c.args.number c.args.command c.complete-done.result) c.self.view_is
-    (λ spare. begins-refused g.F.Flash.state (record { book = old.book; keeper = old.keeper; handed = old.handed; flash = old.flash }) new c.args.queue c.args.number c.args.command c.in-Refused.status c.end-replies.result.1.history c.moment-moment.result c.complete-done.result
-    spare refl refl (refusal g c) (completed g c) c.moment-moment.ensures)
-    c.requires.spare
-
-pub returns-in-Refused-clause-stops : goal.returns-in-Refused-clause-stops
-returns-in-Refused-clause-stops g c =
-    let old = c.self.inside in
-    let new : Seen g.row.F.Denot = record { book = c.complete-done.new.self; keeper = old.keeper; handed = old.handed; flash = old.flash } in
-    subst (λ (s : Seen g.row.F.Denot). OutlastsStops g.F.Flash.state s new) c.self.view_is
-    (entry-stops g.F.Flash.state (record { book = old.book; keeper = old.keeper; handed = old.handed; flash = old.flash }) new (host c.args.queue c.args.number c.args.command c.end-replies.result.1.history c.moment-moment.result) (completed g c).step (unsuccessful g c)
-    (survives-uncalled old.book old.keeper.firm (g.F.Flash.state old.flash)) c.self.invariant.kept.safe (kept-refused g c).safe (omega arith))
-
--- ---- a write
-
 -- a write that is admitted is accepted
 accepted-of : (b : BookSeen) (command : Command) (a : Admission) → IsAdmitted b command a → refusal_of b.config (point_in b) command ≡ None
 accepted-of b command a is = ap (refusal_of b.config (point_in b)) is.command_is ∙ is.admits.accepted
 
 started : (g : Over) (c : goal.After-known-in-Write g) → book.Starts (begun c.self.inside.book) c.start-ticket.new.self c.args.queue c.args.number c.args.command c.start-ticket.result
-started g c = subst (λ (b : BookSeen). book.Starts b c.start-ticket.new.self c.args.queue c.args.number c.args.command c.start-ticket.result) c.begin-in-Write.ensures c.start-ticket.ensures.step
+started g c = subst (λ (b : BookSeen). book.Starts b c.start-ticket.new.self c.args.queue c.args.number c.args.command c.start-ticket.result) c.begin.ensures c.start-ticket.ensures.step
 
 owners-started : (g : Over) (c : goal.After-known-in-Write g) → ChangesOwners c.self.inside.book.pages c.start-ticket.new.self.pages
-owners-started g c = subst (λ (b : BookSeen). ChangesOwners b.pages c.start-ticket.new.self.pages) c.begin-in-Write.ensures c.start-ticket.ensures.pages
+owners-started g c = subst (λ (b : BookSeen). ChangesOwners b.pages c.start-ticket.new.self.pages) c.begin.ensures c.start-ticket.ensures.pages
 
 order-started : (g : Over) (c : goal.After-known-in-Write g) → IsInOrder c.self.inside.book
 order-started g c = record { known = record { config = c.known.ensures.config; orderly = c.known.ensures.orderly; units = c.known.ensures.units; joined = c.known.ensures.joined; led = c.known.ensures.led; generation = c.known.ensures.generation }; standing = c.known.ensures.standing; listed = c.known.ensures.listed }
@@ -105,8 +38,8 @@ kept-started g c =
     started-kept old.handed f (begun old.book) c.start-ticket.new.self c.args.queue c.args.number c.args.command c.start-ticket.result old.keeper
     (order-begun old.book (order-started g c)) (kept-begun old.handed f old.book old.keeper c.self.invariant.kept) (started g c) (owners-started g c)
 
-pub invariant_of-self-in-Write : goal.invariant_of-self-in-Write
-invariant_of-self-in-Write g c =
+pub invariant_of-self : goal.invariant_of-self
+invariant_of-self g c =
     let old = c.self.inside in
     record {
       sound = sound-started old.handed (g.F.Flash.state old.flash) old.book c.start-ticket.new.self old.block.items c.args.queue c.args.number c.args.command c.start-ticket.result
