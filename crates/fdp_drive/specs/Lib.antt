@@ -1,0 +1,4 @@
+pub mod Exchange
+pub mod Serving
+pub mod Session
+pub mod Stopping
