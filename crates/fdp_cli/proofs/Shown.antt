@@ -1,67 +1,61 @@
 -- What a run shows.
-use Rattle.std.proofs.Common.{◌≡◌, ◌≢◌, ◌⊎◌, ℕ, IsTrue, List, [], ◌∷◌, ◌++◌, length, Ok, Err, None, refl, ap, sym, ◌∙◌, subst, arith, inl, inr}
-use Rattle.std.specs.Prelude.{All, IsFalse, Result, ⊤}
-use Rattle.std.proofs.lemmas.List.{take_all}
-use Rattle.std.proofs.lemmas.List.Elements.{All-cons, All-nil, All-tail, filter_map-append}
+use Rattle.std.proofs.Common.{◌≡◌, ◌⊎◌, ℕ, IsTrue, List, [], ◌∷◌, ◌++◌, length, Err, refl, sym, ◌∙◌, subst, arith, inl, inr}
+use Rattle.std.specs.Prelude.{All, IsFalse, IsNone, Result, ⊤}
+use Rattle.std.proofs.lemmas.List.{append-nil}
+use Rattle.std.proofs.lemmas.List.Elements.{All-cons, All-nil, All-tail, All-weaker}
 use Rattle.fdp_base.specs.declared.command.Command.{Command}
 use Rattle.fdp_base.specs.declared.config.DriveConfig.{DriveConfig}
 use Rattle.fdp_base.specs.declared.entry.Entry.{Entry}
 use Rattle.fdp_base.specs.declared.entry.Entry.TheVariants as entries
+use Rattle.fdp_base.specs.EntryKinds.{host_of, started_of}
 use Rattle.fdp_book.specs.Book.{BookSeen, point_in}
-use Rattle.fdp_core.specs.Loading.{IsLoaded}
+use Rattle.fdp_core.specs.Loading.{IsLoaded, IsNotLoaded}
 use Rattle.fdp_core.specs.Seen.{HoldsHistory, IsLegalOver, Seen}
-use Rattle.fdp_core.specs.Silence.{OthersStaySilent}
-use Rattle.fdp_core.proofs.Silence.{silent-joined, silent-none}
+use Rattle.fdp_drive.specs.declared.session.End.{End}
+use Rattle.fdp_drive.specs.declared.session.End.TheVariants as ends
+use Rattle.fdp_drive.specs.Serving.{Grows}
+use Rattle.fdp_drive.specs.Session.{HoldsTraces, IsSession, IsTrace, IsUnserved, KeepsOrders}
+use Rattle.fdp_drive.proofs.Outlasting.{AreLate, each_later, kept-grown, kept-less}
+use Rattle.fdp_finding.specs.declared.asked.Form.{Form}
+use Rattle.fdp_finding.specs.declared.fault.Fault.{Fault}
+use Rattle.fdp_finding.specs.Traced.{IsServable}
 use Rattle.fdp_flash.specs.declared.cell.Cell.{Cell}
 use Rattle.fdp_flash.specs.FlashState.{FlashState}
 use Rattle.fdp_flash.specs.Runs.{Runs}
 use Rattle.fdp_flash.proofs.Runs.{runs_joined, runs_weakened}
 use Rattle.fdp_image.specs.Kept.{AreFirm, StandsForBeginning, StandsForKept, is_owed}
-use Rattle.fdp_io.specs.Sink.{Holds, HoldsFront, SinkState}
+use Rattle.fdp_io.specs.Sink.{HoldsFront, SinkState}
 use Rattle.fdp_isolation.specs.Begun.{OpenedApart}
 use Rattle.fdp_isolation.specs.Isolated.{IsIsolatedDrive}
 use Rattle.fdp_ledger.specs.declared.counts.Counts.{Counts}
 use Rattle.fdp_ledger.specs.Counted.{CountedSince}
 use Rattle.fdp_ledger.specs.Start.{start_of}
-use Rattle.fdp_printing.specs.declared.print.Cut.{Cut}
-use Rattle.fdp_printing.specs.declared.print.Cut.TheVariants as cuts
-use Rattle.fdp_printing.specs.OutputText.{printed_text}
+use Rattle.fdp_printing.specs.declared.closing.Closing.{Closing}
+use Rattle.fdp_printing.specs.declared.pieces.Cut.{Cut}
+use Rattle.fdp_printing.specs.declared.pieces.Cut.TheVariants as cuts
+use Rattle.fdp_printing.specs.Closing.{IsClosing}
 use Rattle.fdp_printing.specs.Printing.{HoldsSome, Prints}
-use Rattle.fdp_rules.specs.History.{Found, first_state, point_of, state_of, totals_of}
-use Rattle.fdp_rules.specs.Change.{after, changed_by}
-use Rattle.fdp_rules.specs.Queue.{completed, completed_by, numbered, starting_queue}
-use Rattle.fdp_cli.specs.declared.serving.Stop.{Stop}
-use Rattle.fdp_cli.specs.declared.serving.Stop.TheVariants as stops
-use Rattle.fdp_cli.specs.Serving.{Grows, IsIdle, Serves}
-use Rattle.fdp_cli.specs.Session.{IsCut, IsRecordOf, IsSession}
-use Rattle.fdp_cli.specs.Top.{EndsRun, ServesAndPrints}
-use Rattle.fdp_cli.proofs.Outlasting.{AreLate, each_later, kept-grown, kept-less}
+use Rattle.fdp_recovery.specs.declared.opened.OpenFault.{OpenFault}
+use Rattle.fdp_rules.specs.History.{Found, point_of}
+use Rattle.fdp_cli.specs.Loading.{of_opening}
+use Rattle.fdp_cli.specs.Session.{IsRun}
+use Rattle.fdp_cli.specs.Top.{EndsRun, PrintsText, Refuses, Shows, text_in, text_of}
 
 -- ---- the beginning
 
-none-going : (c : DriveConfig) (found : Found) → (point_of c found []).state.going 1 ≡ None
-unfolding point_of state_of first_state
-none-going c found = refl
+unserved-begun : (es : List Entry) → (es ≡ []) ⊎ (es ≡ entries.Reopened ∷ []) → IsUnserved es
+unserved-begun es (inl none) = subst IsUnserved (sym none) (All-nil (λ e. IsNone (host_of e) × IsNone (started_of e)))
+unserved-begun es (inr one) = subst IsUnserved (sym one) (All-cons (λ e. IsNone (host_of e) × IsNone (started_of e)) entries.Reopened [] (refl, refl) (All-nil (λ e. IsNone (host_of e) × IsNone (started_of e))))
 
-none-going-reopened : (c : DriveConfig) (found : Found) → (point_of c found (entries.Reopened ∷ [])).state.going 1 ≡ None
-unfolding point_of state_of first_state after changed_by
-none-going-reopened c found = refl
+-- no command is served before the first
+pub unserved_loaded : {F : Type 0} (state : F → FlashState) (c : DriveConfig) (flash : F) (group : Seen F) → IsLoaded state c flash group → IsUnserved group.book.entries
+unserved_loaded state c flash group loaded = unserved-begun group.book.entries loaded.entries_are
 
--- no write is going before the first command
-idle-begun : (b : BookSeen) → (b.entries ≡ []) ⊎ (b.entries ≡ entries.Reopened ∷ []) → IsIdle b
-idle-begun b (inl none) = ap (λ (es : List Entry). (point_of b.config b.found es).state.going 1) none ∙ none-going b.config b.found
-idle-begun b (inr one) = ap (λ (es : List Entry). (point_of b.config b.found es).state.going 1) one ∙ none-going-reopened b.config b.found
-
-pub idle_loaded : {F : Type 0} (state : F → FlashState) (c : DriveConfig) (flash : F) (group : Seen F) → IsLoaded state c flash group → IsIdle group.book
-idle_loaded state c flash group loaded = idle-begun group.book loaded.entries_are
-
-silent-reopened : OthersStaySilent 1 (entries.Reopened ∷ [])
-silent-reopened other some ne = record { completes = refl; starts = All-cons (λ x. starting_queue x ≢ other) entries.Reopened [] (λ same. omega (arith, some, same)) (All-nil (λ x. starting_queue x ≢ other)) }
-
--- the entries of an opening complete nothing
-first-silent : (es : List Entry) → (es ≡ []) ⊎ (es ≡ entries.Reopened ∷ []) → (completed 1 es ≡ []) × OthersStaySilent 1 es
-first-silent es (inl none) = subst (λ (xs : List Entry). (completed 1 xs ≡ []) × OthersStaySilent 1 xs) (sym none) (refl, silent-none 1)
-first-silent es (inr one) = subst (λ (xs : List Entry). (completed 1 xs ≡ []) × OthersStaySilent 1 xs) (sym one) (refl, silent-reopened)
+-- a trace that is found is one that a session takes
+pub trace_served : {X : Type 0} (items : X → List Command) (c d : DriveConfig) (xs : List X) → d ≡ c → All (λ x. IsServable c (items x)) xs → All (λ x. IsTrace d (items x)) xs
+trace_served items c d xs same all =
+    All-weaker (λ x. IsServable c (items x)) (λ x. IsTrace d (items x))
+    (λ x servable. subst (λ (e : DriveConfig). IsTrace e (items x)) (sym same) (record { formed = servable.formed; few = servable.few })) xs all
 
 -- ---- a session
 
@@ -123,10 +117,13 @@ run-images state c handed old new xs has grown = runs_joined (state handed) (sta
       (subst (λ (x : Found). StandsForKept old.book.config x new.book.entries 0 m image) (sym grown.found_is)
       (kept-less old.book.config old.book.found new.book.entries old.keeper.firm 0 m image (omega arith) stands)))
 
--- its session, behind some steps
-session-by : {F : Type 0} (state : F → FlashState) (c : DriveConfig) (trace : List Command) (end : Result ⊤ Stop) (handed given : F) (old new : Seen F) (xs : List Entry) → HasServed state c handed old new → given ≡ new.flash → Serves state old new trace end → Grows state old new xs → OthersStaySilent 1 xs →
-    IsSession state c trace end handed given new.book.found new.book.entries
-session-by {F} state c trace end handed given old new xs has same served grown others = record {
+config-is : {F : Type 0} (state : F → FlashState) (c : DriveConfig) (handed : F) (old new : Seen F) (xs : List Entry) → HasServed state c handed old new → Grows state old new xs → new.book.config ≡ c
+config-is state c handed old new xs has grown = grown.config_is ∙ has.loaded.config_is
+
+-- its session
+run_by : {F : Type 0} (state : F → FlashState) (c : DriveConfig) (traces : List (List Command)) (end : End) (handed given : F) (old new : Seen F) → HasServed state c handed old new → given ≡ new.flash → IsSession state old new traces end →
+    IsRun state c traces end handed given new.book.found new.book.entries
+run_by {F} state c traces end handed given old new has same served = record {
   old = old;
   new = new;
   loaded = has.loaded;
@@ -135,72 +132,54 @@ session-by {F} state c trace end handed given old new xs has same served grown o
   entries_are = refl;
   flash_is = sym same;
   legal = subst (λ (f : F). IsLegalOver (state f) new.book) (sym same) has.legal;
-  others = subst (OthersStaySilent 1) (sym grown.entries_are) (silent-joined 1 old.book.entries xs (first-silent old.book.entries has.loaded.entries_are).1 others);
+  orders = subst (λ (x : DriveConfig). KeepsOrders x traces new.book.entries) (config-is state c handed old new served.es has served.grown) served.orders;
+  others = served.others;
   held = record {
-    counted = subst (λ (k : Counts). CountedSince k (state new.flash) (start_of new.book) new.book.entries) (grown.handed_is ∙ has.loaded.handed_is) has.counted;
+    counted = subst (λ (k : Counts). CountedSince k (state new.flash) (start_of new.book) new.book.entries) (served.grown.handed_is ∙ has.loaded.handed_is) has.counted;
     cells = has.cells;
     apart = has.apart;
     firm = has.firm;
-    stops = record { images = run-images state c handed old new xs has grown; cells = has.stands };
+    stops = record { images = run-images state c handed old new served.es has served.grown; cells = has.stands };
   };
 }
 
--- the record of the drive that served the whole trace
-recorded : {F : Type 0} (state : F → FlashState) (c : DriveConfig) (trace : List Command) (handed given : F) (old new : Seen F) → HasServed state c handed old new → given ≡ new.flash → Serves state old new trace (Ok tt) → IsRecordOf state c trace handed given new.book.found new.book.entries
-recorded state c trace handed given old new has same served = record {
-  session = session-by state c trace (Ok tt) handed given old new served.es has same served served.grown served.others;
-  whole = ap (completed 1) served.grown.entries_are ∙ filter_map-append (completed_by 1) old.book.entries served.es
-      ∙ ap (λ (xs : List (ℕ × Command)). xs ++ completed 1 served.es) (first-silent old.book.entries has.loaded.entries_are).0
-      ∙ served.completes ∙ ap numbered (take_all (length trace) trace (omega arith));
-}
-
--- the drive that served a part of it
-cut : {F : Type 0} (state : F → FlashState) (c : DriveConfig) (trace : List Command) (stop : Stop) (handed given : F) (old new : Seen F) → HasServed state c handed old new → given ≡ new.flash → Serves state old new trace (Err stop) → IsCut state c trace stop handed given
-cut state c trace stop handed given old new has same served =
-    (new.book.found, new.book.entries, session-by state c trace (Err stop) handed given old new served.es has same served served.grown served.others)
-
-config-is : {F : Type 0} (state : F → FlashState) (c : DriveConfig) (handed : F) (old new : Seen F) (xs : List Entry) → HasServed state c handed old new → Grows state old new xs → new.book.config ≡ c
-config-is state c handed old new xs has grown = grown.config_is ∙ has.loaded.config_is
-
--- how the run ended that served and printed so
-pub ended : {F : Type 0} (state : F → FlashState) (c : DriveConfig) (trace : List Command) (handed given : F) (old new : Seen F) (sink sink' : SinkState) (status : ℕ) → HasServed state c handed old new → given ≡ new.flash → ServesAndPrints state old new trace sink sink' status →
-    EndsRun state c trace handed given sink sink' status
-ended state c trace handed given old new sink sink' status has same (inl whole) =
+-- how the run ended whose session ended so, and was shown so
+pub ended : {F : Type 0} (state : F → FlashState) (form : Form) (c : DriveConfig) (traces : List (List Command)) (count : ℕ) (handed given : F) (old new : Seen F) (end : End) (sink sink' : SinkState) (status : ℕ) → count ≡ length traces → HasServed state c handed old new → given ≡ new.flash →
+    IsSession state old new traces end → Shows new.book end form count sink sink' status → EndsRun state form c traces handed given sink sink' status
+ended state form c traces count handed given old new ends.Whole sink sink' status is has same served shows =
+    let config = config-is state c handed old new served.es has served.grown in
     inl (
-      whole.0,
-      (
-        new.book.found,
-        new.book.entries,
-        recorded state c trace handed given old new has same whole.1,
-        subst (λ (x : DriveConfig). Holds sink sink' (printed_text x (totals_of new.book.found new.book.entries) new.book.entries)) (config-is state c handed old new whole.1.es has whole.1.grown) whole.2,
-      ),
+      new.book.found,
+      new.book.entries,
+      record {
+        run = run_by state c traces ends.Whole handed given old new has same served;
+        whole = subst (λ (x : DriveConfig). HoldsTraces x traces new.book.entries) config served.ended;
+      },
+      subst (λ (k : ℕ). PrintsText (text_of form c new.book.found k new.book.entries) sink sink' status) is
+          (subst (λ (x : DriveConfig). PrintsText (text_of form x new.book.found count new.book.entries) sink sink' status) config shows),
     )
-ended state c trace handed given old new sink sink' status has same (inr (inl front)) =
-    inr (inl (
-      front.0,
-      (
-        new.book.found,
-        new.book.entries,
-        recorded state c trace handed given old new has same front.1,
-        subst (λ (x : DriveConfig). HoldsFront sink sink' (printed_text x (totals_of new.book.found new.book.entries) new.book.entries)) (config-is state c handed old new front.1.es has front.1.grown) front.2,
-      ),
-    ))
-ended state c trace handed given old new sink sink' status has same (inr (inr (inl some))) =
-    inr (inr (inl (
-      some.0,
-      (
-        new.book.found,
-        new.book.entries,
-        recorded state c trace handed given old new has same some.1,
-        subst (λ (x : DriveConfig). HoldsSome sink sink' (printed_text x (totals_of new.book.found new.book.entries) new.book.entries)) (config-is state c handed old new some.1.es has some.1.grown) some.2,
-      ),
-    )))
-ended state c trace handed given old new sink sink' status has same (inr (inr (inr (inl none)))) =
-    inr (inr (inr (inl (none.0, none.1, cut state c trace stops.NoMemory handed given old new has same none.2))))
-ended state c trace handed given old new sink sink' status has same (inr (inr (inr (inr turns)))) =
-    inr (inr (inr (inr (inl (turns.0, cut state c trace stops.Turns handed given old new has same turns.1)))))
+ended state form c traces count handed given old new ends.NoMemory sink sink' status is has same served shows =
+    inr (inl (shows.0, shows.1, (new.book.found, new.book.entries, run_by state c traces ends.NoMemory handed given old new has same served)))
+ended state form c traces count handed given old new ends.Turns sink sink' status is has same served shows =
+    inr (inr (inl (shows, (new.book.found, new.book.entries, run_by state c traces ends.Turns handed given old new has same served))))
+
+-- how the run ended that opened no drive
+pub not_opened : {F : Type 0} (state : F → FlashState) (form : Form) (c : DriveConfig) (traces : List (List Command)) (handed given : F) (cause : OpenFault) (sink sink' : SinkState) (status : ℕ) (fault : Fault) → IsNotLoaded state c handed (record { flash = given; cause = cause }) → fault ≡ of_opening cause →
+    Refuses sink sink' fault status → EndsRun state form c traces handed given sink sink' status
+not_opened state form c traces handed given cause sink sink' status fault shown is refused =
+    inr (inr (inr (record { cause = cause; shown = shown; refused = subst (λ (x : Fault). Refuses sink sink' x status) is refused })))
 
 -- ---- what was printed
+
+-- the text of the history that the drive has
+pub prints_text : (b : BookSeen) (form : Form) (traces : ℕ) (config : DriveConfig) (es : List Entry) (closing : Closing) (old new : SinkState) (result : Result ⊤ Cut) → config ≡ b.config → es ≡ b.entries → IsClosing b.config (point_in b) closing →
+    ((f : Found) → IsClosing config (point_of config f es) closing → Prints old new (text_of form config f traces es) result) → Prints old new (text_in form traces b) result
+prints_text b form traces config es closing old new result same-config same-entries closes prints =
+    subst (λ (c : DriveConfig). Prints old new (text_of form c b.found traces b.entries) result) same-config
+    (subst (λ (xs : List Entry). Prints old new (text_of form config b.found traces xs) result) same-entries
+    (prints b.found
+    (subst (λ (c : DriveConfig). IsClosing c (point_of c b.found es) closing) (sym same-config)
+    (subst (λ (xs : List Entry). IsClosing b.config (point_of b.config b.found xs) closing) (sym same-entries) closes))))
 
 -- where memory was wanting
 pub printed_some : (old new : SinkState) (text : List ℕ) (cut : Cut) → cut ≡ cuts.NoMemory → Prints old new text (Err cut) → HoldsSome old new text
@@ -209,3 +188,7 @@ printed_some old new text cut is prints = subst (λ e. Prints old new text (Err 
 -- where a write failed
 pub printed_front : (old new : SinkState) (text : List ℕ) (cut : Cut) → cut ≡ cuts.Sink → Prints old new text (Err cut) → HoldsFront old new text
 printed_front old new text cut is prints = subst (λ e. Prints old new text (Err e)) is prints
+
+-- nothing of a text
+pub printed_none : (sink : SinkState) (text : List ℕ) → HoldsSome sink sink text
+printed_none sink text = record { count = 0; within = omega arith; front = λ told. sym (append-nil sink.bytes) }

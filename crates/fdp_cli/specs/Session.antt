@@ -1,12 +1,14 @@
--- One drive on its flash, from the flash that is handed in to the end of a trace.
-use Rattle.std.specs.Prelude.{◌≡◌, IsTrue, List, Ok, Err, Result, ⊤}
+-- One drive on its flash, from the flash that is handed in to the end of the traces.
+use Rattle.std.specs.Prelude.{◌≡◌, IsTrue, List}
 use Rattle.fdp_base.specs.declared.command.Command.{Command}
 use Rattle.fdp_base.specs.declared.config.DriveConfig.{DriveConfig}
 use Rattle.fdp_base.specs.declared.entry.Entry.{Entry}
 use Rattle.fdp_book.specs.Book.{point_in}
 use Rattle.fdp_core.specs.Loading.{IsLoaded}
 use Rattle.fdp_core.specs.Seen.{HoldsHistory, IsLegalOver, Seen}
-use Rattle.fdp_core.specs.Silence.{OthersStaySilent}
+use Rattle.fdp_drive.specs.declared.session.End.{End}
+use Rattle.fdp_drive.specs.declared.session.End.TheVariants as ends
+use Rattle.fdp_drive.specs.Session.{HoldsTraces, IsSession, KeepsOrders, OnlyThese}
 use Rattle.fdp_flash.specs.FlashState.{FlashState}
 use Rattle.fdp_image.specs.Kept.{AreFirm, IsStopSafe}
 use Rattle.fdp_isolation.specs.Begun.{OpenedApart}
@@ -14,9 +16,6 @@ use Rattle.fdp_isolation.specs.Isolated.{IsIsolatedDrive}
 use Rattle.fdp_ledger.specs.Counted.{CountedSince, counts_of}
 use Rattle.fdp_ledger.specs.Start.{start_of}
 use Rattle.fdp_rules.specs.History.{Found}
-use Rattle.fdp_rules.specs.Queue.{HoldsWhole}
-use Rattle.fdp_cli.specs.declared.serving.Stop.{Stop}
-use Rattle.fdp_cli.specs.Serving.{Serves}
 
 -- what the flash that is given back is to the history of its drive: it counted what the history tells since it was handed in, holds what the
 -- history put into its pages, and data stands apart there. Where it tells its cells, these stand for a beginning of the history in which each
@@ -29,25 +28,27 @@ pub record HoldsRecord {F : Type 0} (state : F → FlashState) (handed : F) (gro
   pub firm : AreFirm group.book.entries group.keeper.firm
   pub stops : IsStopSafe group.book.config group.book.found group.book.entries 0 group.keeper.firm (state handed) (state group.flash)
 
--- A drive of this configuration was opened on this flash, or made there, and served the trace to this end. What it began with is what the
--- image stood for; its history since is legal and has nothing of another queue. The flash is given back.
-pub record IsSession {F : Type 0} (state : F → FlashState) (c : DriveConfig) (trace : List Command) (end : Result ⊤ Stop) (handed given : F) (f : Found) (es : List Entry) : Type 0 where
+-- A drive of this configuration was opened on this flash, or made there, and served the traces to this end. What it began with is what the
+-- image stood for; its history since is legal, and in it each queue has completed a beginning of its trace, in order, each command once. A queue
+-- without a trace has completed nothing. The flash is given back.
+pub record IsRun {F : Type 0} (state : F → FlashState) (c : DriveConfig) (traces : List (List Command)) (end : End) (handed given : F) (f : Found) (es : List Entry) : Type 0 where
   pub old : Seen F
   pub new : Seen F
   pub loaded : IsLoaded state c handed old
-  pub served : Serves state old new trace end
+  pub served : IsSession state old new traces end
   pub found_is : new.book.found ≡ f
   pub entries_are : new.book.entries ≡ es
   pub flash_is : new.flash ≡ given
   pub legal : IsLegalOver (state given) new.book
-  pub others : OthersStaySilent 1 es
+  pub orders : KeepsOrders c traces es
+  pub others : OnlyThese traces es
   pub held : HoldsRecord state handed new
 
--- it served the whole trace: each command once and in order
-pub record IsRecordOf {F : Type 0} (state : F → FlashState) (c : DriveConfig) (trace : List Command) (handed given : F) (f : Found) (es : List Entry) : Type 0 where
-  pub session : IsSession state c trace (Ok tt) handed given f es
-  pub whole : HoldsWhole 1 trace es
+-- each queue has completed its whole trace
+pub record IsRecordOf {F : Type 0} (state : F → FlashState) (c : DriveConfig) (traces : List (List Command)) (handed given : F) (f : Found) (es : List Entry) : Type 0 where
+  pub run : IsRun state c traces ends.Whole handed given f es
+  pub whole : HoldsTraces c traces es
 
--- it served a part of the trace: the next command needs a further step, and the drive has made all that it may make, or memory was wanting
-abbrev pub IsCut : {F : Type 0} → (F → FlashState) → DriveConfig → List Command → Stop → F → F → Type 0
-IsCut state c trace stop handed given = (f : Found) × (es : List Entry) × IsSession state c trace (Err stop) handed given f es
+-- it served a part of the traces: the next command needs a further step, and the drive has made all that it may make, or memory was wanting
+abbrev pub IsCut : {F : Type 0} → (F → FlashState) → DriveConfig → List (List Command) → End → F → F → Type 0
+IsCut state c traces end handed given = (f : Found) × (es : List Entry) × IsRun state c traces end handed given f es

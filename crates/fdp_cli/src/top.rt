@@ -1,28 +1,32 @@
-ghost use Rattle.std.specs.Prelude.{◌≡◌, ◌≢◌, ◌≤◌, All, IsTrue, length};
+ghost use Rattle.std.specs.Prelude.{◌≡◌, ◌≢◌, ◌≤◌, All, length};
 ghost use Rattle.fdp_base.specs.Config.{IsValidConfig};
-ghost use Rattle.fdp_finding.specs.Servable.{IsServable};
+ghost use Rattle.fdp_finding.specs.Traced.{IsServable};
+ghost use Rattle.fdp_finding.specs.Wanted.{commands_of};
 ghost use Rattle.fdp_io.specs.Bench.{SameTexts};
-ghost use Rattle.fdp_cli.specs.Serving.{IsIdle};
-ghost use Rattle.fdp_cli.specs.Top.{Answers, EndsRun, Refuses, RunsOnImage, ServesAndPrints};
+ghost use Rattle.fdp_printing.specs.Closing.{IsClosing};
+ghost use Rattle.fdp_printing.specs.Printing.{CountsCut, Prints};
+ghost use Rattle.fdp_rules.specs.History.{Found, point_of};
+ghost use Rattle.fdp_cli.specs.Top.{Answers, EndsRun, PrintsText, Refuses, RunsOnImage, Shows, text_in, text_of};
 
+use crate::closing::closing_of;
 use crate::loading::fault_of;
-use crate::serving::{Stop, serve};
-use fdp_base::{Command, DriveConfig, MOST_TRACE_COMMANDS};
+use fdp_base::{DriveConfig, Entry};
 use fdp_core::{Group, NotLoaded};
-use fdp_finding::{Fault, Wanted, find, push_fault};
+use fdp_drive::{End, SessionEnd, run_session};
+use fdp_finding::{Fault, Form, Wanted, find, push_fault};
 use fdp_flash::Flash;
 use fdp_io::{Bench, NotTaken, Sink, write_all};
-use fdp_printing::{Cut, print_output};
+use fdp_printing::{Closing, Cut, print_output, print_record};
 use std::alloc::Global;
 
-/// Serves the trace that the words ask for on the drive in the image that they name, which is made where there is none; prints the output and
-/// answers the status of the run:
+/// Serves the traces that the words ask for on the drive in the image that they name, which is made where there is none, each in its queue; prints
+/// the output, for `record` with the history behind it, and answers the status of the run:
 ///
-/// - 0: the trace was served, and the sink took the whole output.
+/// - 0: the traces were served, and the sink took the whole text.
 /// - 1, 2, 3, 4, 5, 6, 10: what [`Fault`] says; the sink took the line of the fault.
 /// - 7: memory was wanting.
 /// - 8: a write of the sink failed.
-/// - 9: the trace needs more steps than a drive may make; the sink took the line of that fault.
+/// - 9: the traces need more steps than a drive may make; the sink took the line of that fault.
 ///
 /// A flash that was taken is given back, whatever the status.
 pub fn drive_top<B: Bench, K: Sink>(
@@ -61,21 +65,21 @@ fn refuse<K: Sink>(alloc: Global, fault: Fault, sink: &mut K) -> u8
     }
 }
 
-/// Takes the flash of the image, serves the trace on it, and gives it back.
+/// Takes the flash of the image, serves the traces on it, and gives it back.
 fn run<B: Bench, K: Sink>(alloc: Global, wanted: &Wanted<'_>, bench: &mut B, sink: &mut K) -> u8
     requires valid { IsValidConfig wanted.now.config }
-    requires servable { All (IsServable wanted.now.config) wanted.now.trace.items }
-    requires few { length wanted.now.trace.items ≤ MOST_TRACE_COMMANDS }
+    requires servable { All (λ trace. IsServable wanted.now.config trace.items) wanted.now.traces.items }
+    requires queued { length wanted.now.traces.items ≤ wanted.now.config.queues }
     ensures texts { SameTexts (B.state bench.old) (B.state bench.new) }
     ensures bench_faults { (B.state bench.old).faults ≤ (B.state bench.new).faults }
     ensures told { (K.state sink.new).told ≡ (K.state sink.old).told }
     ensures faults { (K.state sink.old).faults ≤ (K.state sink.new).faults }
     ensures unfailing { result ≢ 8 → (K.state sink.new).faults ≡ (K.state sink.old).faults }
-    ensures runs { RunsOnImage B.F.state (B.state bench.old) (B.state bench.new) wanted.now.config wanted.now.image.now wanted.now.trace.items (K.state sink.old) (K.state sink.new) result }
+    ensures runs { RunsOnImage B.F.state (B.state bench.old) (B.state bench.new) wanted.now.form wanted.now.config wanted.now.image.now (commands_of wanted.now.traces.items) (K.state sink.old) (K.state sink.new) result }
 {
     match bench.take_flash(alloc, wanted.image, wanted.config.geometry()) {
         Ok(flash) => {
-            let end = run_on(alloc, flash, &wanted.config, &wanted.trace, sink);
+            let end = run_on(alloc, flash, wanted, sink);
             bench.give_flash(wanted.image, end.flash);
             end.status
         }
@@ -91,25 +95,26 @@ struct RunEnd<F> {
     status: u8,
 }
 
-/// Opens the drive on a flash, or makes one, and serves the trace.
+/// Opens the drive on a flash, or makes one, serves the traces, and prints what there is to print.
 fn run_on<F: Flash + Drop, K: Sink>(
     alloc: Global,
     flash: F,
-    config: &DriveConfig,
-    trace: &[Command],
+    wanted: &Wanted<'_>,
     sink: &mut K,
 ) -> RunEnd<F>
-    requires valid { IsValidConfig config.now }
-    requires servable { All (IsServable config.now) trace.now }
-    requires few { length trace.now ≤ MOST_TRACE_COMMANDS }
+    requires valid { IsValidConfig wanted.now.config }
+    requires servable { All (λ trace. IsServable wanted.now.config trace.items) wanted.now.traces.items }
+    requires queued { length wanted.now.traces.items ≤ wanted.now.config.queues }
     ensures told { (K.state sink.new).told ≡ (K.state sink.old).told }
     ensures faults { (K.state sink.old).faults ≤ (K.state sink.new).faults }
     ensures unfailing { result.status ≢ 8 → (K.state sink.new).faults ≡ (K.state sink.old).faults }
-    ensures ends { EndsRun F.state config.now trace.now flash result.flash (K.state sink.old) (K.state sink.new) result.status }
+    ensures ends { EndsRun F.state wanted.now.form wanted.now.config (commands_of wanted.now.traces.items) flash result.flash (K.state sink.old) (K.state sink.new) result.status }
 {
-    match Group::load(alloc, flash, config) {
-        Ok(mut group) => {
-            let status = serve_and_print(alloc, &mut group, trace, sink);
+    match Group::load(alloc, flash, &wanted.config) {
+        Ok(group) => {
+            let SessionEnd { group, end } = run_session(alloc, group, &wanted.traces);
+            let traces = wanted.traces.len() as u8;
+            let status = show(alloc, &group, end, wanted.form, traces, sink);
             let (flash, _entries) = group.finish();
             RunEnd { flash, status }
         }
@@ -120,31 +125,69 @@ fn run_on<F: Flash + Drop, K: Sink>(
     }
 }
 
-/// Serves the trace and prints the output.
-fn serve_and_print<F: Flash, K: Sink>(
+/// Prints what a session came to: its text where it served so many traces whole, or the line of its fault.
+fn show<F: Flash, K: Sink>(
     alloc: Global,
-    group: &mut Group<F>,
-    trace: &[Command],
+    group: &Group<F>,
+    end: End,
+    form: Form,
+    traces: u8,
     sink: &mut K,
 ) -> u8
-    requires servable { All (IsServable group.old.book.config) trace.now }
-    requires few { length trace.now ≤ MOST_TRACE_COMMANDS }
-    requires idle { IsIdle group.old.book }
     ensures told { (K.state sink.new).told ≡ (K.state sink.old).told }
     ensures faults { (K.state sink.old).faults ≤ (K.state sink.new).faults }
     ensures unfailing { result ≢ 8 → (K.state sink.new).faults ≡ (K.state sink.old).faults }
-    ensures ends { ServesAndPrints F.state group.old group.new trace.now (K.state sink.old) (K.state sink.new) result }
+    ensures shows { Shows group.now.book end form traces (K.state sink.old) (K.state sink.new) result }
 {
-    match serve(alloc, group, trace) {
-        Ok(()) => {
-            let config = group.config();
-            match print_output(alloc, config, group.entries(), group.totals(), sink) {
-                Ok(()) => 0,
-                Err(Cut::Sink) => 8,
-                Err(Cut::NoMemory) => 7,
-            }
-        }
-        Err(Stop::Turns) => refuse(alloc, Fault::Turns, sink),
-        Err(Stop::NoMemory) => 7,
+    match end {
+        End::Whole => print(alloc, group, form, traces, sink),
+        End::NoMemory => 7,
+        End::Turns => refuse(alloc, Fault::Turns, sink),
+    }
+}
+
+/// Prints the output of a run of so many traces, for a record with the history behind it.
+fn print<F: Flash, K: Sink>(
+    alloc: Global,
+    group: &Group<F>,
+    form: Form,
+    traces: u8,
+    sink: &mut K,
+) -> u8
+    ensures told { (K.state sink.new).told ≡ (K.state sink.old).told }
+    ensures faults { (K.state sink.old).faults ≤ (K.state sink.new).faults }
+    ensures unfailing { result ≢ 8 → (K.state sink.new).faults ≡ (K.state sink.old).faults }
+    ensures prints { PrintsText (text_in form traces group.now.book) (K.state sink.old) (K.state sink.new) result }
+{
+    let Ok(closing) = closing_of(alloc, group) else {
+        return 7;
+    };
+    let (config, entries) = (group.config(), group.entries());
+    match print_text(alloc, form, config, entries, traces, &closing, sink) {
+        Ok(()) => 0,
+        Err(Cut::Sink) => 8,
+        Err(Cut::NoMemory) => 7,
+    }
+}
+
+/// Prints the text of a form of run.
+fn print_text<K: Sink>(
+    alloc: Global,
+    form: Form,
+    config: &DriveConfig,
+    entries: &[Entry],
+    traces: u8,
+    closing: &Closing,
+    sink: &mut K,
+) -> Result<(), Cut>
+    ensures told { (K.state sink.new).told ≡ (K.state sink.old).told }
+    ensures faults { (K.state sink.old).faults ≤ (K.state sink.new).faults }
+    ensures counts { CountsCut (K.state sink.old).faults (K.state sink.new).faults result }
+    ensures ends { (f : Found) → IsClosing config.now (point_of config.now f entries.now) closing.now
+        → Prints (K.state sink.old) (K.state sink.new) (text_of form config.now f traces entries.now) result }
+{
+    match form {
+        Form::Run => print_output(alloc, config, entries, traces, closing, sink),
+        Form::Record => print_record(alloc, config, entries, traces, closing, sink),
     }
 }

@@ -11,7 +11,7 @@ fn a_configuration_has_a_limit(rt: HostRuntime) -> Result<(), Fail> {
             alloc,
             &run_of(&RUN, &config, b""),
             0,
-            b"queue 1\nstats 0 0 0\n"
+            b"queue 1\nstats 0 0 0\nruh 0 1\n"
         )?
     );
     config.push(b'#')?;

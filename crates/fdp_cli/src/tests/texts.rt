@@ -11,7 +11,7 @@ pub fn reads(alloc: Global, count: u32) -> Result<(Vec<u8>, Vec<u8>), AllocError
         let lines = format!(in alloc; "{number} read 0/00 00000000\n  00000000\n")?;
         output.extend_from_slice(lines.as_bytes())?;
     }
-    output.extend_from_slice(b"stats 0 0 0\n")?;
+    output.extend_from_slice(b"stats 0 0 0\nruh 0 1\n")?;
     Ok((text, output))
 }
 
@@ -29,7 +29,7 @@ fn the_longest_traces_are_served(rt: HostRuntime) -> Result<(), Fail> {
 fn texts_have_a_limit(rt: HostRuntime) -> Result<(), Fail> {
     let alloc = rt.alloc();
     let mut text = vec![in alloc; b'#'; 16_777_216]?;
-    assert!(rt; serves(alloc, &text, 0, b"queue 1\nstats 0 0 0\n")?);
+    assert!(rt; serves(alloc, &text, 0, b"queue 1\nstats 0 0 0\nruh 0 1\n")?);
     text.push(b'#')?;
     assert!(rt; serves(alloc, &text, 3, b"fault 3 trace 1 long\n")?);
     Ok(())

@@ -1,4 +1,5 @@
 use Rattle.std.proofs.Common.{inl, subst}
+use Rattle.fdp_finding.specs.Wanted.{commands_of}
 use Rattle.fdp_io.specs.Bench.{BenchState}
 use Rattle.fdp_cli.specs.Top.{RunsOnImage}
 use Rattle.fdp_cli.proofs.Benches.{same_bench}
@@ -8,11 +9,12 @@ pub returns-in-Ok-clause-answers : goal.returns-in-Ok-clause-answers
 returns-in-Ok-clause-answers g c =
     let w = c.in-Ok.wanted in
     inl (
+      w.form,
       w.config,
       w.image.now,
-      w.trace.items,
+      commands_of w.traces.items,
       c.in-Ok.ensures.answer,
-      subst (λ (b : BenchState). RunsOnImage g.B.F.Flash.state b (g.B.Bench.state c.run.new.bench) w.config w.image.now w.trace.items (g.K.Sink.state c.args.sink.now) (g.K.Sink.state c.run.new.sink) c.run.result)
+      subst (λ (b : BenchState). RunsOnImage g.B.F.Flash.state b (g.B.Bench.state c.run.new.bench) w.form w.config w.image.now (commands_of w.traces.items) (g.K.Sink.state c.args.sink.now) (g.K.Sink.state c.run.new.sink) c.run.result)
           (same_bench (g.B.Bench.state c.args.bench.now) (g.B.Bench.state c.find.new.bench) c.in-Ok.ensures.texts c.in-Ok.ensures.flashes c.in-Ok.ensures.counts)
           c.run.ensures.runs,
     )

@@ -1,9 +1,7 @@
-use Rattle.std.proofs.Common.{List, inl, inr, subst}
+use Rattle.std.proofs.Common.{inl, inr, subst}
 use Rattle.fdp_base.specs.declared.config.Geometry.{Geometry}
-use Rattle.fdp_base.specs.declared.command.Command.{Command}
 use Rattle.fdp_io.specs.declared.bench.NotTaken.{NotTaken}
 use Rattle.fdp_io.specs.Bench.{HandsOut, KeepsFlash}
-use Rattle.fdp_cli.specs.Top.{EndsRun}
 use Rattle.fdp_cli.proofs.top.run.Goals as goal
 
 pub returns-in-Ok-clause-runs : goal.returns-in-Ok-clause-runs
@@ -13,7 +11,7 @@ returns-in-Ok-clause-runs g c =
       handed = c.in-Ok.flash;
       given = c.run_on-end.result.flash;
       taken = subst (λ (geometry : Geometry). HandsOut (g.B.Bench.state c.args.bench.now) (g.B.Bench.state c.take_flash.new.self) c.args.wanted.now.image.now geometry (g.B.F.Flash.state c.in-Ok.flash)) c.geometry.ensures.value c.in-Ok.ensures.answer;
-      ran = subst (λ (trace : List Command). EndsRun g.B.F.Flash.state c.args.wanted.now.config trace c.in-Ok.flash c.run_on-end.result.flash (g.K.Sink.state c.args.sink.now) (g.K.Sink.state c.run_on-end.new.sink) c.run_on-end.result.status) c.deref.ensures.value c.run_on-end.ensures.ends;
+      ran = c.run_on-end.ensures.ends;
       back = c.give_flash.ensures.back;
     })
 
