@@ -1,0 +1,137 @@
+-- A step of a drive, on its board.
+use Rattle.std.proofs.Common.{◌≡◌, ℕ, ◌<◌, ◌≤◌, Bool, List, [], ◌∷◌, ◌++◌, refl, ap, sym, ◌∙◌, subst, arith, append_assoc, inl, inr}
+use Rattle.std.specs.Prelude.{All, IsTrue, map}
+use mathlib.Core.List.{IsPrefix}
+use Rattle.std.proofs.lemmas.Bool.{cases_lt}
+use Rattle.fdp_base.specs.declared.config.DriveConfig.{DriveConfig}
+use Rattle.fdp_base.specs.declared.entry.Entry.{Entry}
+use Rattle.fdp_base.specs.declared.entry.Totals.{Totals}
+use Rattle.fdp_base.specs.declared.recorded.Mark.{Mark}
+use Rattle.fdp_base.proofs.Records.{prefix_trans}
+use Rattle.fdp_book.specs.Book.{BookSeen, state_in}
+use Rattle.fdp_book.specs.declared.ticket.Ticket.{Ticket}
+use Rattle.fdp_book.specs.Tickets.{IsTicketOf}
+use Rattle.fdp_core.specs.Seen.{Seen}
+use Rattle.fdp_core.specs.Steps.{Adds}
+use Rattle.fdp_core.specs.Stops.{OutlastsStops}
+use Rattle.fdp_drive.proofs.Outlasting.{AreLate, each_later, kept-grown, kept-less}
+use Rattle.fdp_flash.specs.declared.cell.Cell.{Cell}
+use Rattle.fdp_flash.specs.FlashState.{Call, FlashState}
+use Rattle.fdp_image.specs.Kept.{StandsForKept}
+use Rattle.fdp_ledger.specs.declared.counts.Counts.{Counts}
+use Rattle.fdp_rules.specs.History.{Found, point_of, state_of}
+use Rattle.fdp_rules.specs.PlainState.{Going, PlainState}
+use Rattle.fdp_rules.specs.Seats.{mark_of, marks_after, marks_of, seat_of_entry}
+use Rattle.fdp_workers.specs.Run.{OpensFirst}
+use Rattle.fdp_workers.specs.Turns.{AddsNone, AddsOwn}
+use Rattle.fdp_board.specs.Board.{AreSumsOf, Began, IsBoard, IsSafeSince, began_with, items_of}
+use Rattle.fdp_workers.specs.Marks.{entry_in, mark_in, marked_after}
+use Rattle.fdp_board.proofs.Items.{AreLater, IsQuiet, entries-marked, marked-joined, marks-joined, opens-joined, quiet-carry}
+use Rattle.atomic_table.specs.Seated.{TableId}
+
+-- ---- what the record tells of the state
+
+pub state-there : (b : BookSeen) → state_in b ≡ state_of b.config b.found b.entries
+unfolding point_of
+state-there b = refl
+
+pub state-told : {F : Type 0} (s : Seen F) → state_of s.book.config s.book.found (map entry_in (items_of s)) ≡ state_in s.book
+state-told s = ap (state_of s.book.config s.book.found) (entries-marked s.book.found [] s.book.entries) ∙ sym (state-there s.book)
+
+pub ticket-there : {F : Type 0} (s : Seen F) (ticket : Ticket) (g : Going) → IsTicketOf (state_of s.book.config s.book.found (map entry_in (items_of s))) ticket g → IsTicketOf (state_in s.book) ticket g
+ticket-there s ticket g is = subst (λ (x : PlainState). IsTicketOf x ticket g) (state-told s) is
+
+-- ---- what a step leaves
+
+-- what a step adds: these entries, none of which tells of an opening or completes a change before it
+pub record Goes {F : Type 0} (state : F → FlashState) (old new : Seen F) (es : List Entry) : Type 0 where
+  pub config_is : new.book.config ≡ old.book.config
+  pub found_is : new.book.found ≡ old.book.found
+  pub opened_is : new.book.opened ≡ old.book.opened
+  pub handed_is : new.handed ≡ old.handed
+  pub entries_are : new.book.entries ≡ old.book.entries ++ es
+  pub later : AreLater es
+  pub late : AreLate (state old.flash).moment es
+
+pub goes : {F : Type 0} (state : F → FlashState) (old new : Seen F) (es : List Entry) (calls : List Call) → Adds state old new es calls → AreLater es → AreLate (state old.flash).moment es → Goes state old new es
+goes state old new es calls a later late = record {
+  config_is = a.book.config_is;
+  found_is = a.book.found_is;
+  opened_is = a.book.opened_is;
+  handed_is = a.handed_is;
+  entries_are = a.book.entries_are;
+  later = later;
+  late = late;
+}
+
+-- each image since the flash was handed in is kept behind the step
+safe-after : {F : Type 0} (state : F → FlashState) (old new : Seen F) (es : List Entry) → Goes state old new es → OutlastsStops state old new
+    → IsSafeSince old.handed.moment (state old.flash) old.book.config old.book.found old.book.entries → IsSafeSince old.handed.moment (state new.flash) old.book.config old.book.found new.book.entries
+safe-after state old new es g stops safe told m image above most there =
+    let run = stops.stops.images in
+    let told_before : IsTrue (state old.flash).told = sym run.told ∙ told in
+    let before : m ≤ (state old.flash).moment → StandsForKept old.book.config old.book.found new.book.entries 0 m image =
+    λ early. subst (λ (xs : List Entry). StandsForKept old.book.config old.book.found xs 0 m image) (sym g.entries_are)
+    (kept-grown old.book.config old.book.found old.book.entries es 0 m image (each_later m (state old.flash).moment es early g.late) (safe told_before m image above early (run.earlier m image early there))) in
+    let behind : (state old.flash).moment < m → StandsForKept old.book.config old.book.found new.book.entries 0 m image =
+    λ late. kept-less old.book.config old.book.found new.book.entries old.keeper.firm 0 m image (omega arith) (run.images told_before m image late most there) in
+    elim (cases_lt (state old.flash).moment m) [
+      | inl late ↦ behind late
+      | inr early ↦ before early
+    ]
+
+pub board-after : {F : Type 0} (state : F → FlashState) (old new : Seen F) (before : Totals) (told : List Mark) (es : List Entry) → Goes state old new es → OutlastsStops state old new → IsBoard state old before told → IsBoard state new before told
+board-after state old new before told es g stops b = record {
+  opens = subst (OpensFirst []) (sym g.entries_are) (opens-joined [] old.book.entries es b.opens g.later);
+  shown = subst (λ (f : Found). IsPrefix told (marks_of f new.book.entries)) (sym g.found_is)
+      (subst (λ (xs : List Entry). IsPrefix told (marks_of old.book.found xs)) (sym g.entries_are)
+      (prefix_trans told (marks_of old.book.found old.book.entries) (marks_of old.book.found (old.book.entries ++ es)) b.shown
+      (marks_after old.book.found old.book.entries es, sym (marks-joined old.book.found [] old.book.entries es))));
+  sums = subst (λ (f : Found). AreSumsOf f before) (sym g.found_is) b.sums;
+  safe = subst (λ (h : Counts). IsSafeSince h.moment (state new.flash) new.book.config new.book.found new.book.entries) (sym g.handed_is)
+      (subst (λ (c : DriveConfig). IsSafeSince old.handed.moment (state new.flash) c new.book.found new.book.entries) (sym g.config_is)
+      (subst (λ (f : Found). IsSafeSince old.handed.moment (state new.flash) old.book.config f new.book.entries) (sym g.found_is)
+      (safe-after state old new es g stops b.safe)));
+}
+
+-- nothing changes of what the drive began with
+pub began-after : {F : Type 0} (state : F → FlashState) (old new : Seen F) (gauge : TableId) (told : List Mark) (es : List Entry) → Goes state old new es → OutlastsStops state old new
+    → began_with state (record { group = new; gauge = gauge; told = told }) ≡ began_with state (record { group = old; gauge = gauge; told = told })
+began-after state old new gauge told es g stops =
+    let run = stops.stops.images in
+    let make : DriveConfig → Found → List Cell → Counts → Bool → Bool → Began = λ c f cells h t i. record { run = record { config = c; found = f; gauge = gauge }; opened = cells; handed = h; told = t; tells_images = i } in
+    ap (λ c. make c new.book.found new.book.opened new.handed (state new.flash).told (state new.flash).tells_images) g.config_is
+    ∙ ap (λ f. make old.book.config f new.book.opened new.handed (state new.flash).told (state new.flash).tells_images) g.found_is
+    ∙ ap (λ cells. make old.book.config old.book.found cells new.handed (state new.flash).told (state new.flash).tells_images) g.opened_is
+    ∙ ap (λ h. make old.book.config old.book.found old.book.opened h (state new.flash).told (state new.flash).tells_images) g.handed_is
+    ∙ ap (λ t. make old.book.config old.book.found old.book.opened old.handed t (state new.flash).tells_images) run.told
+    ∙ ap (λ i. make old.book.config old.book.found old.book.opened old.handed (state old.flash).told i) run.tells_images
+
+-- ---- what it adds to the record
+
+items-after : {F : Type 0} (state : F → FlashState) (old new : Seen F) (es : List Entry) → Goes state old new es → items_of new ≡ items_of old ++ marked_after old.book.found old.book.entries es
+items-after state old new es g =
+    ap (λ (f : Found). marked_after f [] new.book.entries) g.found_is ∙ ap (marked_after old.book.found []) g.entries_are ∙ marked-joined old.book.found [] old.book.entries es
+
+pub adds-none : {F : Type 0} (state : F → FlashState) (old new : Seen F) (es : List Entry) → Goes state old new es → All IsQuiet es → AddsNone mark_in (items_of old) (items_of new)
+adds-none state old new es g quiet = record {
+  added = marked_after old.book.found old.book.entries es;
+  new_is = items-after state old new es g;
+  none = quiet-carry old.book.found old.book.entries es quiet;
+}
+
+pub adds-own : {F : Type 0} (state : F → FlashState) (old new : Seen F) (before : List Entry) (e : Entry) (number : ℕ) → Goes state old new (before ++ e ∷ []) → All IsQuiet before → seat_of_entry old.book.found (old.book.entries ++ before) e ≡ number
+    → AddsOwn entry_in mark_in number (items_of old) (items_of new) e
+unfolding marked_after
+adds-own state old new before e number g quiet seat =
+    let f = old.book.found in
+    let own : Entry × Mark = (e, mark_of f (old.book.entries ++ before) e) in
+    record {
+      before = marked_after f old.book.entries before;
+      own = own;
+      new_is = items-after state old new (before ++ e ∷ []) g ∙ ap (λ (xs : List (Entry × Mark)). items_of old ++ xs) (marked-joined f old.book.entries before (e ∷ []))
+          ∙ sym (append_assoc (items_of old) (marked_after f old.book.entries before) (own ∷ []));
+      none = quiet-carry f old.book.entries before quiet;
+      number_is = seat;
+      entry_is = refl;
+    }

@@ -1,0 +1,100 @@
+-- A drive with its teller, as contracts see it, and the record that it keeps.
+use Rattle.std.specs.Prelude.{◌≡◌, ℕ, ◌<◌, ◌≤◌, Bool, false, IsTrue, List, []}
+use mathlib.Core.List.{IsPrefix}
+use Rattle.atomic_table.specs.Seated.{TableId}
+use Rattle.fdp_base.specs.declared.config.DriveConfig.{DriveConfig}
+use Rattle.fdp_base.specs.declared.entry.Entry.{Entry}
+use Rattle.fdp_base.specs.declared.entry.Totals.{Totals}
+use Rattle.fdp_base.specs.declared.recorded.Mark.{Mark}
+use Rattle.fdp_core.specs.Seen.{Seen}
+use Rattle.fdp_flash.specs.declared.cell.Cell.{Cell}
+use Rattle.fdp_flash.specs.FlashState.{FlashState}
+use Rattle.fdp_image.specs.Kept.{StandsForKept}
+use Rattle.fdp_ledger.specs.declared.counts.Counts.{Counts}
+use Rattle.fdp_origin.specs.Opening.{blank}
+use Rattle.fdp_rules.specs.History.{Found}
+use Rattle.fdp_rules.specs.Seats.{marks_of}
+use Rattle.fdp_workers.specs.Marks.{marked_of}
+use Rattle.fdp_workers.specs.Run.{OpensFirst, Run}
+
+-- the drive, the gauge of its teller, and the marks that the teller told last
+pub record BoardSeen (F : Type 0) : Type 0 where
+  pub group : Seen F
+  pub gauge : TableId
+  pub told : List Mark
+
+-- ---- the record
+
+-- the history of a drive, each entry with its mark
+abbrev pub items_of : {F : Type 0} → Seen F → List (Entry × Mark)
+items_of s = marked_of s.book.found s.book.entries
+
+-- ---- what no turn changes
+
+-- the configuration, what the history goes on from and the gauge; the cells when the drive was opened; what the flash had counted when it was handed
+-- in; and whether it tells its cells and its images
+pub record Began : Type 0 where
+  pub run : Run
+  pub opened : List Cell
+  pub handed : Counts
+  pub told : Bool
+  pub tells_images : Bool
+
+-- nothing began
+abbrev pub no_beginning : Began
+no_beginning = record {
+  run = record {
+    config = record {
+      block = 0;
+      unit_pages = 0;
+      groups = 0;
+      units = 0;
+      area_units = 0;
+      queues = 0;
+      blocks_per_command = 0;
+      fdp = [];
+      enabled = false;
+      index = 0;
+      namespaces = [];
+      queue_depth = 0;
+      collectors = 0;
+      turns = 0;
+    };
+    found = blank.found;
+    gauge = record { words = 0; slots = 0; views_name = 0; atom = 0; block = 0; offset = 0; slot_names = [] };
+  };
+  opened = [];
+  handed = record { moment = 0; faults = 0; programs = 0 };
+  told = false;
+  tells_images = false;
+}
+
+abbrev pub began_with : {F : Type 0} → (F → FlashState) → BoardSeen F → Began
+began_with state b = record {
+  run = record { config = b.group.book.config; found = b.group.book.found; gauge = b.gauge };
+  opened = b.group.book.opened;
+  handed = b.group.handed;
+  told = (state b.group.flash).told;
+  tells_images = (state b.group.flash).tells_images;
+}
+
+-- ---- what stands between turns
+
+-- where the cells are told, whatever a stop in a call since a moment may have left stands for a beginning of the history in which each change is
+-- that was completed at an earlier moment
+abbrev pub IsSafeSince : ℕ → FlashState → DriveConfig → Found → List Entry → Type 0
+IsSafeSince since flash c f es = IsTrue flash.told → (m : ℕ) (image : List Cell) → since < m → m ≤ flash.moment → flash.during m image → StandsForKept c f es 0 m image
+
+-- the sums before the history are those of what it goes on from
+pub record AreSumsOf (f : Found) (before : Totals) : Type 0 where
+  pub host_blocks : before.host_blocks ≡ f.totals.host_blocks
+  pub media_blocks : before.media_blocks ≡ f.totals.media_blocks
+  pub erases : before.erases ≡ f.totals.erases
+
+pub record IsBoard {F : Type 0} (state : F → FlashState) (group : Seen F) (before : Totals) (told : List Mark) : Type 0 where
+  -- an opening is told at the beginning alone
+  pub opens : OpensFirst [] group.book.entries
+  -- the teller has told a beginning of the record
+  pub shown : IsPrefix told (marks_of group.book.found group.book.entries)
+  pub sums : AreSumsOf group.book.found before
+  pub safe : IsSafeSince group.handed.moment (state group.flash) group.book.config group.book.found group.book.entries

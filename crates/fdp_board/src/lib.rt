@@ -1,0 +1,9 @@
+//! A drive behind the lock of its workers.
+#![tactic(auto)]
+
+mod beginning;
+mod board;
+mod record;
+
+pub use beginning::Beginning;
+pub use board::Board;
