@@ -14,11 +14,11 @@ cp "$top/examples/drive-s.toml" s.toml
 sed 's/^units = 12$/units = 13/' s.toml > other.toml
 echo "read 1 0 1" > read.trace
 
-# a run with these words: its status and what it prints, in `got`
+# a run with these words: its status and what it prints but for handles and events, in `got`
 run() {
     ended=0
     "$top/fdpdrive" run "$@" > printed 2> said || ended=$?
-    { echo "status $ended"; cat printed; } > got
+    { echo "status $ended"; sed '/^ruh /d; /^event /d' printed; } > got
 }
 
 # what is expected of the last run, from standard input

@@ -2,17 +2,18 @@
 # Kills runs over one image at random moments, opens what each left, and looks whether the blocks that are there are those of a beginning of the
 # run: of the writes that it was to make the first so many were made, and none behind them. It is tried, not proved, that a file keeps what was
 # written to it when its process is killed; what power loss leaves of a file is not tried.
-# Usage: bench/kills.sh [RUNS]. The program is proved and built on first use.
+# Usage: bench/kills.sh [RUNS [WRITES]]: so many runs of so many writes, 300 of 8000 if not given. The program is proved and built on first use.
 set -eu
 top=$(cd "$(dirname "$0")/.." && pwd)
 runs=${1:-300}
+writes=${2:-8000}
 work=$(mktemp -d)
 trap 'rm -rf "$work"' EXIT
 cd "$work"
 cp "$top/examples/drive-s.toml" s.toml
 blocks=52
 # Each write has a number of its own, so that a block tells which write it is of.
-awk -v b=$blocks 'BEGIN { for (i = 1; i <= 8000; i++) print "write 1", (i * 7) % b, 1, i }' > long.trace
+awk -v b=$blocks -v w="$writes" 'BEGIN { for (i = 1; i <= w; i++) print "write 1", (i * 7) % b, 1, i }' > long.trace
 awk -v b=$blocks 'BEGIN { for (i = 0; i < b; i++) print "read 1", i, 1 }' > blocks.trace
 "$top/fdpdrive" run s.toml first.img blocks.trace > /dev/null
 start=$(date +%s%N)
@@ -47,4 +48,4 @@ for run in $(seq "$runs"); do
     if [ -z "$least" ] || [ "$count" -lt "$least" ]; then least=$count; fi
     if [ -z "$most" ] || [ "$count" -gt "$most" ]; then most=$count; fi
 done
-echo "as expected: $killed runs were killed and $ended were not, each left a beginning of its writes: $least to $most of 8000"
+echo "as expected: $killed runs were killed and $ended were not, each left a beginning of its writes: $least to $most of $writes"
