@@ -26,7 +26,6 @@ use Rattle.fdp_core.specs.declared.answer.Placed.TheVariants as placed
 use Rattle.fdp_core.specs.Answers.{Begins, Collects, CollectsStep, Commits, EndsInPlacing, MakesRoom, Places, PlacesPage, Starts}
 use Rattle.fdp_core.specs.Seen.{Seen}
 use Rattle.fdp_core.specs.Steps.{Completes}
-use Rattle.fdp_drive.proofs.Outlasting.{AreLate, host-late, silent-late}
 use Rattle.fdp_flash.specs.FlashState.{Call, FlashState}
 use Rattle.fdp_relocation.specs.declared.advance.Advance.{Advance}
 use Rattle.fdp_relocation.specs.declared.advance.Advance.TheVariants as advance
@@ -40,6 +39,8 @@ use Rattle.fdp_workers.specs.Turns as turns
 use Rattle.fdp_workers.proofs.Seated.{ticket-queue}
 use Rattle.fdp_board.specs.Board.{items_of}
 use Rattle.fdp_workers.specs.Marks.{entry_in, mark_in}
+use Rattle.fdp_board.proofs.Charging.{host-charged, quiet-charged, uncharged}
+use Rattle.fdp_board.proofs.Outlasting.{AreLate, host-late, silent-late}
 use Rattle.fdp_board.proofs.Items.{IsQuiet, all-quiet, later-joined, later-one, length-marked, quiet-later}
 use Rattle.fdp_board.proofs.Stepping.{Goes, adds-none, adds-own, goes}
 
@@ -96,7 +97,7 @@ pub collects : {F : Type 0} (state : F → FlashState) (old new : Seen F) (rg : 
 collects state old new rg x h =
     let s = collects-step state old new rg x h in
     let quiet = step-quiet state old new rg x s in
-    record { es = s.es; goes_is = goes state old new s.es s.calls s.step (quiet-later s.es quiet) (quiet-late (state old.flash).moment s.es quiet); quiet = quiet }
+    record { es = s.es; goes_is = goes state old new s.es s.calls s.step (quiet-later s.es quiet) (quiet-late (state old.flash).moment s.es quiet) (quiet-charged (state old.flash).moment (state new.flash) s.es quiet); quiet = quiet }
 
 -- ---- the end of a command
 
@@ -112,6 +113,7 @@ pub ended-goes : {F : Type 0} (state : F → FlashState) (old new : Seen F) (que
 ended-goes state old new queue number command done e =
     goes state old new _ e.calls e.completes.step (later-joined e.before _ (quiet-later e.before e.quiet) (later-one _ (λ same. absurd cc)))
     (host-late state old new e.before queue number command e.calls done e.completes (quiet-late (state old.flash).moment e.before e.quiet))
+    (host-charged state old new e.before queue number command e.calls done e.completes e.quiet)
 
 pub ended-completes : {F : Type 0} (state : F → FlashState) (old new : Seen F) (gauge : TableId) (queue number : ℕ) (command : Command) (done : Done) → Ended state old new queue number command done
     → turns.Completes (record { config = old.book.config; found = old.book.found; gauge = gauge }) entry_in mark_in (items_of old) (items_of new) queue number command done
@@ -133,7 +135,7 @@ start-goes : {F : Type 0} (state : F → FlashState) (old new : Seen F) (queue n
     → Goes state old new (entries.Started (record { queue = queue; number = number; command = command; rg = h.target.rg; ruh = h.target.ruh; pid_valid = h.target.valid }) ∷ [])
 start-goes state old new queue number command ticket h =
     let e : Entry = entries.Started (record { queue = queue; number = number; command = command; rg = h.target.rg; ruh = h.target.ruh; pid_valid = h.target.valid }) in
-    goes state old new (e ∷ []) [] h.step (later-one e (λ same. absurd cc)) (silent-late (state old.flash).moment (e ∷ []) (λ q. refl))
+    goes state old new (e ∷ []) [] h.step (later-one e (λ same. absurd cc)) (silent-late (state old.flash).moment (e ∷ []) (λ q. refl)) (uncharged (state old.flash).moment (state new.flash) e refl)
 
 -- what the first step adds
 pub begins-goes : {F : Type 0} (state : F → FlashState) (old new : Seen F) (queue number : ℕ) (command : Command) (b : Begun) → Begins state old new queue number command b → (es : List Entry) × Goes state old new es
@@ -172,13 +174,13 @@ page-goes : {F : Type 0} (state : F → FlashState) (old new : Seen F) (ticket :
     → Goes state old new (entries.Placed (record { ticket = ticket.position; index = g.placed; unit = h.spot.unit; page = h.spot.page }) ∷ [])
 page-goes state old new ticket g next h =
     let e : Entry = entries.Placed (record { ticket = ticket.position; index = g.placed; unit = h.spot.unit; page = h.spot.page }) in
-    goes state old new (e ∷ []) _ h.step (later-one e (λ same. absurd cc)) (silent-late (state old.flash).moment (e ∷ []) (λ q. refl))
+    goes state old new (e ∷ []) _ h.step (later-one e (λ same. absurd cc)) (silent-late (state old.flash).moment (e ∷ []) (λ q. refl)) (uncharged (state old.flash).moment (state new.flash) e refl)
 
 room-goes : {F : Type 0} (state : F → FlashState) (old new : Seen F) (ticket : Ticket) (g : Going) (next : Ticket) (h : MakesRoom state old new ticket g next) → Quietly state old new
 room-goes state old new ticket g next h =
     let es : List Entry = h.before ++ entries.Erased (record { unit = h.unit }) ∷ [] in
     let quiet = all-quiet old.book.config g.rg es h.inside in
-    record { es = es; goes_is = goes state old new es h.calls h.step (quiet-later es quiet) (quiet-late (state old.flash).moment es quiet); quiet = quiet }
+    record { es = es; goes_is = goes state old new es h.calls h.step (quiet-later es quiet) (quiet-late (state old.flash).moment es quiet) (quiet-charged (state old.flash).moment (state new.flash) es quiet); quiet = quiet }
 
 pub places-goes : {F : Type 0} (state : F → FlashState) (old new : Seen F) (ticket : Ticket) (g : Going) (p : Placed) → Places state old new ticket g p → (es : List Entry) × Goes state old new es
 places-goes state old new ticket g (placed.More next) (inl page) = (_, page-goes state old new ticket g next page.0)

@@ -14,7 +14,6 @@ use Rattle.fdp_book.specs.Tickets.{IsTicketOf}
 use Rattle.fdp_core.specs.Seen.{Seen}
 use Rattle.fdp_core.specs.Steps.{Adds}
 use Rattle.fdp_core.specs.Stops.{OutlastsStops}
-use Rattle.fdp_drive.proofs.Outlasting.{AreLate, each_later, kept-grown, kept-less}
 use Rattle.fdp_flash.specs.declared.cell.Cell.{Cell}
 use Rattle.fdp_flash.specs.FlashState.{Call, FlashState}
 use Rattle.fdp_image.specs.Kept.{StandsForKept}
@@ -24,8 +23,10 @@ use Rattle.fdp_rules.specs.PlainState.{Going, PlainState}
 use Rattle.fdp_rules.specs.Seats.{mark_of, marks_after, marks_of, seat_of_entry}
 use Rattle.fdp_workers.specs.Run.{OpensFirst}
 use Rattle.fdp_workers.specs.Turns.{AddsNone, AddsOwn}
-use Rattle.fdp_board.specs.Board.{AreSumsOf, Began, IsBoard, IsSafeSince, began_with, items_of}
+use Rattle.fdp_board.specs.Board.{AreCharged, AreSumsOf, Began, IsBoard, IsSafeSince, IsUnfailing, began_with, items_of}
 use Rattle.fdp_workers.specs.Marks.{entry_in, mark_in, marked_after}
+use Rattle.fdp_board.proofs.Charging.{charged-after}
+use Rattle.fdp_board.proofs.Outlasting.{AreLate, each_later, kept-grown, kept-less}
 use Rattle.fdp_board.proofs.Items.{AreLater, IsQuiet, entries-marked, marked-joined, marks-joined, opens-joined, quiet-carry}
 use Rattle.atomic_table.specs.Seated.{TableId}
 
@@ -43,7 +44,7 @@ ticket-there s ticket g is = subst (λ (x : PlainState). IsTicketOf x ticket g) 
 
 -- ---- what a step leaves
 
--- what a step adds: these entries, none of which tells of an opening or completes a change before it
+-- what a step adds: these entries, none of which tells of an opening or completes a change before it, and whose media errors tell of calls of the step
 pub record Goes {F : Type 0} (state : F → FlashState) (old new : Seen F) (es : List Entry) : Type 0 where
   pub config_is : new.book.config ≡ old.book.config
   pub found_is : new.book.found ≡ old.book.found
@@ -52,9 +53,10 @@ pub record Goes {F : Type 0} (state : F → FlashState) (old new : Seen F) (es :
   pub entries_are : new.book.entries ≡ old.book.entries ++ es
   pub later : AreLater es
   pub late : AreLate (state old.flash).moment es
+  pub charged : AreCharged (state old.flash).moment (state new.flash) es
 
-pub goes : {F : Type 0} (state : F → FlashState) (old new : Seen F) (es : List Entry) (calls : List Call) → Adds state old new es calls → AreLater es → AreLate (state old.flash).moment es → Goes state old new es
-goes state old new es calls a later late = record {
+pub goes : {F : Type 0} (state : F → FlashState) (old new : Seen F) (es : List Entry) (calls : List Call) → Adds state old new es calls → AreLater es → AreLate (state old.flash).moment es → AreCharged (state old.flash).moment (state new.flash) es → Goes state old new es
+goes state old new es calls a later late charged = record {
   config_is = a.book.config_is;
   found_is = a.book.found_is;
   opened_is = a.book.opened_is;
@@ -62,6 +64,7 @@ goes state old new es calls a later late = record {
   entries_are = a.book.entries_are;
   later = later;
   late = late;
+  charged = charged;
 }
 
 -- each image since the flash was handed in is kept behind the step
@@ -92,6 +95,14 @@ board-after state old new before told es g stops b = record {
       (subst (λ (c : DriveConfig). IsSafeSince old.handed.moment (state new.flash) c new.book.found new.book.entries) (sym g.config_is)
       (subst (λ (f : Found). IsSafeSince old.handed.moment (state new.flash) old.book.config f new.book.entries) (sym g.found_is)
       (safe-after state old new es g stops b.safe)));
+  later = subst (λ (h : Counts). h.moment ≤ (state new.flash).moment) (sym g.handed_is) (omega (arith, b.later, stops.stops.images.later));
+  charged = subst (λ (h : Counts). AreCharged h.moment (state new.flash) new.book.entries) (sym g.handed_is)
+      (subst (AreCharged old.handed.moment (state new.flash)) (sym g.entries_are)
+      (charged-after old.handed.moment (state old.flash) (state new.flash) _ old.book.entries es b.later stops.stops.images b.charged g.charged));
+  unfailing = subst (λ (h : Counts). IsUnfailing h (state new.flash)) (sym g.handed_is)
+      (λ reliable.
+      let was = subst (λ (x : Bool). IsTrue x) stops.stops.images.reliable reliable in
+      stops.stops.images.no_fault was ∙ b.unfailing was);
 }
 
 -- nothing changes of what the drive began with
@@ -99,13 +110,14 @@ pub began-after : {F : Type 0} (state : F → FlashState) (old new : Seen F) (ga
     → began_with state (record { group = new; gauge = gauge; told = told }) ≡ began_with state (record { group = old; gauge = gauge; told = told })
 began-after state old new gauge told es g stops =
     let run = stops.stops.images in
-    let make : DriveConfig → Found → List Cell → Counts → Bool → Bool → Began = λ c f cells h t i. record { run = record { config = c; found = f; gauge = gauge }; opened = cells; handed = h; told = t; tells_images = i } in
-    ap (λ c. make c new.book.found new.book.opened new.handed (state new.flash).told (state new.flash).tells_images) g.config_is
-    ∙ ap (λ f. make old.book.config f new.book.opened new.handed (state new.flash).told (state new.flash).tells_images) g.found_is
-    ∙ ap (λ cells. make old.book.config old.book.found cells new.handed (state new.flash).told (state new.flash).tells_images) g.opened_is
-    ∙ ap (λ h. make old.book.config old.book.found old.book.opened h (state new.flash).told (state new.flash).tells_images) g.handed_is
-    ∙ ap (λ t. make old.book.config old.book.found old.book.opened old.handed t (state new.flash).tells_images) run.told
-    ∙ ap (λ i. make old.book.config old.book.found old.book.opened old.handed (state old.flash).told i) run.tells_images
+    let make : DriveConfig → Found → List Cell → Counts → Bool → Bool → Bool → Began = λ c f cells h t i r. record { run = record { config = c; found = f; gauge = gauge }; opened = cells; handed = h; told = t; tells_images = i; reliable = r } in
+    ap (λ c. make c new.book.found new.book.opened new.handed (state new.flash).told (state new.flash).tells_images (state new.flash).reliable) g.config_is
+    ∙ ap (λ f. make old.book.config f new.book.opened new.handed (state new.flash).told (state new.flash).tells_images (state new.flash).reliable) g.found_is
+    ∙ ap (λ cells. make old.book.config old.book.found cells new.handed (state new.flash).told (state new.flash).tells_images (state new.flash).reliable) g.opened_is
+    ∙ ap (λ h. make old.book.config old.book.found old.book.opened h (state new.flash).told (state new.flash).tells_images (state new.flash).reliable) g.handed_is
+    ∙ ap (λ t. make old.book.config old.book.found old.book.opened old.handed t (state new.flash).tells_images (state new.flash).reliable) run.told
+    ∙ ap (λ i. make old.book.config old.book.found old.book.opened old.handed (state old.flash).told i (state new.flash).reliable) run.tells_images
+    ∙ ap (λ r. make old.book.config old.book.found old.book.opened old.handed (state old.flash).told (state old.flash).tells_images r) run.reliable
 
 -- ---- what it adds to the record
 

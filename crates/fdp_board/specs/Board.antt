@@ -1,16 +1,22 @@
 -- A drive with its teller, as contracts see it, and the record that it keeps.
-use Rattle.std.specs.Prelude.{◌≡◌, ℕ, ◌<◌, ◌≤◌, Bool, false, IsTrue, List, []}
+use Rattle.std.specs.Prelude.{◌≡◌, ◌⊎◌, ℕ, ◌-◌, ◌<◌, ◌≤◌, All, Bool, false, true, IsTrue, List, [], ◌∷◌, Some, slice_get}
+use Rattle.std.specs.Option.{option_map_or}
 use mathlib.Core.List.{IsPrefix}
 use Rattle.atomic_table.specs.Seated.{TableId}
 use Rattle.fdp_base.specs.declared.config.DriveConfig.{DriveConfig}
 use Rattle.fdp_base.specs.declared.entry.Entry.{Entry}
+use Rattle.fdp_base.specs.declared.entry.Entry.TheVariants as entries
+use Rattle.fdp_base.specs.declared.entry.Host.{Host}
 use Rattle.fdp_base.specs.declared.entry.Totals.{Totals}
 use Rattle.fdp_base.specs.declared.recorded.Mark.{Mark}
+use Rattle.fdp_base.specs.Counts.{Rose}
+use Rattle.fdp_base.specs.EntryKinds.{host_of}
 use Rattle.fdp_core.specs.Seen.{Seen}
 use Rattle.fdp_flash.specs.declared.cell.Cell.{Cell}
-use Rattle.fdp_flash.specs.FlashState.{FlashState}
+use Rattle.fdp_flash.specs.FlashState.{Call, FlashState}
 use Rattle.fdp_image.specs.Kept.{StandsForKept}
 use Rattle.fdp_ledger.specs.declared.counts.Counts.{Counts}
+use Rattle.fdp_ledger.specs.Told.{is_media_reply}
 use Rattle.fdp_origin.specs.Opening.{blank}
 use Rattle.fdp_rules.specs.History.{Found}
 use Rattle.fdp_rules.specs.Seats.{marks_of}
@@ -32,13 +38,14 @@ items_of s = marked_of s.book.found s.book.entries
 -- ---- what no turn changes
 
 -- the configuration, what the history goes on from and the gauge; the cells when the drive was opened; what the flash had counted when it was handed
--- in; and whether it tells its cells and its images
+-- in; and whether it tells its cells and its images, and promises that no call fails
 pub record Began : Type 0 where
   pub run : Run
   pub opened : List Cell
   pub handed : Counts
   pub told : Bool
   pub tells_images : Bool
+  pub reliable : Bool
 
 -- nothing began
 abbrev pub no_beginning : Began
@@ -67,6 +74,7 @@ no_beginning = record {
   handed = record { moment = 0; faults = 0; programs = 0 };
   told = false;
   tells_images = false;
+  reliable = false;
 }
 
 abbrev pub began_with : {F : Type 0} → (F → FlashState) → BoardSeen F → Began
@@ -76,6 +84,7 @@ began_with state b = record {
   handed = b.group.handed;
   told = (state b.group.flash).told;
   tells_images = (state b.group.flash).tells_images;
+  reliable = (state b.group.flash).reliable;
 }
 
 -- ---- what stands between turns
@@ -84,6 +93,31 @@ began_with state b = record {
 -- that was completed at an earlier moment
 abbrev pub IsSafeSince : ℕ → FlashState → DriveConfig → Found → List Entry → Type 0
 IsSafeSince since flash c f es = IsTrue flash.told → (m : ℕ) (image : List Cell) → since < m → m ≤ flash.moment → flash.during m image → StandsForKept c f es 0 m image
+
+-- Since a moment a call failed at this one: it lies above it, or the count stands at its last value. Where the calls are told, that call failed.
+pub record FailedSince (since : ℕ) (now : FlashState) (moment : ℕ) : Type 0 where
+  pub later : Rose since moment
+  pub until : moment ≤ now.moment
+  pub failed : IsTrue now.tells_calls → (call : Call) × (slice_get now.calls (moment - 1) ≡ Some call) × (call.failed ≡ true)
+
+-- the moment of a completion
+abbrev pub moment_of : Entry → ℕ
+moment_of e = option_map_or (λ (h : Host). h.moment) (host_of e) 0
+
+-- each media error has the moment of a call that failed since
+abbrev pub AreCharged : ℕ → FlashState → List Entry → Type 0
+AreCharged since now es = All (λ e. IsTrue (is_media_reply e) → FailedSince since now (moment_of e)) es
+
+-- of a flash that promises that no call fails, none has
+abbrev pub IsUnfailing : Counts → FlashState → Type 0
+IsUnfailing handed flash = IsTrue flash.reliable → flash.faults ≡ handed.faults
+
+-- A drive that was just opened: it has served nothing, whatever a stop since its flash was handed in may have left stands for its history, and no call of a
+-- reliable flash has failed.
+pub record IsJustOpened {F : Type 0} (state : F → FlashState) (s : Seen F) : Type 0 where
+  pub entries_are : (s.book.entries ≡ []) ⊎ (s.book.entries ≡ entries.Reopened ∷ [])
+  pub safe : IsSafeSince s.handed.moment (state s.flash) s.book.config s.book.found s.book.entries
+  pub unfailing : IsUnfailing s.handed (state s.flash)
 
 -- the sums before the history are those of what it goes on from
 pub record AreSumsOf (f : Found) (before : Totals) : Type 0 where
@@ -98,3 +132,6 @@ pub record IsBoard {F : Type 0} (state : F → FlashState) (group : Seen F) (bef
   pub shown : IsPrefix told (marks_of group.book.found group.book.entries)
   pub sums : AreSumsOf group.book.found before
   pub safe : IsSafeSince group.handed.moment (state group.flash) group.book.config group.book.found group.book.entries
+  pub later : group.handed.moment ≤ (state group.flash).moment
+  pub charged : AreCharged group.handed.moment (state group.flash) group.book.entries
+  pub unfailing : IsUnfailing group.handed (state group.flash)

@@ -1,6 +1,5 @@
-ghost use Rattle.std.specs.Prelude.{◌≡◌, ◌⊎◌, [], ◌∷◌};
-ghost use Rattle.fdp_base.specs.declared.entry.Entry.TheVariants as entries;
-ghost use Rattle.fdp_board.specs.Board.{IsSafeSince};
+ghost use Rattle.std.specs.Prelude.{◌≡◌, []};
+ghost use Rattle.fdp_board.specs.Board.{AreCharged, IsJustOpened, IsSafeSince, IsUnfailing};
 ghost use Rattle.fdp_gauge.specs.Passes.{told_of};
 ghost use Rattle.fdp_workers.specs.Marks.{counts_of};
 
@@ -40,11 +39,12 @@ impl<F: Flash> Board<F> {
     /// The board of a drive that has served nothing yet, whose teller has told nothing.
     pub fn new(group: Group<F>, teller: Teller) -> Board<F>
         requires untold { told_of teller ≡ [] }
-        requires unserved { (group.book.entries ≡ []) ⊎ (group.book.entries ≡ entries.Reopened ∷ []) }
-        requires safe { IsSafeSince group.handed.moment (F.state group.flash) group.book.config group.book.found group.book.entries }
+        requires opened { IsJustOpened F.state group }
         ensures { result ≡ record { group = group; gauge = teller.place.table_id; told = [] } }
     {
         let before = group.totals();
+        // Asked for what is known of the history: the calls came after the flash was handed in.
+        let _known = group.entries();
         Board {
             group,
             teller,
@@ -57,6 +57,8 @@ impl<F: Flash> Board<F> {
         ensures group { result.0 ≡ self.group }
         ensures teller { (result.1.place.table_id ≡ self.gauge) × (told_of result.1 ≡ self.told) }
         ensures safe { IsSafeSince self.group.handed.moment (F.state self.group.flash) self.group.book.config self.group.book.found self.group.book.entries }
+        ensures charged { AreCharged self.group.handed.moment (F.state self.group.flash) self.group.book.entries }
+        ensures unfailing { IsUnfailing self.group.handed (F.state self.group.flash) }
     {
         let Board {
             group,

@@ -1,28 +1,28 @@
 -- What a run shows.
-use Rattle.std.proofs.Common.{◌≡◌, ◌⊎◌, ℕ, IsTrue, List, [], ◌∷◌, ◌++◌, length, Err, refl, sym, ◌∙◌, subst, arith, inl, inr}
-use Rattle.std.specs.Prelude.{All, IsFalse, IsNone, Result, ⊤}
+use Rattle.std.proofs.Common.{◌≡◌, ◌⊎◌, ℕ, ◌<◌, IsTrue, ap, List, [], ◌∷◌, ◌++◌, length, Err, refl, sym, ◌∙◌, subst, arith, inl, inr}
+use Rattle.std.specs.Prelude.{All, IsFalse, Result, ⊤}
 use Rattle.std.proofs.lemmas.List.{append-nil}
 use Rattle.std.proofs.lemmas.List.Elements.{All-cons, All-nil, All-tail, All-weaker}
 use Rattle.fdp_base.specs.declared.command.Command.{Command}
 use Rattle.fdp_base.specs.declared.config.DriveConfig.{DriveConfig}
 use Rattle.fdp_base.specs.declared.entry.Entry.{Entry}
 use Rattle.fdp_base.specs.declared.entry.Entry.TheVariants as entries
-use Rattle.fdp_base.specs.EntryKinds.{host_of, started_of}
 use Rattle.fdp_book.specs.Book.{BookSeen, point_in}
 use Rattle.fdp_core.specs.Loading.{IsLoaded, IsNotLoaded}
 use Rattle.fdp_core.specs.Seen.{HoldsHistory, IsLegalOver, Seen}
-use Rattle.fdp_drive.specs.declared.session.End.{End}
-use Rattle.fdp_drive.specs.declared.session.End.TheVariants as ends
-use Rattle.fdp_drive.specs.Serving.{Grows}
-use Rattle.fdp_drive.specs.Session.{HoldsTraces, IsSession, IsTrace, IsUnserved, KeepsOrders}
-use Rattle.fdp_drive.proofs.Outlasting.{AreLate, each_later, kept-grown, kept-less}
+use Rattle.fdp_board.specs.Board.{AreCharged, IsJustOpened, IsSafeSince}
+use Rattle.fdp_board.proofs.Outlasting.{AreLate}
+use Rattle.fdp_crews.specs.Crews.{IsTrace}
+use Rattle.fdp_drive.specs.Session.{HoldsTraces, IsSameDrive, IsSession, KeepsOrders}
+use Rattle.fdp_ledger.specs.Counted.{counts_of}
+use Rattle.fdp_workers.specs.declared.ends.End.{End}
+use Rattle.fdp_workers.specs.declared.ends.End.TheVariants as ends
+use Rattle.fdp_workers.specs.declared.receipt.Receipt.{Receipt}
 use Rattle.fdp_finding.specs.declared.asked.Form.{Form}
 use Rattle.fdp_finding.specs.declared.fault.Fault.{Fault}
 use Rattle.fdp_finding.specs.Traced.{IsServable}
 use Rattle.fdp_flash.specs.declared.cell.Cell.{Cell}
 use Rattle.fdp_flash.specs.FlashState.{FlashState}
-use Rattle.fdp_flash.specs.Runs.{Runs}
-use Rattle.fdp_flash.proofs.Runs.{runs_joined, runs_weakened}
 use Rattle.fdp_image.specs.Kept.{AreFirm, StandsForBeginning, StandsForKept, is_owed}
 use Rattle.fdp_io.specs.Sink.{HoldsFront, SinkState}
 use Rattle.fdp_isolation.specs.Begun.{OpenedApart}
@@ -42,14 +42,6 @@ use Rattle.fdp_cli.specs.Session.{IsRun}
 use Rattle.fdp_cli.specs.Top.{EndsRun, PrintsText, Refuses, Shows, text_in, text_of}
 
 -- ---- the beginning
-
-unserved-begun : (es : List Entry) → (es ≡ []) ⊎ (es ≡ entries.Reopened ∷ []) → IsUnserved es
-unserved-begun es (inl none) = subst IsUnserved (sym none) (All-nil (λ e. IsNone (host_of e) × IsNone (started_of e)))
-unserved-begun es (inr one) = subst IsUnserved (sym one) (All-cons (λ e. IsNone (host_of e) × IsNone (started_of e)) entries.Reopened [] (refl, refl) (All-nil (λ e. IsNone (host_of e) × IsNone (started_of e))))
-
--- no command is served before the first
-pub unserved_loaded : {F : Type 0} (state : F → FlashState) (c : DriveConfig) (flash : F) (group : Seen F) → IsLoaded state c flash group → IsUnserved group.book.entries
-unserved_loaded state c flash group loaded = unserved-begun group.book.entries loaded.entries_are
 
 -- a trace that is found is one that a session takes
 pub trace_served : {X : Type 0} (items : X → List Command) (c d : DriveConfig) (xs : List X) → d ≡ c → All (λ x. IsServable c (items x)) xs → All (λ x. IsTrace d (items x)) xs
@@ -87,81 +79,73 @@ kept-first c f es m image first s = record {
 
 -- ---- the whole run
 
--- the opening, as steps of the drive that it gives
-opened : {F : Type 0} (state : F → FlashState) (c : DriveConfig) (handed : F) (old : Seen F) → IsLoaded state c handed old → Runs (state handed) (state old.flash) (λ m image. StandsForKept c old.book.found old.book.entries 0 m image)
-opened state c handed old loaded =
-    runs_weakened (state handed) (state old.flash) (λ m image. StandsForBeginning c old.book.found old.book.entries 0 image) (λ m image. StandsForKept c old.book.found old.book.entries 0 m image) loaded.stops
-    (λ told m image above most stands. kept-first c old.book.found old.book.entries m image loaded.entries_are stands)
-
--- what a stop in the opening or in a step may leave
-run-images : {F : Type 0} (state : F → FlashState) (c : DriveConfig) (handed : F) (old new : Seen F) (xs : List Entry) → HasServed state c handed old new → Grows state old new xs →
-    Runs (state handed) (state new.flash) (λ m image. StandsForKept new.book.config new.book.found new.book.entries 0 m image)
-run-images state c handed old new xs has grown = runs_joined (state handed) (state old.flash) (state new.flash) Image before behind where
-  Image : ℕ → List Cell → Type 0
-  Image = λ m image. StandsForKept new.book.config new.book.found new.book.entries 0 m image
-
-  before : Runs (state handed) (state old.flash) (λ m image. StandsForKept new.book.config new.book.found new.book.entries 0 m image)
-  before =
-      runs_weakened (state handed) (state old.flash) (λ m image. StandsForKept c old.book.found old.book.entries 0 m image) (λ m image. StandsForKept new.book.config new.book.found new.book.entries 0 m image) (opened state c handed old has.loaded)
-      (λ told m image above most stands.
-      subst (λ (x : DriveConfig). StandsForKept x new.book.found new.book.entries 0 m image) (sym (grown.config_is ∙ has.loaded.config_is))
-      (subst (λ (x : Found). StandsForKept c x new.book.entries 0 m image) (sym grown.found_is)
-      (subst (λ (es : List Entry). StandsForKept c old.book.found es 0 m image) (sym grown.entries_are)
-      (kept-grown c old.book.found old.book.entries xs 0 m image (each_later m (state old.flash).moment xs most grown.outlasts.late) stands))))
-
-  behind : Runs (state old.flash) (state new.flash) (λ m image. StandsForKept new.book.config new.book.found new.book.entries 0 m image)
-  behind =
-      runs_weakened (state old.flash) (state new.flash) (λ m image. StandsForKept old.book.config old.book.found new.book.entries old.keeper.firm m image) (λ m image. StandsForKept new.book.config new.book.found new.book.entries 0 m image) grown.outlasts.images
-      (λ told m image above most stands.
-      subst (λ (x : DriveConfig). StandsForKept x new.book.found new.book.entries 0 m image) (sym grown.config_is)
-      (subst (λ (x : Found). StandsForKept old.book.config x new.book.entries 0 m image) (sym grown.found_is)
-      (kept-less old.book.config old.book.found new.book.entries old.keeper.firm 0 m image (omega arith) stands)))
-
-config-is : {F : Type 0} (state : F → FlashState) (c : DriveConfig) (handed : F) (old new : Seen F) (xs : List Entry) → HasServed state c handed old new → Grows state old new xs → new.book.config ≡ c
-config-is state c handed old new xs has grown = grown.config_is ∙ has.loaded.config_is
-
--- its session
-run_by : {F : Type 0} (state : F → FlashState) (c : DriveConfig) (traces : List (List Command)) (end : End) (handed given : F) (old new : Seen F) → HasServed state c handed old new → given ≡ new.flash → IsSession state old new traces end →
-    IsRun state c traces end handed given new.book.found new.book.entries
-run_by {F} state c traces end handed given old new has same served = record {
-  old = old;
-  new = new;
-  loaded = has.loaded;
-  served = served;
-  found_is = refl;
-  entries_are = refl;
-  flash_is = sym same;
-  legal = subst (λ (f : F). IsLegalOver (state f) new.book) (sym same) has.legal;
-  orders = subst (λ (x : DriveConfig). KeepsOrders x traces new.book.entries) (config-is state c handed old new served.es has served.grown) served.orders;
-  others = served.others;
-  held = record {
-    counted = subst (λ (k : Counts). CountedSince k (state new.flash) (start_of new.book) new.book.entries) (served.grown.handed_is ∙ has.loaded.handed_is) has.counted;
-    cells = has.cells;
-    apart = has.apart;
-    firm = has.firm;
-    stops = record { images = run-images state c handed old new served.es has served.grown; cells = has.stands };
-  };
+-- a drive that was opened has served nothing yet
+pub just-opened : {F : Type 0} (state : F → FlashState) (c : DriveConfig) (handed : F) (old : Seen F) → IsLoaded state c handed old → IsJustOpened state old
+just-opened state c handed old loaded = record {
+  entries_are = loaded.entries_are;
+  safe = λ told m image above most there.
+      let run = loaded.stops in
+      subst (λ (x : DriveConfig). StandsForKept x old.book.found old.book.entries 0 m image) (sym loaded.config_is)
+      (kept-first c old.book.found old.book.entries m image loaded.entries_are
+      (run.images (sym run.told ∙ told) m image (subst (λ (h : Counts). h.moment < m) loaded.handed_is above) most there));
+  unfailing = λ reliable. loaded.faults ∙ sym (ap (λ (h : Counts). h.faults) loaded.handed_is);
 }
 
+config-is : {F : Type 0} (state : F → FlashState) (c : DriveConfig) (handed : F) (old new : Seen F) → HasServed state c handed old new → IsSameDrive state old new → new.book.config ≡ c
+config-is state c handed old new has same = same.config_is ∙ has.loaded.config_is
+
+handed-is : {F : Type 0} (state : F → FlashState) (c : DriveConfig) (handed : F) (old new : Seen F) → HasServed state c handed old new → IsSameDrive state old new → new.handed ≡ counts_of (state handed)
+handed-is state c handed old new has same = same.handed_is ∙ has.loaded.handed_is
+
+-- its session
+run_by : {F : Type 0} (state : F → FlashState) (c : DriveConfig) (traces : List (List Command)) (receipts : List (List Receipt)) (end : End) (handed given : F) (old new : Seen F) → HasServed state c handed old new → given ≡ new.flash → IsSession state old new traces receipts end →
+    IsRun state c traces end handed given new.book.found new.book.entries
+run_by {F} state c traces receipts end handed given old new has same served =
+    let is = handed-is state c handed old new has served.same in
+    record {
+      old = old;
+      new = new;
+      receipts = receipts;
+      loaded = has.loaded;
+      served = served;
+      found_is = refl;
+      entries_are = refl;
+      flash_is = sym same;
+      legal = subst (λ (f : F). IsLegalOver (state f) new.book) (sym same) has.legal;
+      orders = subst (λ (x : DriveConfig). KeepsOrders x traces new.book.entries) (config-is state c handed old new has served.same) served.orders;
+      others = served.others;
+      held = record {
+        told_is = served.same.told_is ∙ has.loaded.stops.told;
+        counted = subst (λ (k : Counts). CountedSince k (state new.flash) (start_of new.book) new.book.entries) is has.counted;
+        charged = subst (λ (k : Counts). AreCharged k.moment (state new.flash) new.book.entries) is served.charged;
+        unfailing = λ reliable. served.unfailing (served.same.reliable_is ∙ has.loaded.stops.reliable ∙ reliable) ∙ ap (λ (k : Counts). k.faults) is;
+        cells = has.cells;
+        apart = has.apart;
+        firm = has.firm;
+        stands = has.stands;
+        stops = subst (λ (k : Counts). IsSafeSince k.moment (state new.flash) new.book.config new.book.found new.book.entries) is served.safe;
+      };
+    }
+
 -- how the run ended whose session ended so, and was shown so
-pub ended : {F : Type 0} (state : F → FlashState) (form : Form) (c : DriveConfig) (traces : List (List Command)) (count : ℕ) (handed given : F) (old new : Seen F) (end : End) (sink sink' : SinkState) (status : ℕ) → count ≡ length traces → HasServed state c handed old new → given ≡ new.flash →
-    IsSession state old new traces end → Shows new.book end form count sink sink' status → EndsRun state form c traces handed given sink sink' status
-ended state form c traces count handed given old new ends.Whole sink sink' status is has same served shows =
-    let config = config-is state c handed old new served.es has served.grown in
+pub ended : {F : Type 0} (state : F → FlashState) (form : Form) (c : DriveConfig) (traces : List (List Command)) (receipts : List (List Receipt)) (count : ℕ) (handed given : F) (old new : Seen F) (end : End) (sink sink' : SinkState) (status : ℕ) → count ≡ length traces → HasServed state c handed old new → given ≡ new.flash →
+    IsSession state old new traces receipts end → Shows new.book end form count sink sink' status → EndsRun state form c traces handed given sink sink' status
+ended state form c traces receipts count handed given old new ends.Whole sink sink' status is has same served shows =
+    let config = config-is state c handed old new has served.same in
     inl (
       new.book.found,
       new.book.entries,
       record {
-        run = run_by state c traces ends.Whole handed given old new has same served;
-        whole = subst (λ (x : DriveConfig). HoldsTraces x traces new.book.entries) config served.ended;
+        run = run_by state c traces receipts ends.Whole handed given old new has same served;
+        whole = subst (λ (x : DriveConfig). HoldsTraces x traces new.book.entries) config served.ended.0;
       },
       subst (λ (k : ℕ). PrintsText (text_of form c new.book.found k new.book.entries) sink sink' status) is
           (subst (λ (x : DriveConfig). PrintsText (text_of form x new.book.found count new.book.entries) sink sink' status) config shows),
     )
-ended state form c traces count handed given old new ends.NoMemory sink sink' status is has same served shows =
-    inr (inl (shows.0, shows.1, (new.book.found, new.book.entries, run_by state c traces ends.NoMemory handed given old new has same served)))
-ended state form c traces count handed given old new ends.Turns sink sink' status is has same served shows =
-    inr (inr (inl (shows, (new.book.found, new.book.entries, run_by state c traces ends.Turns handed given old new has same served))))
+ended state form c traces receipts count handed given old new ends.NoMemory sink sink' status is has same served shows =
+    inr (inl (shows.0, shows.1, (new.book.found, new.book.entries, run_by state c traces receipts ends.NoMemory handed given old new has same served)))
+ended state form c traces receipts count handed given old new ends.Turns sink sink' status is has same served shows =
+    inr (inr (inl (shows, (new.book.found, new.book.entries, run_by state c traces receipts ends.Turns handed given old new has same served))))
 
 -- how the run ended that opened no drive
 pub not_opened : {F : Type 0} (state : F → FlashState) (form : Form) (c : DriveConfig) (traces : List (List Command)) (handed given : F) (cause : OpenFault) (sink sink' : SinkState) (status : ℕ) (fault : Fault) → IsNotLoaded state c handed (record { flash = given; cause = cause }) → fault ≡ of_opening cause →

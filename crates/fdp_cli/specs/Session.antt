@@ -3,39 +3,46 @@ use Rattle.std.specs.Prelude.{◌≡◌, IsTrue, List}
 use Rattle.fdp_base.specs.declared.command.Command.{Command}
 use Rattle.fdp_base.specs.declared.config.DriveConfig.{DriveConfig}
 use Rattle.fdp_base.specs.declared.entry.Entry.{Entry}
+use Rattle.fdp_board.specs.Board.{AreCharged, IsSafeSince}
 use Rattle.fdp_book.specs.Book.{point_in}
 use Rattle.fdp_core.specs.Loading.{IsLoaded}
 use Rattle.fdp_core.specs.Seen.{HoldsHistory, IsLegalOver, Seen}
-use Rattle.fdp_drive.specs.declared.session.End.{End}
-use Rattle.fdp_drive.specs.declared.session.End.TheVariants as ends
 use Rattle.fdp_drive.specs.Session.{HoldsTraces, IsSession, KeepsOrders, OnlyThese}
 use Rattle.fdp_flash.specs.FlashState.{FlashState}
-use Rattle.fdp_image.specs.Kept.{AreFirm, IsStopSafe}
+use Rattle.fdp_image.specs.Kept.{AreFirm, StandsForBeginning}
 use Rattle.fdp_isolation.specs.Begun.{OpenedApart}
 use Rattle.fdp_isolation.specs.Isolated.{IsIsolatedDrive}
 use Rattle.fdp_ledger.specs.Counted.{CountedSince, counts_of}
 use Rattle.fdp_ledger.specs.Start.{start_of}
 use Rattle.fdp_rules.specs.History.{Found}
+use Rattle.fdp_workers.specs.declared.ends.End.{End}
+use Rattle.fdp_workers.specs.declared.ends.End.TheVariants as ends
+use Rattle.fdp_workers.specs.declared.receipt.Receipt.{Receipt}
 
--- what the flash that is given back is to the history of its drive: it counted what the history tells since it was handed in, holds what the
--- history put into its pages, and data stands apart there. Where it tells its cells, these stand for a beginning of the history in which each
--- completed change is: what the next run goes on from. Whatever a stop in a call of the run may have left stands for a beginning with each
--- change that was completed at an earlier moment
+-- what the flash that is given back is to the history of its drive: it counted what the history tells since it was handed in, each media error has the moment
+-- of one of its calls that failed, and none did where it promises that; it holds what the history put into its pages, and data stands apart there. Where
+-- it tells its cells, these stand for a beginning of the history in which each completed change is: what the next run goes on from. Whatever a stop in
+-- a call of the run may have left stands for a beginning with each change that was completed at an earlier moment
 pub record HoldsRecord {F : Type 0} (state : F → FlashState) (handed : F) (group : Seen F) : Type 0 where
+  pub told_is : (state group.flash).told ≡ (state handed).told
   pub counted : CountedSince (counts_of (state handed)) (state group.flash) (start_of group.book) group.book.entries
+  pub charged : AreCharged (state handed).moment (state group.flash) group.book.entries
+  pub unfailing : IsTrue (state handed).reliable → (state group.flash).faults ≡ (state handed).faults
   pub cells : HoldsHistory (state group.flash) group.book
   pub apart : IsTrue (state group.flash).told → OpenedApart group.book.config group.book.found group.book.opened → IsIsolatedDrive group.book.config (point_in group.book) group.book.entries (state group.flash).cells
   pub firm : AreFirm group.book.entries group.keeper.firm
-  pub stops : IsStopSafe group.book.config group.book.found group.book.entries 0 group.keeper.firm (state handed) (state group.flash)
+  pub stands : IsTrue (state group.flash).told → StandsForBeginning group.book.config group.book.found group.book.entries group.keeper.firm (state group.flash).cells
+  pub stops : IsSafeSince (state handed).moment (state group.flash) group.book.config group.book.found group.book.entries
 
--- A drive of this configuration was opened on this flash, or made there, and served the traces to this end. What it began with is what the
--- image stood for; its history since is legal, and in it each queue has completed a beginning of its trace, in order, each command once. A queue
--- without a trace has completed nothing. The flash is given back.
+-- A drive of this configuration was opened on this flash, or made there, and served the traces to this end, with hosts and collectors beside one another. What
+-- it began with is what the image stood for; its history since is legal, and in it each queue has completed a beginning of its trace, in order, each command
+-- once. A queue without a trace has completed nothing. The flash is given back.
 pub record IsRun {F : Type 0} (state : F → FlashState) (c : DriveConfig) (traces : List (List Command)) (end : End) (handed given : F) (f : Found) (es : List Entry) : Type 0 where
   pub old : Seen F
   pub new : Seen F
+  pub receipts : List (List Receipt)
   pub loaded : IsLoaded state c handed old
-  pub served : IsSession state old new traces end
+  pub served : IsSession state old new traces receipts end
   pub found_is : new.book.found ≡ f
   pub entries_are : new.book.entries ≡ es
   pub flash_is : new.flash ≡ given
@@ -49,6 +56,6 @@ pub record IsRecordOf {F : Type 0} (state : F → FlashState) (c : DriveConfig) 
   pub run : IsRun state c traces ends.Whole handed given f es
   pub whole : HoldsTraces c traces es
 
--- it served a part of the traces: the next command needs a further step, and the drive has made all that it may make, or memory was wanting
+-- it served a part of the traces: a command needs a further step, and the drive has made all that it may make, or memory was wanting
 abbrev pub IsCut : {F : Type 0} → (F → FlashState) → DriveConfig → List (List Command) → End → F → F → Type 0
 IsCut state c traces end handed given = (f : Found) × (es : List Entry) × IsRun state c traces end handed given f es

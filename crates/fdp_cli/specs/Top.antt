@@ -7,8 +7,6 @@ use Rattle.fdp_base.specs.declared.entry.Entry.{Entry}
 use Rattle.fdp_base.specs.Placement.{geometry_of}
 use Rattle.fdp_book.specs.Book.{BookSeen}
 use Rattle.fdp_core.specs.Loading.{IsNotLoaded}
-use Rattle.fdp_drive.specs.declared.session.End.{End}
-use Rattle.fdp_drive.specs.declared.session.End.TheVariants as ends
 use Rattle.fdp_finding.specs.declared.asked.Form.{Form}
 use Rattle.fdp_finding.specs.declared.asked.Form.TheVariants as forms
 use Rattle.fdp_finding.specs.declared.fault.Fault.{Fault}
@@ -19,11 +17,14 @@ use Rattle.fdp_flash.specs.FlashState.{FlashState}
 use Rattle.fdp_io.specs.declared.bench.NotTaken.TheVariants as refusals
 use Rattle.fdp_io.specs.Bench.{BenchState, HandsOut, KeepsFlash, PutsBack, SameFlashes}
 use Rattle.fdp_io.specs.Sink.{Holds, HoldsFront, SinkState}
+use Rattle.fdp_make.specs.Summary.{summary_text, unrefuted_blocks}
 use Rattle.fdp_output.specs.HistoryText.{record_of}
 use Rattle.fdp_output.specs.RunOutput.{output_of}
 use Rattle.fdp_printing.specs.Printing.{HoldsSome}
 use Rattle.fdp_recovery.specs.declared.opened.OpenFault.{OpenFault}
 use Rattle.fdp_rules.specs.History.{Found}
+use Rattle.fdp_workers.specs.declared.ends.End.{End}
+use Rattle.fdp_workers.specs.declared.ends.End.TheVariants as ends
 use Rattle.fdp_cli.specs.Loading.{of_opening}
 use Rattle.fdp_cli.specs.Session.{IsCut, IsRecordOf}
 
@@ -36,10 +37,11 @@ Refuses old new fault status =
 
 -- ---- on a flash
 
--- the text of a run: its output, for a record with the history behind it
+-- the text of a run: its output, for a record with the history behind it, for a generated load its summary
 abbrev pub text_of : Form → DriveConfig → Found → ℕ → List Entry → List ℕ
 text_of forms.Run c f traces es = output_of c f traces es
 text_of forms.Record c f traces es = record_of c f traces es
+text_of (forms.Make number) c f traces es = summary_text number.now c.block es (unrefuted_blocks c.block es)
 
 -- the text of a run over a history
 abbrev pub text_in : Form → ℕ → BookSeen → List ℕ

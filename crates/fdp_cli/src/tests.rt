@@ -1,7 +1,9 @@
 use crate::drive_top;
-use fdp_io::{BenchMem, SinkMem};
+use fdp_io::{BenchMem, OpenGate, SinkMem};
 use std::alloc::{AllocError, Global};
+use std::sync::Wait;
 use std::test::Fail;
+use std::thread::Threads;
 
 mod calls;
 mod configurations;
@@ -58,7 +60,11 @@ fn failing(alloc: Global, call: Option<u64>) -> Result<Vec<u64>, AllocError> {
 }
 
 /// The status of a run, and what its sink then holds.
-fn outcome(alloc: Global, run: &Run) -> Result<(u8, Vec<u8>), AllocError> {
+fn outcome<R: Threads + Wait + Sync>(
+    rt: &R,
+    alloc: Global,
+    run: &Run,
+) -> Result<(u8, Vec<u8>), AllocError> {
     let mut words = Vec::new(alloc);
     for word in run.words {
         words.push(String::from_str(alloc, word)?)?;
@@ -67,17 +73,29 @@ fn outcome(alloc: Global, run: &Run) -> Result<(u8, Vec<u8>), AllocError> {
     bench.add(alloc, "c", run.config)?;
     bench.add(alloc, "t", run.trace)?;
     let mut sink = SinkMem::new(alloc, AMPLE, failing(alloc, run.sink_fails)?)?;
-    let status = drive_top(alloc, &words, &mut bench, &mut sink);
+    let status = drive_top(rt, alloc, &words, &mut bench, &mut sink, &OpenGate);
     Ok((status, Vec::from_slice(alloc, sink.bytes())?))
 }
 
 /// Whether a run ends with a status, and its sink then holds a text.
-fn ends(alloc: Global, run: &Run, status: u8, output: &[u8]) -> Result<bool, AllocError> {
-    let (ended, held) = outcome(alloc, run)?;
+fn ends<R: Threads + Wait + Sync>(
+    rt: &R,
+    alloc: Global,
+    run: &Run,
+    status: u8,
+    output: &[u8],
+) -> Result<bool, AllocError> {
+    let (ended, held) = outcome(rt, alloc, run)?;
     Ok(ended == status && held.as_slice() == output)
 }
 
 /// Whether a trace on drive S ends with a status and an output.
-fn serves(alloc: Global, trace: &[u8], status: u8, output: &[u8]) -> Result<bool, AllocError> {
-    ends(alloc, &run_of(&RUN, DRIVE_S, trace), status, output)
+fn serves<R: Threads + Wait + Sync>(
+    rt: &R,
+    alloc: Global,
+    trace: &[u8],
+    status: u8,
+    output: &[u8],
+) -> Result<bool, AllocError> {
+    ends(rt, alloc, &run_of(&RUN, DRIVE_S, trace), status, output)
 }

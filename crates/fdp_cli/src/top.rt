@@ -3,6 +3,7 @@ ghost use Rattle.fdp_base.specs.Config.{IsValidConfig};
 ghost use Rattle.fdp_finding.specs.Traced.{IsServable};
 ghost use Rattle.fdp_finding.specs.Wanted.{commands_of};
 ghost use Rattle.fdp_io.specs.Bench.{SameTexts};
+ghost use Rattle.fdp_make.specs.Summary.{summary_text, unrefuted_blocks};
 ghost use Rattle.fdp_printing.specs.Closing.{IsClosing};
 ghost use Rattle.fdp_printing.specs.Printing.{CountsCut, Prints};
 ghost use Rattle.fdp_rules.specs.History.{Found, point_of};
@@ -10,30 +11,36 @@ ghost use Rattle.fdp_cli.specs.Top.{Answers, EndsRun, PrintsText, Refuses, RunsO
 
 use crate::closing::closing_of;
 use crate::loading::fault_of;
-use fdp_base::{DriveConfig, Entry};
+use fdp_base::{Command, DriveConfig, Entry};
 use fdp_core::{Group, NotLoaded};
 use fdp_drive::{End, SessionEnd, run_session};
 use fdp_finding::{Fault, Form, Wanted, find, push_fault};
 use fdp_flash::Flash;
-use fdp_io::{Bench, NotTaken, Sink, write_all};
+use fdp_io::{Bench, Gate, NotTaken, Sink, write_all};
+use fdp_make::{push_summary, summary_of};
 use fdp_printing::{Closing, Cut, print_output, print_record};
 use std::alloc::Global;
+use std::sync::Wait;
+use std::thread::Threads;
 
-/// Serves the traces that the words ask for on the drive in the image that they name, which is made where there is none, each in its queue; prints
-/// the output, for `record` with the history behind it, and answers the status of the run:
+/// Serves the traces that the words ask for on the drive in the image that they name, which is made where there is none, each by a host of its own in its
+/// queue, with the collectors that the configuration asks for beside them; prints the output, for `record` with the history behind it, for `make` a summary in its
+/// place, and answers the status of the run:
 ///
 /// - 0: the traces were served, and the sink took the whole text.
-/// - 1, 2, 3, 4, 5, 6, 10: what [`Fault`] says; the sink took the line of the fault.
+/// - 1, 2, 3, 4, 5, 6: what [`Fault`] says; the sink took the line of the fault.
 /// - 7: memory was wanting.
 /// - 8: a write of the sink failed.
 /// - 9: the traces need more steps than a drive may make; the sink took the line of that fault.
 ///
 /// A flash that was taken is given back, whatever the status.
-pub fn drive_top<B: Bench, K: Sink>(
+pub fn drive_top<B: Bench, K: Sink, G: Gate + Sync, R: Threads + Wait + Sync>(
+    rt: &R,
     alloc: Global,
     words: &[String],
     bench: &mut B,
     sink: &mut K,
+    gate: &G,
 ) -> u8
     ensures texts { SameTexts (B.state bench.old) (B.state bench.new) }
     ensures bench_faults { (B.state bench.old).faults ≤ (B.state bench.new).faults }
@@ -43,7 +50,7 @@ pub fn drive_top<B: Bench, K: Sink>(
     ensures answers { Answers B.F.state (B.state bench.old) (B.state bench.new) words.now (K.state sink.old) (K.state sink.new) result }
 {
     match find(alloc, words, bench) {
-        Ok(wanted) => run(alloc, &wanted, bench, sink),
+        Ok(wanted) => run(rt, alloc, wanted, bench, sink, gate),
         Err(fault) => refuse(alloc, fault, sink),
     }
 }
@@ -66,21 +73,34 @@ fn refuse<K: Sink>(alloc: Global, fault: Fault, sink: &mut K) -> u8
 }
 
 /// Takes the flash of the image, serves the traces on it, and gives it back.
-fn run<B: Bench, K: Sink>(alloc: Global, wanted: &Wanted<'_>, bench: &mut B, sink: &mut K) -> u8
-    requires valid { IsValidConfig wanted.now.config }
-    requires servable { All (λ trace. IsServable wanted.now.config trace.items) wanted.now.traces.items }
-    requires queued { length wanted.now.traces.items ≤ wanted.now.config.queues }
+fn run<B: Bench, K: Sink, G: Gate + Sync, R: Threads + Wait + Sync>(
+    rt: &R,
+    alloc: Global,
+    wanted: Wanted<'_>,
+    bench: &mut B,
+    sink: &mut K,
+    gate: &G,
+) -> u8
+    requires valid { IsValidConfig wanted.config }
+    requires servable { All (λ trace. IsServable wanted.config trace.items) wanted.traces.items }
+    requires queued { length wanted.traces.items ≤ wanted.config.queues }
     ensures texts { SameTexts (B.state bench.old) (B.state bench.new) }
     ensures bench_faults { (B.state bench.old).faults ≤ (B.state bench.new).faults }
     ensures told { (K.state sink.new).told ≡ (K.state sink.old).told }
     ensures faults { (K.state sink.old).faults ≤ (K.state sink.new).faults }
     ensures unfailing { result ≢ 8 → (K.state sink.new).faults ≡ (K.state sink.old).faults }
-    ensures runs { RunsOnImage B.F.state (B.state bench.old) (B.state bench.new) wanted.now.form wanted.now.config wanted.now.image.now (commands_of wanted.now.traces.items) (K.state sink.old) (K.state sink.new) result }
+    ensures runs { RunsOnImage B.F.state (B.state bench.old) (B.state bench.new) wanted.entry.form wanted.entry.config wanted.entry.image.now (commands_of wanted.entry.traces.items) (K.state sink.old) (K.state sink.new) result }
 {
-    match bench.take_flash(alloc, wanted.image, wanted.config.geometry()) {
+    let Wanted {
+        form,
+        config,
+        image,
+        traces,
+    } = wanted;
+    match bench.take_flash(alloc, image, config.geometry()) {
         Ok(flash) => {
-            let end = run_on(alloc, flash, wanted, sink);
-            bench.give_flash(wanted.image, end.flash);
+            let end = run_on(rt, alloc, flash, form, &config, traces, sink, gate);
+            bench.give_flash(image, end.flash);
             end.status
         }
         Err(NotTaken::Failed) => refuse(alloc, Fault::Flash, sink),
@@ -96,25 +116,34 @@ struct RunEnd<F> {
 }
 
 /// Opens the drive on a flash, or makes one, serves the traces, and prints what there is to print.
-fn run_on<F: Flash + Drop, K: Sink>(
+fn run_on<F: Flash + Send + Drop, K: Sink, G: Gate + Sync, R: Threads + Wait + Sync>(
+    rt: &R,
     alloc: Global,
     flash: F,
-    wanted: &Wanted<'_>,
+    form: Form<'_>,
+    config: &DriveConfig,
+    traces: Vec<Vec<Command>>,
     sink: &mut K,
+    gate: &G,
 ) -> RunEnd<F>
-    requires valid { IsValidConfig wanted.now.config }
-    requires servable { All (λ trace. IsServable wanted.now.config trace.items) wanted.now.traces.items }
-    requires queued { length wanted.now.traces.items ≤ wanted.now.config.queues }
+    requires valid { IsValidConfig config.now }
+    requires servable { All (λ trace. IsServable config.now trace.items) traces.items }
+    requires queued { length traces.items ≤ config.now.queues }
     ensures told { (K.state sink.new).told ≡ (K.state sink.old).told }
     ensures faults { (K.state sink.old).faults ≤ (K.state sink.new).faults }
     ensures unfailing { result.status ≢ 8 → (K.state sink.new).faults ≡ (K.state sink.old).faults }
-    ensures ends { EndsRun F.state wanted.now.form wanted.now.config (commands_of wanted.now.traces.items) flash result.flash (K.state sink.old) (K.state sink.new) result.status }
+    ensures ends { EndsRun F.state form.entry config.now (commands_of traces.items) flash result.flash (K.state sink.old) (K.state sink.new) result.status }
 {
-    match Group::load(alloc, flash, &wanted.config) {
+    match Group::load(alloc, flash, config) {
         Ok(group) => {
-            let SessionEnd { group, end } = run_session(alloc, group, &wanted.traces);
-            let traces = wanted.traces.len() as u8;
-            let status = show(alloc, &group, end, wanted.form, traces, sink);
+            let count = traces.len() as u8;
+            let (collectors, turns) = (config.collectors, config.turns);
+            let SessionEnd {
+                group,
+                receipts: _,
+                end,
+            } = run_session(rt, alloc, group, traces, collectors, turns, gate);
+            let status = show(alloc, &group, end, form, count, sink);
             let (flash, _entries) = group.finish();
             RunEnd { flash, status }
         }
@@ -130,14 +159,14 @@ fn show<F: Flash, K: Sink>(
     alloc: Global,
     group: &Group<F>,
     end: End,
-    form: Form,
+    form: Form<'_>,
     traces: u8,
     sink: &mut K,
 ) -> u8
     ensures told { (K.state sink.new).told ≡ (K.state sink.old).told }
     ensures faults { (K.state sink.old).faults ≤ (K.state sink.new).faults }
     ensures unfailing { result ≢ 8 → (K.state sink.new).faults ≡ (K.state sink.old).faults }
-    ensures shows { Shows group.now.book end form traces (K.state sink.old) (K.state sink.new) result }
+    ensures shows { Shows group.now.book end form.entry traces (K.state sink.old) (K.state sink.new) result }
 {
     match end {
         End::Whole => print(alloc, group, form, traces, sink),
@@ -146,18 +175,18 @@ fn show<F: Flash, K: Sink>(
     }
 }
 
-/// Prints the output of a run of so many traces, for a record with the history behind it.
+/// Prints the text of a run of so many traces: its output, for a record with the history behind it, for a generated load its summary.
 fn print<F: Flash, K: Sink>(
     alloc: Global,
     group: &Group<F>,
-    form: Form,
+    form: Form<'_>,
     traces: u8,
     sink: &mut K,
 ) -> u8
     ensures told { (K.state sink.new).told ≡ (K.state sink.old).told }
     ensures faults { (K.state sink.old).faults ≤ (K.state sink.new).faults }
     ensures unfailing { result ≢ 8 → (K.state sink.new).faults ≡ (K.state sink.old).faults }
-    ensures prints { PrintsText (text_in form traces group.now.book) (K.state sink.old) (K.state sink.new) result }
+    ensures prints { PrintsText (text_in form.entry traces group.now.book) (K.state sink.old) (K.state sink.new) result }
 {
     let Ok(closing) = closing_of(alloc, group) else {
         return 7;
@@ -173,7 +202,7 @@ fn print<F: Flash, K: Sink>(
 /// Prints the text of a form of run.
 fn print_text<K: Sink>(
     alloc: Global,
-    form: Form,
+    form: Form<'_>,
     config: &DriveConfig,
     entries: &[Entry],
     traces: u8,
@@ -184,10 +213,37 @@ fn print_text<K: Sink>(
     ensures faults { (K.state sink.old).faults ≤ (K.state sink.new).faults }
     ensures counts { CountsCut (K.state sink.old).faults (K.state sink.new).faults result }
     ensures ends { (f : Found) → IsClosing config.now (point_of config.now f entries.now) closing.now
-        → Prints (K.state sink.old) (K.state sink.new) (text_of form config.now f traces entries.now) result }
+        → Prints (K.state sink.old) (K.state sink.new) (text_of form.entry config.now f traces entries.now) result }
 {
     match form {
         Form::Run => print_output(alloc, config, entries, traces, closing, sink),
         Form::Record => print_record(alloc, config, entries, traces, closing, sink),
+        Form::Make(number) => print_summary(alloc, number, config.block, entries, sink),
+    }
+}
+
+/// Prints what a generated load came to, whose number of commands was given so, on a drive with blocks of so many bytes.
+fn print_summary<K: Sink>(
+    alloc: Global,
+    number: &str,
+    block: u32,
+    entries: &[Entry],
+    sink: &mut K,
+) -> Result<(), Cut>
+    ensures told { (K.state sink.new).told ≡ (K.state sink.old).told }
+    ensures faults { (K.state sink.old).faults ≤ (K.state sink.new).faults }
+    ensures counts { CountsCut (K.state sink.old).faults (K.state sink.new).faults result }
+    ensures ends { Prints (K.state sink.old) (K.state sink.new) (summary_text number.now block entries.now (unrefuted_blocks block entries.now)) result }
+{
+    let Ok(summary) = summary_of(alloc, entries, block) else {
+        return Err(Cut::NoMemory);
+    };
+    let mut text = Vec::new(alloc);
+    if push_summary(number, &summary, &mut text).is_err() {
+        return Err(Cut::NoMemory);
+    }
+    match write_all(sink, &text) {
+        Ok(()) => Ok(()),
+        Err(_failed) => Err(Cut::Sink),
     }
 }

@@ -2,6 +2,7 @@
 #![tactic(auto)]
 
 mod image;
+mod in_turn;
 mod repeat;
 mod rows;
 mod text;
@@ -16,7 +17,7 @@ fn main(rt: HostRuntime) -> io::Result<()> {
     let mut rows = Rows::new(rt.alloc());
     let mut output = Vec::new(rt.alloc());
     for line in script.split(|byte| *byte == b'\n') {
-        rows.take(rt.alloc(), line, &mut output)?;
+        rows.take(&rt, rt.alloc(), line, &mut output)?;
     }
     io::writer(&rt).write_all(&output)
 }

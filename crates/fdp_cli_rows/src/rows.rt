@@ -1,9 +1,13 @@
 use crate::image::Image;
+use crate::in_turn::InTurn;
 use crate::repeat::Repeat;
 use crate::text::Text;
 use fdp_cli::drive_top;
 use fdp_io::{BenchMem, SinkMem};
+use fdp_trace::read_trace;
 use std::alloc::{AllocError, Global};
+use std::sync::Wait;
+use std::thread::Threads;
 
 /// Room for every output of these rows.
 const AMPLE: usize = 1 << 20;
@@ -36,8 +40,9 @@ impl Rows {
     }
 
     /// Takes a line: one of a text, or a command.
-    pub fn take(
+    pub fn take<R: Threads + Wait + Sync>(
         &mut self,
+        rt: &R,
         alloc: Global,
         line: &[u8],
         output: &mut Vec<u8>,
@@ -45,7 +50,7 @@ impl Rows {
         match self.open.take() {
             Some(text) => self.go_on(alloc, text, line),
             None => match str::from_utf8(line) {
-                Ok(line) => self.command(alloc, line, output),
+                Ok(line) => self.command(rt, alloc, line, output),
                 Err(_) => Ok(()),
             },
         }
@@ -87,8 +92,9 @@ impl Rows {
     /// `text NAME` begins a text; `bench N` and `sink N` let that call of the next run fail, and `room N` gives its sink so
     /// much room; `again` lets it find the flash that the last run left, `tear PAGE` tears a page of that, and `flash N` lets it find a blank
     /// flash whose call N fails; `run WORD..` makes it. An underscore is an empty word.
-    fn command(
+    fn command<R: Threads + Wait + Sync>(
         &mut self,
+        rt: &R,
         alloc: Global,
         line: &str,
         output: &mut Vec<u8>,
@@ -102,13 +108,19 @@ impl Rows {
             "again" => self.image.stay(),
             "tear" => self.image.tear(alloc, rest.parse().unwrap_or(usize::MAX))?,
             "flash" => self.image.fail(alloc, rest.parse().unwrap_or(0))?,
-            "run" => self.run(alloc, rest, output)?,
+            "run" => self.run(rt, alloc, rest, output)?,
             _ => {}
         }
         Ok(())
     }
 
-    fn run(&mut self, alloc: Global, words: &str, output: &mut Vec<u8>) -> Result<(), AllocError> {
+    fn run<R: Threads + Wait + Sync>(
+        &mut self,
+        rt: &R,
+        alloc: Global,
+        words: &str,
+        output: &mut Vec<u8>,
+    ) -> Result<(), AllocError> {
         let words = words_of(alloc, words)?;
         let mut bench = BenchMem::new(alloc, failing(alloc, self.bench_fails.take())?);
         for text in self.texts.iter().rev() {
@@ -118,9 +130,35 @@ impl Rows {
         self.image.lay(alloc, &mut bench, image)?;
         let mut sink = SinkMem::new(alloc, self.room, failing(alloc, self.sink_fails.take())?)?;
         self.room = AMPLE;
-        let status = drive_top(alloc, &words, &mut bench, &mut sink);
+        let gate = self.gate_of(alloc, &words)?;
+        let status = drive_top(rt, alloc, &words, &mut bench, &mut sink, &gate);
         self.image.keep(alloc, &mut bench, image);
         push_end(alloc, status, sink.bytes(), output)
+    }
+
+    /// A gate with which the traces of a run are served one after another.
+    fn gate_of(&self, alloc: Global, words: &[String]) -> Result<InTurn, AllocError> {
+        let mut gate = InTurn::open(alloc);
+        for word in words.iter().skip(3) {
+            gate.add(self.commands_of(alloc, word.as_str()))?;
+        }
+        Ok(gate)
+    }
+
+    /// How many commands the trace of a name has, none where there is none.
+    fn commands_of(&self, alloc: Global, name: &str) -> usize {
+        let Some(text) = self
+            .texts
+            .iter()
+            .rev()
+            .find(|text| text.name.as_str() == name)
+        else {
+            return 0;
+        };
+        match read_trace(alloc, &text.bytes) {
+            Ok(commands) => commands.len(),
+            Err(_) => 0,
+        }
     }
 }
 

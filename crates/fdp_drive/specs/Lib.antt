@@ -1,4 +1,1 @@
-pub mod Exchange
-pub mod Serving
 pub mod Session
-pub mod Stopping

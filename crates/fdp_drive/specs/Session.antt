@@ -1,36 +1,21 @@
--- What a session of several traces does to the history of a group.
-use Rattle.std.specs.Prelude.{◌≡◌, ℕ, ◌-◌, ◌^◌, ◌<◌, ◌≤◌, All, IsNone, List, [], get_or, length, Result, Ok, Err, ⊤}
+-- What a session of several traces does to the history of a drive.
+use Rattle.std.specs.Prelude.{◌≡◌, ◌≢◌, ℕ, ◌^◌, ◌<◌, ◌≤◌, List, length, ⊤}
+use mathlib.Core.List.{IsPrefix}
 use Rattle.fdp_base.specs.declared.command.Command.{Command}
 use Rattle.fdp_base.specs.declared.config.DriveConfig.{DriveConfig}
 use Rattle.fdp_base.specs.declared.entry.Entry.{Entry}
-use Rattle.fdp_base.specs.declared.limits.TheConstants.{MOST_TRACE_COMMANDS}
-use Rattle.fdp_base.specs.CommandKinds.{IsWellFormed}
-use Rattle.fdp_base.specs.EntryKinds.{host_of, started_of}
+use Rattle.fdp_board.specs.Board.{AreCharged, IsSafeSince, IsUnfailing}
 use Rattle.fdp_book.specs.Book.{BookSeen}
 use Rattle.fdp_core.specs.Seen.{Seen}
+use Rattle.fdp_crews.specs.Crews.{trace_of}
+use Rattle.fdp_crews.specs.Shifts.{AreReceipts}
 use Rattle.fdp_flash.specs.FlashState.{FlashState}
 use Rattle.fdp_rules.specs.Queue.{HoldsWhole, IsSilent, KeepsQueueOrder}
 use Rattle.fdp_rules.specs.Step.{IsQueue}
-use Rattle.fdp_drive.specs.declared.session.End.{End}
-use Rattle.fdp_drive.specs.declared.session.End.TheVariants as ends
-use Rattle.fdp_drive.specs.declared.steps.Stop.{Stop}
-use Rattle.fdp_drive.specs.declared.steps.Stop.TheVariants as stops
-use Rattle.fdp_drive.specs.Serving.{Grows}
-
--- ---- what is asked for
-
--- each command of a trace is well formed, and they are no more than a trace may have
-pub record IsTrace (c : DriveConfig) (trace : List Command) : Type 0 where
-  pub formed : All (IsWellFormed c) trace
-  pub few : length trace ≤ MOST_TRACE_COMMANDS
-
--- the trace of a queue: queue 1 has the first one. A queue without a trace counts as one with an empty trace
-abbrev pub trace_of : List (List Command) → ℕ → List Command
-trace_of traces queue = get_or traces (queue - 1) []
-
--- no command is completed yet, and no write was let go
-abbrev pub IsUnserved : List Entry → Type 0
-IsUnserved es = All (λ e. IsNone (host_of e) × IsNone (started_of e)) es
+use Rattle.fdp_workers.specs.declared.ends.End.{End}
+use Rattle.fdp_workers.specs.declared.ends.End.TheVariants as ends
+use Rattle.fdp_workers.specs.declared.receipt.Receipt.{Receipt}
+use Rattle.fdp_workers.specs.Queues.{times_started}
 
 -- ---- what each queue gets
 
@@ -46,6 +31,10 @@ HoldsTraces c traces es = (queue : ℕ) → IsQueue c queue → HoldsWhole queue
 abbrev pub OnlyThese : List (List Command) → List Entry → Type 0
 OnlyThese traces es = (queue : ℕ) → length traces < queue → IsSilent queue es
 
+-- no queue started a command twice
+abbrev pub StartsOnce : List Entry → Type 0
+StartsOnce es = (queue number : ℕ) → queue ≢ 0 → times_started queue number es ≤ 1
+
 -- a queue has not completed its whole trace
 pub record HasLeft (c : DriveConfig) (traces : List (List Command)) (es : List Entry) : Type 0 where
   pub queue : ℕ
@@ -54,22 +43,33 @@ pub record HasLeft (c : DriveConfig) (traces : List (List Command)) (es : List E
 
 -- ---- the end
 
--- how a session ends that served all traces, or was stopped
-abbrev pub end_of : Result ⊤ Stop → End
-end_of (Ok done) = ends.Whole
-end_of (Err stops.Turns) = ends.Turns
-end_of (Err stops.NoMemory) = ends.NoMemory
+-- each trace is whole, and its receipts are there; or one is not, since no further step may be made. Of want of memory nothing more is said
+abbrev pub EndsAs : BookSeen → List (List Command) → List (List Receipt) → End → Type 0
+EndsAs b traces receipts ends.Whole = HoldsTraces b.config traces b.entries × (length receipts ≡ length traces)
+EndsAs b traces receipts ends.Turns = HasLeft b.config traces b.entries × (b.spent ≡ 2 ^ 30)
+EndsAs b traces receipts ends.NoMemory = ⊤
 
--- each trace is whole; or one is not, since no further step may be made, or since memory was wanting while one might be made
-abbrev pub EndsAs : BookSeen → List (List Command) → End → Type 0
-EndsAs b traces ends.Whole = HoldsTraces b.config traces b.entries
-EndsAs b traces ends.Turns = HasLeft b.config traces b.entries × (b.spent ≡ 2 ^ 30)
-EndsAs b traces ends.NoMemory = HasLeft b.config traces b.entries × (b.spent < 2 ^ 30)
+-- the drive is the same one, over the same flash, and began with the same
+pub record IsSameDrive {F : Type 0} (state : F → FlashState) (old new : Seen F) : Type 0 where
+  pub config_is : new.book.config ≡ old.book.config
+  pub found_is : new.book.found ≡ old.book.found
+  pub opened_is : new.book.opened ≡ old.book.opened
+  pub handed_is : new.handed ≡ old.handed
+  pub told_is : (state new.flash).told ≡ (state old.flash).told
+  pub images_are : (state new.flash).tells_images ≡ (state old.flash).tells_images
+  pub reliable_is : (state new.flash).reliable ≡ (state old.flash).reliable
 
--- steps were added to the history, in which each queue was served its trace to this end
-pub record IsSession {F : Type 0} (state : F → FlashState) (old new : Seen F) (traces : List (List Command)) (end : End) : Type 0 where
-  pub es : List Entry
-  pub grown : Grows state old new es
+-- Entries were added to the history, in which each queue was served its trace to this end, whatever the order of the steps of hosts and collectors. The
+-- receipts of a trace are the completions of its queue. Whatever a stop since the flash was handed in may have left stands for a beginning of the history
+-- with each change that was completed at an earlier moment; each media error has the moment of a call that failed since.
+pub record IsSession {F : Type 0} (state : F → FlashState) (old new : Seen F) (traces : List (List Command)) (receipts : List (List Receipt)) (end : End) : Type 0 where
+  pub same : IsSameDrive state old new
+  pub goes_on : IsPrefix old.book.entries new.book.entries
   pub orders : KeepsOrders new.book.config traces new.book.entries
+  pub once : StartsOnce new.book.entries
   pub others : OnlyThese traces new.book.entries
-  pub ended : EndsAs new.book traces end
+  pub receipts_are : AreReceipts new.book.found traces receipts new.book.entries
+  pub ended : EndsAs new.book traces receipts end
+  pub safe : IsSafeSince new.handed.moment (state new.flash) new.book.config new.book.found new.book.entries
+  pub charged : AreCharged new.handed.moment (state new.flash) new.book.entries
+  pub unfailing : IsUnfailing new.handed (state new.flash)

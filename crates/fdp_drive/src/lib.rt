@@ -1,10 +1,7 @@
-//! Sessions of a drive: the traces of several queues, served one after another.
+//! Sessions of a drive: the traces of several queues, served by hosts beside one another, with collectors beside them.
 #![tactic(auto)]
 
-mod completion;
-mod exchange;
-mod serving;
 mod session;
-mod steps;
 
-pub use session::{End, SessionEnd, run_session};
+pub use fdp_workers::{End, Receipt};
+pub use session::{SessionEnd, run_session};

@@ -1,56 +1,95 @@
-ghost use Rattle.std.specs.Prelude.{◌≡◌, ◌≤◌, All, length, map};
-ghost use Rattle.fdp_drive.specs.Session.{IsSession, IsTrace, IsUnserved, end_of};
+ghost use Rattle.std.specs.Prelude.{◌≡◌, ◌≤◌, [], All, length, map};
+ghost use Rattle.fdp_board.specs.Board.{IsJustOpened};
+ghost use Rattle.fdp_crews.specs.Crews.{IsTrace};
+ghost use Rattle.fdp_drive.specs.Session.{IsSession};
+ghost use Rattle.fdp_gauge.specs.Passes.{IsPassOf, IsTellerOf};
+ghost use Rattle.fdp_workers.specs.declared.ends.End.TheVariants as ends;
 
-use crate::serving::serve_all;
-use crate::steps::Stop;
 use fdp_base::Command;
+use fdp_board::Board;
 use fdp_core::Group;
+use fdp_crews::{Shift, serve_traces};
 use fdp_flash::Flash;
+use fdp_gauge::{Gauge, Pass, Teller};
+use fdp_io::Gate;
+use fdp_workers::{End, Receipt};
 use std::alloc::Global;
+use std::sync::Wait;
+use std::thread::Threads;
 
-/// How a session ended.
-#[derive(Clone, Copy, Debug, PartialEq, Eq)]
-pub enum End {
-    /// Each trace was served to its end.
-    Whole,
-    NoMemory,
-    /// A further step is needed, and the drive has made all that it may make.
-    Turns,
-}
-
-/// A drive behind a session, and how that ended.
+/// A drive behind a session, the receipts of each trace, and how the session ended. Where it ended whole there is a list of receipts for each trace.
 #[derive(Drop)]
 pub struct SessionEnd<F: Flash> {
     pub group: Group<F>,
+    pub receipts: Vec<Vec<Receipt>>,
     pub end: End,
 }
 
-/// Serves whole traces in turn, the first in queue 1: each command goes through the pair of its queue. A queue without a trace counts as one
-/// with an empty trace.
-pub fn run_session<F: Flash>(
+/// Serves these traces on a drive that was just opened: each by a host of its own, the first in queue 1, each command through the pair of its queue, with so
+/// many collectors beside them that take at most so many turns each. Hosts and collectors work on threads of their own and take turns with the drive, one
+/// step a turn. A queue without a trace counts as one with an empty trace.
+pub fn run_session<F: Flash + Send + Drop, G: Gate + Sync, R: Threads + Wait + Sync>(
+    rt: &R,
     alloc: Global,
     group: Group<F>,
-    traces: &[Vec<Command>],
+    traces: Vec<Vec<Command>>,
+    collectors: u8,
+    turns: u32,
+    gate: &G,
 ) -> SessionEnd<F>
-    requires traces { All (λ trace. IsTrace group.book.config trace.items) traces.now }
-    requires queues { length traces.now ≤ group.book.config.queues }
-    requires unserved { IsUnserved group.book.entries }
-    ensures { IsSession F.state group result.group (map (λ trace. trace.items) traces.now) result.end }
+    requires opened { IsJustOpened F.state group }
+    requires traces { All (λ trace. IsTrace group.book.config trace.items) traces.items }
+    requires queues { length traces.items ≤ group.book.config.queues }
+    requires few { collectors ≤ 8 }
+    ensures { IsSession F.state group result.group (map (λ trace. trace.items) traces.items) (map (λ got. got.items) result.receipts.items) result.end }
 {
-    let mut group = group;
-    let served = serve_all(alloc, &mut group, traces);
+    let Ok(config) = group.config().copied() else {
+        return unserved(alloc, group);
+    };
+    let workers = traces.len() + usize::from(collectors);
+    let Ok(passes) = Vec::with_capacity(alloc, workers + 1) else {
+        return unserved(alloc, group);
+    };
+    let Ok((gauge, teller, pass)) = Gauge::new(alloc) else {
+        return unserved(alloc, group);
+    };
+    let board = Board::new(group, teller);
+    let Shift {
+        value,
+        passes,
+        receipts,
+        end,
+    } = serve_traces(
+        rt, alloc, board, &gauge, pass, passes, gate, &config, traces, collectors, turns,
+    );
+    let (group, mut teller) = value.into_parts();
+    settle_all(rt, &gauge, &mut teller, passes);
     SessionEnd {
         group,
-        end: end_of(served),
+        receipts,
+        end,
     }
 }
 
-fn end_of(served: Result<(), Stop>) -> End
-    ensures { result ≡ end_of served }
+/// A session for which there is no memory: nothing was served.
+fn unserved<F: Flash>(alloc: Global, group: Group<F>) -> SessionEnd<F>
+    ensures group { result.group ≡ group }
+    ensures receipts { result.receipts.items ≡ [] }
+    ensures end { result.end ≡ ends.NoMemory }
 {
-    match served {
-        Ok(()) => End::Whole,
-        Err(Stop::NoMemory) => End::NoMemory,
-        Err(Stop::Turns) => End::Turns,
+    SessionEnd {
+        group,
+        receipts: Vec::new(alloc),
+        end: End::NoMemory,
+    }
+}
+
+/// Ends the passes of a gauge: what each has seen is a beginning of what the teller has told.
+fn settle_all<R: Wait>(rt: &R, gauge: &Gauge, teller: &mut Teller, passes: Vec<Pass>)
+    requires of_gauge { IsTellerOf gauge.now teller.old }
+    requires passes { All (λ pass. IsPassOf gauge.now pass) passes.items }
+{
+    for pass in passes {
+        gauge.settle(rt, teller, pass);
     }
 }

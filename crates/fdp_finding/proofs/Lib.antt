@@ -1,3 +1,6 @@
+pub mod Choosing
+pub mod CommandLines
 pub mod Configuring
 pub mod Formed
+pub mod Loads
 pub mod Traces

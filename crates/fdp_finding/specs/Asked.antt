@@ -1,59 +1,81 @@
 -- What the words of a run ask for.
-use Rattle.std.specs.Prelude.{ℕ, Bool, false, not, ◌&&◌, ◌||◌, ◌==◌, nat_le, if◌then◌else◌, List, [], ◌∷◌, length, map, slice_index, codes, bytes_eq, String, string_bytes, Option, Some, None, Result, Ok, Err}
+use Rattle.std.specs.Prelude.{◌≡◌, ℕ, Bool, false, not, ◌&&◌, ◌==◌, nat_le, if◌then◌else◌, List, [], ◌∷◌, length, map, codes, bytes_eq, String, string_bytes, Option, Some, None, option_and_then, option_map}
 use Rattle.std.specs.Char.{is_ascii_digit}
 use Rattle.std.specs.List.{list_all, list_any}
-use Rattle.std.specs.Option.{option_map_or}
 use Rattle.std.specs.declared.alloc.Global.{Global}
 use Rattle.fdp_trace.specs.Numbers.{value_of}
-use Rattle.fdp_finding.specs.declared.asked.Form.{Form}
-use Rattle.fdp_finding.specs.declared.asked.Form.TheVariants as forms
-use Rattle.fdp_finding.specs.declared.asked.TheConstants.{LONGEST_LOAD, MOST_LOAD, MOST_TRACES}
-use Rattle.fdp_finding.specs.declared.fault.Fault.{Fault}
-use Rattle.fdp_finding.specs.declared.fault.Fault.TheVariants as faults
+use Rattle.fdp_finding.specs.declared.asked.TheConstants.{LONGEST_NUMBER, MOST_NUMBER, MOST_TRACES}
 
--- the form of a run, the names of the texts that it reads, and of the image that holds its drive
+-- the names of the texts that a run reads, and of the image that holds its drive
 pub record Names : Type 0 where
-  pub form : Form
   pub config : List ℕ
   pub image : List ℕ
   pub traces : List (List ℕ)
 
-abbrev pub begins_with_dash : String Global → Bool
-begins_with_dash word = not (length (string_bytes word) == 0) && (slice_index (string_bytes word) 0 == 45)
+-- a generated load: the number of commands of each of its traces as the words give it, and the name of the image that holds its drive
+pub record Load : Type 0 where
+  pub number : List ℕ
+  pub image : List ℕ
 
-abbrev pub is_word : String Global → List ℕ → Bool
-is_word word text = bytes_eq (string_bytes word) text
+-- what is asked for: to serve the traces of these names and print the output, or that and the history, or to serve a generated load
+pub data Asked : Type 0 where
+  running : Names → Asked
+  recording : Names → Asked
+  making : Load → Asked
 
--- the form that a first word chooses
-abbrev pub form_of : String Global → Option Form
-form_of word = if is_word word (codes "run") then Some forms.Run else if is_word word (codes "record") then Some forms.Record else None
+-- a word that begins with `-`
+abbrev pub begins_with_dash : List ℕ → Bool
+begins_with_dash [] = false
+begins_with_dash (first ∷ rest) = first == 45
 
--- the names behind a first word: a configuration, an image, and 1 to 16 traces
-abbrev pub names_of : List (String Global) → Option Names
+-- the words behind `run` and `record`: a configuration, an image, and 1 to 16 traces
+abbrev pub names_of : List (List ℕ) → Option Names
 names_of [] = None
-names_of (word ∷ []) = None
-names_of (word ∷ config ∷ []) = None
-names_of (word ∷ config ∷ image ∷ traces) =
-    if (length traces == 0) || not (nat_le (length traces) MOST_TRACES) then None
-    else option_map_or (λ form. Some (record { form = form; config = string_bytes config; image = string_bytes image; traces = map string_bytes traces })) (form_of word) None
+names_of (config ∷ []) = None
+names_of (config ∷ image ∷ []) = None
+names_of (config ∷ image ∷ trace ∷ more) =
+    if nat_le (length (trace ∷ more)) MOST_TRACES then Some (record { config = config; image = image; traces = trace ∷ more }) else None
 
--- the commands of a generated load: one to four digits that spell at most 8,192
-abbrev pub is_load : List ℕ → Bool
-is_load digits =
-    not (length digits == 0) && nat_le (length digits) LONGEST_LOAD && list_all is_ascii_digit digits && nat_le (value_of 10 digits) MOST_LOAD
+-- one to four digits that spell at most 8,192
+abbrev pub is_number : List ℕ → Bool
+is_number digits =
+    not (length digits == 0) && nat_le (length digits) LONGEST_NUMBER && list_all is_ascii_digit digits && nat_le (value_of 10 digits) MOST_NUMBER
 
--- a generated load is asked for: `make`, its commands, and an image
-abbrev pub is_make : List (String Global) → Bool
-is_make [] = false
-is_make (word ∷ []) = false
-is_make (word ∷ commands ∷ []) = false
-is_make (word ∷ commands ∷ image ∷ []) = is_word word (codes "make") && is_load (string_bytes commands)
-is_make (word ∷ commands ∷ image ∷ more ∷ others) = false
+-- the two words behind `make`: a number, and an image
+abbrev pub pair_of : List (List ℕ) → Option Load
+pair_of [] = None
+pair_of (number ∷ []) = None
+pair_of (number ∷ image ∷ []) = Some (record { number = number; image = image })
+pair_of (number ∷ image ∷ more ∷ others) = None
 
--- What the words ask for: `run` or `record`, a configuration, an image and 1 to 16 traces, none of them with a dash at its beginning. A generated
--- load is not built.
-abbrev pub asked_of : List (String Global) → Result Names Fault
-asked_of words =
-    if list_any begins_with_dash words then Err faults.Usage
-    else if is_make words then Err faults.NotBuilt
-    else option_map_or Ok (names_of words) (Err faults.Usage)
+abbrev pub numbered : Load → Option Load
+numbered load = if is_number load.number then Some load else None
+
+abbrev pub load_of : List (List ℕ) → Option Load
+load_of words = option_and_then numbered (pair_of words)
+
+-- what the words ask for behind the first, which chooses
+abbrev pub chosen_by : List ℕ → List (List ℕ) → Option Asked
+chosen_by word words =
+    if bytes_eq word (codes "run") then option_map running (names_of words)
+    else if bytes_eq word (codes "record") then option_map recording (names_of words)
+    else if bytes_eq word (codes "make") then option_map making (load_of words)
+    else None
+
+-- what the words ask for, where they have one of the three forms and none of them begins with `-`
+abbrev pub asked_by : List (List ℕ) → Option Asked
+asked_by [] = None
+asked_by (word ∷ words) = if list_any begins_with_dash (word ∷ words) then None else chosen_by word words
+
+abbrev pub asked_of : List (String Global) → Option Asked
+asked_of words = asked_by (map string_bytes words)
+
+-- the texts that are asked for
+abbrev pub texts_of : Asked → Option Names
+texts_of (running names) = Some names
+texts_of (recording names) = Some names
+texts_of (making load) = None
+
+-- the words ask for these texts
+abbrev pub AsksForTexts : List (String Global) → Names → Type 0
+AsksForTexts words names = option_and_then texts_of (asked_of words) ≡ Some names

@@ -26,7 +26,6 @@ of_config configs.NoMemory = faults.NoMemory
 
 abbrev pub status_of : Fault → ℕ
 status_of faults.Usage = 1
-status_of faults.NotBuilt = 10
 status_of (faults.Config cause) = 2
 status_of (faults.NoQueue trace) = 3
 status_of (faults.Trace trace cause) = 3
@@ -64,7 +63,6 @@ trace_fault number words = codes "fault 3 trace " ++ (decimal number ++ (32 ∷ 
 -- the line that a run prints; want of memory has none
 abbrev pub fault_text : Fault → List ℕ
 fault_text faults.Usage = codes "fault 1 usage\n"
-fault_text faults.NotBuilt = codes "fault 10 not-built\n"
 fault_text (faults.Config cause) = config_fault cause
 fault_text (faults.NoQueue trace) = trace_fault trace (codes "queue")
 fault_text (faults.Trace trace cause) = trace_fault trace (no_trace_words cause)

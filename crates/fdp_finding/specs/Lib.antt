@@ -1,4 +1,5 @@
 pub mod Asked
+pub mod CommandLine
 pub mod Configured
 pub mod Faults
 pub mod Traced

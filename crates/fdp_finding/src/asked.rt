@@ -1,133 +1,116 @@
-ghost use Rattle.std.specs.Prelude.{◌≡◌, Some, None, Ok, Err, MatchOption, MatchResult, map, string_bytes};
-ghost use Rattle.std.specs.Char.{is_ascii_digit};
-ghost use Rattle.std.specs.List.{list_all, list_any};
-ghost use Rattle.fdp_finding.specs.Asked.{asked_of, begins_with_dash, form_of, is_load, is_make, is_word, names_of};
+ghost use Rattle.std.specs.Prelude.{◌≡◌, MatchResult, bytes_eq, false, string_bytes};
+ghost use Rattle.std.specs.List.{list_any};
+ghost use Rattle.fdp_finding.specs.Asked.{asked_of, begins_with_dash, chosen_by};
+ghost use Rattle.fdp_finding.specs.CommandLine.{AsksFor, Misses, spelled};
 
-use crate::fault::Fault;
-use fdp_trace::number_of_digits;
+use crate::command_line::{load_in, names_in};
+use std::alloc::Global;
 
 /// Traces of a run.
 pub const MOST_TRACES: usize = 16;
 
 /// Digits of the number of a generated load.
-pub const LONGEST_LOAD: usize = 4;
+pub const LONGEST_NUMBER: usize = 4;
 
 /// Commands of a trace of a generated load.
-pub const MOST_LOAD: u128 = 8192;
+pub const MOST_NUMBER: u128 = 8192;
 
-/// What a run prints.
+/// What a run prints, and what it serves.
 #[derive(Clone, Copy, Debug, PartialEq, Eq)]
-pub enum Form {
-    /// `run`: its output.
+pub enum Form<'a> {
+    /// `run`: the output of the traces that are named.
     Run,
-    /// `record`: its output, and then its history.
+    /// `record`: that output, and then the history.
     Record,
+    /// `make`: a summary of a generated load, with this number of commands, as the words give it.
+    Make(&'a str),
 }
 
-/// The form of a run, the names of what it reads, and of the image that holds its drive.
-#[derive(Clone, Copy, Debug)]
+/// What the words ask for.
+#[derive(Debug, Drop)]
+pub enum Request<'a> {
+    /// To serve traces and print the output.
+    Run(NamesAsked<'a>),
+    /// That, and to print the history behind it.
+    Record(NamesAsked<'a>),
+    /// To serve a generated load.
+    Make(LoadAsked<'a>),
+}
+
+/// The names of what a run reads, and of the image that holds its drive.
+#[derive(Debug, Drop)]
 pub struct NamesAsked<'a> {
-    pub form: Form,
     pub config: &'a str,
     pub image: &'a str,
-    pub traces: &'a [String],
+    pub traces: Vec<&'a str>,
 }
 
-/// What the words ask for: `run` or `record`, a configuration, an image and 1 to 16 traces.
-pub fn asked(words: &[String]) -> Result<NamesAsked<'_>, Fault>
-    ensures { MatchResult result
-        (λ names. asked_of words.now ≡ Ok (record { form = names.form; config = names.config.now; image = names.image.now; traces = map string_bytes names.traces.now }))
-        (λ fault. asked_of words.now ≡ Err fault) }
-{
-    if has_option(words) {
-        return Err(Fault::Usage);
-    }
-    if is_make(words) {
-        return Err(Fault::NotBuilt);
-    }
-    match names_in(words) {
-        Some(names) => Ok(names),
-        None => Err(Fault::Usage),
-    }
+/// A generated load, and the name of the image that holds its drive.
+#[derive(Clone, Copy, Debug)]
+pub struct LoadAsked<'a> {
+    /// The number of commands of a trace, as the words give it.
+    pub number: &'a str,
+    pub commands: u16,
+    pub image: &'a str,
 }
 
-/// The names behind a first word.
-fn names_in(words: &[String]) -> Option<NamesAsked<'_>>
-    ensures { MatchOption result
-        (names_of words.now ≡ None)
-        (λ names. names_of words.now ≡ Some (record { form = names.form; config = names.config.now; image = names.image.now; traces = map string_bytes names.traces.now })) }
+/// Why the words ask for nothing.
+#[derive(Clone, Copy, Debug, PartialEq, Eq)]
+pub enum NotAsked {
+    /// They have none of the forms, or one of them begins with `-`.
+    Usage,
+    NoMemory,
+}
+
+/// What the words ask for: the first chooses the form, and the others are read as it says.
+pub fn asked(alloc: Global, words: &[String]) -> Result<Request<'_>, NotAsked>
+    ensures { MatchResult result (AsksFor (asked_of words.now)) (Misses (asked_of words.now)) }
 {
-    let [word, config, image, traces @ ..] = words else {
-        return None;
+    let [word, others @ ..] = words else {
+        return Err(NotAsked::Usage);
     };
-    if traces.is_empty() || traces.len() > MOST_TRACES {
-        return None;
+    if has_option(words) {
+        return Err(NotAsked::Usage);
     }
-    match form_of(word) {
-        Some(form) => Some(NamesAsked {
-            form,
-            config: config.as_str(),
-            image: image.as_str(),
-            traces,
-        }),
-        None => None,
-    }
+    chosen(alloc, word, others)
 }
 
-/// The form that a first word chooses.
-fn form_of(word: &String) -> Option<Form>
-    ensures { result ≡ form_of word.now }
+/// What the words behind the first ask for.
+fn chosen<'a>(alloc: Global, word: &String, others: &'a [String]) -> Result<Request<'a>, NotAsked>
+    requires { list_any begins_with_dash (spelled others.now) ≡ false }
+    ensures { MatchResult result
+        (AsksFor (chosen_by (string_bytes word.now) (spelled others.now)))
+        (Misses (chosen_by (string_bytes word.now) (spelled others.now))) }
 {
     if is_word(word, "run") {
-        Some(Form::Run)
+        Ok(Request::Run(names_in(alloc, others)?))
     } else if is_word(word, "record") {
-        Some(Form::Record)
+        Ok(Request::Record(names_in(alloc, others)?))
+    } else if is_word(word, "make") {
+        Ok(Request::Make(load_in(alloc, others)?))
     } else {
-        None
+        Err(NotAsked::Usage)
     }
-}
-
-/// Whether the words ask for a generated load: `make`, its commands, and an image.
-fn is_make(words: &[String]) -> bool
-    ensures { result ≡ is_make words.now }
-{
-    let [word, commands, _image] = words else {
-        return false;
-    };
-    is_word(word, "make") && is_load(commands.as_bytes())
-}
-
-/// Whether a word has one to four digits, and spells a number of at most 8,192.
-fn is_load(digits: &[u8]) -> bool
-    ensures { result ≡ is_load digits.now }
-{
-    !digits.is_empty()
-        && digits.len() <= LONGEST_LOAD
-        && are_digits(digits)
-        && number_of_digits(digits, 10) <= MOST_LOAD
-}
-
-fn are_digits(digits: &[u8]) -> bool
-    ensures { result ≡ list_all is_ascii_digit digits.now }
-{
-    digits.iter().all(|b| b.is_ascii_digit())
 }
 
 fn is_word(word: &String, text: &str) -> bool
-    ensures { result ≡ is_word word.now text.now }
+    ensures { result ≡ bytes_eq (string_bytes word.now) text.now }
 {
     word.as_str() == text
 }
 
+/// Whether a word begins with `-`. An option is none of the forms, and no library has to know one.
 fn has_option(words: &[String]) -> bool
-    ensures { result ≡ list_any begins_with_dash words.now }
+    ensures { result ≡ list_any (λ word. begins_with_dash (string_bytes word)) words.now }
 {
-    words.iter().any(|word| begins_with_dash(word))
+    words.iter().any(|word| is_option(word))
 }
 
-fn begins_with_dash(word: &String) -> bool
-    ensures { result ≡ begins_with_dash word.now }
+fn is_option(word: &String) -> bool
+    ensures { result ≡ begins_with_dash (string_bytes word.now) }
 {
-    let bytes = word.as_bytes();
-    !bytes.is_empty() && bytes[0] == b'-'
+    match word.as_bytes() {
+        [] => false,
+        [first, ..] => *first == b'-',
+    }
 }

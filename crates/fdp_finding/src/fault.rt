@@ -9,10 +9,9 @@ use std::alloc::{AllocError, Global};
 /// Why a run ended without its output.
 #[derive(Debug, Drop)]
 pub enum Fault {
-    /// The words are not `run` or `record`, a configuration, an image and 1 to 16 traces, or one of them begins with `-`.
+    /// The words have none of the forms `run CONFIG IMAGE TRACE..`, `record CONFIG IMAGE TRACE..` and `make NUMBER IMAGE`, or one of them begins
+    /// with `-`.
     Usage,
-    /// The words are `make`, a number and an image: a generated load, which is not built.
-    NotBuilt,
     /// There is no configuration.
     Config(NoConfig),
     /// There are more traces than queues; `trace` is the number of the first one without a queue.
@@ -45,7 +44,6 @@ impl Fault {
             Fault::Source => 6,
             Fault::NoMemory => 7,
             Fault::Turns => 9,
-            Fault::NotBuilt => 10,
         }
     }
 }
@@ -82,7 +80,6 @@ pub fn push_fault(alloc: Global, fault: &Fault, into: &mut Vec<u8>) -> Result<()
         Fault::Flash => into.extend_from_slice(b"fault 5 flash\n"),
         Fault::Source => into.extend_from_slice(b"fault 6 source\n"),
         Fault::Turns => into.extend_from_slice(b"fault 9 turns\n"),
-        Fault::NotBuilt => into.extend_from_slice(b"fault 10 not-built\n"),
         Fault::NoMemory => Ok(()),
     }
 }

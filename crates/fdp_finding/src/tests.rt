@@ -41,7 +41,7 @@ fn asked(alloc: Global, words: &str) -> Result<(u8, Vec<u8>), AllocError> {
     let mut text = Vec::new(alloc);
     match find(alloc, &owned, &mut bench) {
         Ok(wanted) => {
-            text.extend_from_slice(word_of(wanted.form))?;
+            push_form(wanted.form, &mut text)?;
             for trace in &wanted.traces {
                 text.push(b'0' + (trace.len() % 10) as u8)?;
             }
@@ -54,10 +54,16 @@ fn asked(alloc: Global, words: &str) -> Result<(u8, Vec<u8>), AllocError> {
     }
 }
 
-fn word_of(form: Form) -> &'static [u8] {
+fn push_form(form: Form<'_>, text: &mut Vec<u8>) -> Result<(), AllocError> {
     match form {
-        Form::Run => b"run ",
-        Form::Record => b"record ",
+        Form::Run => text.extend_from_slice(b"run "),
+        Form::Record => text.extend_from_slice(b"record "),
+        Form::Make(number) => {
+            text.extend_from_slice(b"make ")?;
+            text.extend_from_slice(number.as_bytes())?;
+            text.push(b' ')?;
+            Ok(())
+        }
     }
 }
 
@@ -72,6 +78,7 @@ fn a_run_is_found(rt: HostRuntime) -> Result<(), Fail> {
     let alloc = rt.alloc();
     assert!(rt; comes_to(alloc, "run c i t", 0, b"run 2")?);
     assert!(rt; comes_to(alloc, "record c i e t", 0, b"record 02")?);
+    assert!(rt; comes_to(alloc, "make 0007 i", 0, b"make 0007 7777")?);
     Ok(())
 }
 
@@ -83,7 +90,6 @@ fn a_run_is_refused(rt: HostRuntime) -> Result<(), Fail> {
     assert!(rt; comes_to(alloc, "run c i t t t", 3, b"fault 3 trace 3 queue\n")?);
     assert!(rt; comes_to(alloc, "run c i t n", 3, b"fault 3 trace 2 absent\n")?);
     assert!(rt; comes_to(alloc, "run c i b t", 3, b"fault 3 trace 1 line 2 count\n")?);
-    assert!(rt; comes_to(alloc, "make 8192 i", 10, b"fault 10 not-built\n")?);
     assert!(rt; comes_to(alloc, "make 8193 i", 1, b"fault 1 usage\n")?);
     Ok(())
 }

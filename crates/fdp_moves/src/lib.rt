@@ -15,6 +15,7 @@ mod numbers;
 mod play;
 mod played;
 mod rows;
+mod script;
 mod seeded;
 mod stops;
 mod tally;
@@ -22,4 +23,4 @@ mod texts;
 mod units;
 
 pub use drive::{Advance, Drive, Opened};
-pub use rows::Rows;
+pub use script::play_script;

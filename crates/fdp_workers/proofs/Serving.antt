@@ -132,7 +132,7 @@ has-serves run queue trace count receipts p es commands got h =
 pub has-whole : (run : Run) (queue : ℕ) (trace : List Command) (receipts : List Receipt) (es : List Entry) → Has run queue (so_far trace (length trace) receipts) es → ServesWhole run queue trace es
 has-whole run queue trace receipts es h = record { whole = h.commands ∙ ap numbered (take_all (length trace) trace (omega arith)); idle = h.going }
 
-nothing-yet : (run : Run) (queue : ℕ) (trace : List Command) → Has run queue (so_far trace 0 []) []
+pub nothing-yet : (run : Run) (queue : ℕ) (trace : List Command) → Has run queue (so_far trace 0 []) []
 unfolding state_of first_state
 nothing-yet run queue trace = record { commands = refl; receipts = refl; once = λ number. omega arith; fresh = λ number low. refl; going = refl }
 

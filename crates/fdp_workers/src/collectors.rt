@@ -58,8 +58,8 @@ pub fn collector<V: Steps, G: Gate, R: Wait>(
     }
 }
 
-/// Makes the turns of a collector.
-pub(crate) fn sweep<V: Steps, G: Gate, R: Wait>(
+/// Makes the turns of a collector, as [`collector`] does, with what it is lent.
+pub fn sweep<V: Steps, G: Gate, R: Wait>(
     rt: &R,
     lock: &GroupLock<V>,
     gauge: &Gauge,

@@ -1,7 +1,8 @@
 //! Hosts: each serves the commands of one queue.
-ghost use Rattle.std.specs.Prelude.{◌≡◌, ◌+◌, ◌≤◌, ◌<◌, [], All, MatchResult, IfErr, length, vec_capacity};
+ghost use Rattle.std.specs.Prelude.{◌≡◌, ◌+◌, ◌≤◌, ◌<◌, [], All, IfErr, IfOk, MatchResult, OnOk, length, vec_capacity};
 ghost use mathlib.Core.List.{IsPrefix};
 ghost use Rattle.fdp_base.specs.CommandKinds.{IsWellFormed};
+ghost use Rattle.fdp_base.specs.Config.{IsValidConfig};
 ghost use Rattle.fdp_gauge.specs.Passes.{IsPassOf};
 ghost use Rattle.fdp_gauge.specs.Passes as passes;
 ghost use Rattle.fdp_lock.specs.Seats.{turns_of, number_of, seen_of, made_of, HoldsNoTurn, IsSeatOf, KeepsPlace};
@@ -9,9 +10,11 @@ ghost use Rattle.fdp_rules.specs.PlainState.{Going};
 ghost use Rattle.fdp_workers.specs.declared.ends.End.TheVariants as ends;
 ghost use Rattle.fdp_workers.specs.declared.stop.Stop.TheVariants.{Turns};
 ghost use Rattle.fdp_workers.specs.Hosting.{EndsAt, Expects, IsFlyingAt, IsIdleAt, IsPost, IsShown, IsSpent, KeepsPost, ServesAt, ServesTrace, StopsAt, WaitsAt, run_of};
+ghost use Rattle.fdp_workers.specs.Pairs.{IsEmptyPair, IsReaped};
 ghost use Rattle.fdp_workers.specs.Queues.{Progress, Serves, ServesWhole, so_far};
 
 use crate::ends::{End, HostEnd};
+use crate::pairs::{complete, deliver};
 use crate::receipt::Receipt;
 use crate::steps::Steps;
 use crate::stop::Stop;
@@ -21,7 +24,9 @@ use fdp_book::{Done, Room, Ticket};
 use fdp_core::{Begun, Placed};
 use fdp_gauge::{Gauge, Pass};
 use fdp_io::{Gate, Point};
+use fdp_layouts::Cqe;
 use fdp_lock::{GroupLock, Seat};
+use fdp_queues::QueuePair;
 use std::alloc::{AllocError, Global};
 use std::sync::Wait;
 
@@ -63,8 +68,9 @@ fn end_write<V: Steps, G: Gate, R: Wait>(
     }
 }
 
-/// Serves a command: makes its first step, and where it is a write those that follow. The memory for it is taken before the first turn.
-fn serve_one<V: Steps, G: Gate, R: Wait>(
+/// Serves one command: makes its first step, and where it is a write those that follow, each in a turn of its own. The memory for it is taken before
+/// the first turn. A command is begun once; a write is given up only where there is no memory, or no further step may be made.
+pub fn serve<V: Steps, G: Gate, R: Wait>(
     rt: &R,
     alloc: Global,
     lock: &GroupLock<V>,
@@ -120,8 +126,109 @@ fn receipt_of(number: u16, done: Done) -> Receipt
     }
 }
 
+/// A command that was served through its queue pair: its receipt, and its completion as it was reaped.
+#[derive(Drop)]
+struct Exchanged {
+    receipt: Receipt,
+    completion: Cqe,
+}
+
+/// Submits a command to the pair of its queue, serves it under the number that the fetched entry names, and reaps its completion.
+fn exchange<V: Steps, G: Gate, R: Wait>(
+    rt: &R,
+    alloc: Global,
+    lock: &GroupLock<V>,
+    gauge: &Gauge,
+    gate: &G,
+    config: &DriveConfig,
+    seat: &mut Seat<V>,
+    pass: &mut Pass,
+    pair: &mut QueuePair,
+    number: u16,
+    command: Command,
+) -> Result<Exchanged, Stop>
+    requires post { IsPost (run_of V.origin V.run lock.now) gauge.now seat.old pass.old }
+    requires config { config.now ≡ (run_of V.origin V.run lock.now).config }
+    requires formed { IsWellFormed config.now command }
+    requires idle { (p : Progress) × IsIdleAt V.origin V.run V.entry V.mark lock.now p number seat.old }
+    requires empty { IsEmptyPair config.now.queue_depth pair.old }
+    ensures post { KeepsPost gauge.now seat.old seat.new pass.old pass.new }
+    ensures served { (p : Progress) → IsIdleAt V.origin V.run V.entry V.mark lock.now p number seat.old →
+        MatchResult result
+        (λ e. ServesAt V.origin V.run V.entry V.mark lock.now p number command seat.new pass.new e.receipt)
+        (λ stop. StopsAt V.origin V.run V.entry V.mark lock.now p seat.new) }
+    ensures cause { IfErr result (λ stop. stop ≡ Turns → IsSpent V.origin V.entries V.spent lock.now seat.new) }
+    ensures empty { OnOk result (IsEmptyPair config.now.queue_depth pair.new) }
+    ensures reaped { IfOk result (λ e. IsReaped pair.old (number_of seat.new) number e.receipt.reply e.completion) }
+{
+    let named = deliver(pair, &command, number);
+    match serve(
+        rt, alloc, lock, gauge, gate, config, seat, pass, named, command,
+    ) {
+        Ok(receipt) => {
+            let (queue, depth) = (seat.number(), config.queue_depth);
+            let completion = complete(pair, queue, depth, named, &receipt.reply);
+            Ok(Exchanged {
+                receipt,
+                completion,
+            })
+        }
+        Err(stop) => Err(stop),
+    }
+}
+
 /// Serves the commands of a trace one after another. There is room for their receipts.
-pub(crate) fn serve<V: Steps, G: Gate, R: Wait>(
+fn serve_all<V: Steps, G: Gate, R: Wait>(
+    rt: &R,
+    alloc: Global,
+    lock: &GroupLock<V>,
+    gauge: &Gauge,
+    gate: &G,
+    config: &DriveConfig,
+    seat: &mut Seat<V>,
+    pass: &mut Pass,
+    pair: &mut QueuePair,
+    trace: Vec<Command>,
+    receipts: &mut Vec<Receipt>,
+) -> Result<(), Stop>
+    requires post { IsPost (run_of V.origin V.run lock.now) gauge.now seat.old pass.old }
+    requires config { config.now ≡ (run_of V.origin V.run lock.now).config }
+    requires formed { All (IsWellFormed config.now) trace.items }
+    requires few { length trace.items ≤ MOST_TRACE_COMMANDS }
+    requires idle { IsIdleAt V.origin V.run V.entry V.mark lock.now (so_far trace.items 0 []) 0 seat.old }
+    requires empty { IsEmptyPair config.now.queue_depth pair.old }
+    requires room { length trace.items ≤ vec_capacity receipts.old }
+    requires none { receipts.old.items ≡ [] }
+    ensures post { KeepsPost gauge.now seat.old seat.new pass.old pass.new }
+    ensures serves { ServesTrace V.origin V.run V.entry V.mark lock.now trace.items receipts.new.items seat.new pass.new result }
+    ensures cause { IfErr result (λ stop. stop ≡ Turns → IsSpent V.origin V.entries V.spent lock.now seat.new) }
+{
+    for (number, command) in trace.into_iter().enumerate() {
+        match exchange(
+            rt,
+            alloc,
+            lock,
+            gauge,
+            gate,
+            config,
+            seat,
+            pass,
+            pair,
+            number as u16,
+            command,
+        ) {
+            Ok(exchanged) => receipts.push_reserved(exchanged.receipt),
+            Err(stop) => return Err(stop),
+        }
+        gate.at(seat.number(), Point::Ended);
+    }
+    Ok(())
+}
+
+/// Serves the commands of a trace one after another in the queue of its seat, each through the queue pair of this queue. Each turn makes one step,
+/// and adds an entry but where there is no memory for the step or no further step may be made; then a write may be left going. A command ends in a
+/// turn that shows the record.
+pub fn serve_trace<V: Steps, G: Gate, R: Wait>(
     rt: &R,
     alloc: Global,
     lock: &GroupLock<V>,
@@ -135,38 +242,26 @@ pub(crate) fn serve<V: Steps, G: Gate, R: Wait>(
 ) -> Result<(), Stop>
     requires post { IsPost (run_of V.origin V.run lock.now) gauge.now seat.old pass.old }
     requires config { config.now ≡ (run_of V.origin V.run lock.now).config }
+    requires valid { IsValidConfig config.now }
     requires formed { All (IsWellFormed config.now) trace.items }
     requires few { length trace.items ≤ MOST_TRACE_COMMANDS }
     requires idle { IsIdleAt V.origin V.run V.entry V.mark lock.now (so_far trace.items 0 []) 0 seat.old }
-    requires room { length trace.items ≤ vec_capacity receipts.old }
     requires none { receipts.old.items ≡ [] }
     ensures post { KeepsPost gauge.now seat.old seat.new pass.old pass.new }
     ensures serves { ServesTrace V.origin V.run V.entry V.mark lock.now trace.items receipts.new.items seat.new pass.new result }
     ensures cause { IfErr result (λ stop. stop ≡ Turns → IsSpent V.origin V.entries V.spent lock.now seat.new) }
 {
-    for (number, command) in trace.into_iter().enumerate() {
-        match serve_one(
-            rt,
-            alloc,
-            lock,
-            gauge,
-            gate,
-            config,
-            seat,
-            pass,
-            number as u16,
-            command,
-        ) {
-            Ok(receipt) => receipts.push_reserved(receipt),
-            Err(stop) => return Err(stop),
-        }
-        gate.at(seat.number(), Point::Ended);
+    if trace.is_empty() {
+        return Ok(());
     }
-    Ok(())
+    let mut pair = QueuePair::new(alloc, config.queue_depth)?;
+    receipts.reserve(trace.len())?;
+    serve_all(
+        rt, alloc, lock, gauge, gate, config, seat, pass, &mut pair, trace, receipts,
+    )
 }
 
-/// Serves the commands of a trace one after another in the queue of its seat. Each turn makes one step, and adds an entry but where there is no
-/// memory for the step or no further step may be made; then a write may be left going. A command ends in a turn that shows the record.
+/// Serves the commands of a trace one after another in the queue of its seat, as [`serve_trace`] does, and gives back what it was lent.
 pub fn host<V: Steps, G: Gate, R: Wait>(
     rt: &R,
     alloc: Global,
@@ -182,6 +277,7 @@ pub fn host<V: Steps, G: Gate, R: Wait>(
     requires new { (turns_of seat ≡ 0) × (made_of seat ≡ []) }
     requires post { IsPost (run_of V.origin V.run lock.now) gauge.now seat pass }
     requires config { config.now ≡ (run_of V.origin V.run lock.now).config }
+    requires valid { IsValidConfig config.now }
     requires formed { All (IsWellFormed config.now) trace.items }
     requires few { length trace.items ≤ MOST_TRACE_COMMANDS }
     ensures post { KeepsPost gauge.now seat result.seat pass result.pass }
@@ -194,18 +290,8 @@ pub fn host<V: Steps, G: Gate, R: Wait>(
 {
     let mut seat = seat;
     let mut pass = pass;
-    let mut receipts = match Vec::with_capacity(alloc, trace.len()) {
-        Ok(receipts) => receipts,
-        Err(AllocError) => {
-            return HostEnd {
-                seat,
-                pass,
-                receipts: Vec::new(alloc),
-                end: End::NoMemory,
-            };
-        }
-    };
-    match serve(
+    let mut receipts = Vec::new(alloc);
+    match serve_trace(
         rt,
         alloc,
         lock,

@@ -2,19 +2,18 @@
 #![tactic(auto)]
 
 mod collectors;
-mod crews;
 mod ends;
 mod hosts;
 mod laws;
+mod pairs;
 mod receipt;
 mod steps;
 mod stop;
 mod turns;
 
-pub use collectors::collector;
-pub use crews::{Sweeper, Worker, collect_all, work_all};
+pub use collectors::{collector, sweep};
 pub use ends::{CollectorEnd, End, HostEnd};
-pub use hosts::host;
+pub use hosts::{host, serve, serve_trace};
 pub use laws::{entries_of_others_leave_a_queue, histories_are_records, snapshots_have_the_sums};
 pub use receipt::Receipt;
 pub use steps::Steps;

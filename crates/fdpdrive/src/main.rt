@@ -2,7 +2,7 @@
 #![tactic(auto)]
 
 use fdp_cli::drive_process;
-use fdp_io::{BenchFile, SinkWriter};
+use fdp_io::{BenchFile, OpenGate, SinkWriter};
 use std::process::ExitCode;
 use std::{env, io};
 
@@ -15,7 +15,7 @@ fn main(rt: HostRuntime) -> ExitCode {
     };
     let mut bench = BenchFile::new(rt.alloc(), &rt);
     let mut sink = SinkWriter::new(io::writer(&rt));
-    drive_process(rt.alloc(), &words, &mut bench, &mut sink)
+    drive_process(&rt, rt.alloc(), &words, &mut bench, &mut sink, &OpenGate)
 }
 
 /// The words behind the program's name.

@@ -8,6 +8,7 @@ fn a_configuration_has_a_limit(rt: HostRuntime) -> Result<(), Fail> {
     config.extend_from_slice(&vec![in alloc; b'#'; 65_536 - DRIVE_S.len()]?)?;
     assert!(rt;
         ends(
+            &rt,
             alloc,
             &run_of(&RUN, &config, b""),
             0,
@@ -16,6 +17,6 @@ fn a_configuration_has_a_limit(rt: HostRuntime) -> Result<(), Fail> {
     );
     config.push(b'#')?;
     let long = b"fault 2 config long\n";
-    assert!(rt; ends(alloc, &run_of(&RUN, &config, b"flush 1\n"), 2, long)?);
+    assert!(rt; ends(&rt, alloc, &run_of(&RUN, &config, b"flush 1\n"), 2, long)?);
     Ok(())
 }

@@ -19,9 +19,9 @@ pub fn reads(alloc: Global, count: u32) -> Result<(Vec<u8>, Vec<u8>), AllocError
 fn the_longest_traces_are_served(rt: HostRuntime) -> Result<(), Fail> {
     let alloc = rt.alloc();
     let (mut text, output) = reads(alloc, 8_192)?;
-    assert!(rt; serves(alloc, &text, 0, &output)?);
+    assert!(rt; serves(&rt, alloc, &text, 0, &output)?);
     text.extend_from_slice(b"write 1 0 1 7\n")?;
-    assert!(rt; serves(alloc, &text, 3, b"fault 3 trace 1 line 8193 long\n")?);
+    assert!(rt; serves(&rt, alloc, &text, 3, b"fault 3 trace 1 line 8193 long\n")?);
     Ok(())
 }
 
@@ -29,8 +29,8 @@ fn the_longest_traces_are_served(rt: HostRuntime) -> Result<(), Fail> {
 fn texts_have_a_limit(rt: HostRuntime) -> Result<(), Fail> {
     let alloc = rt.alloc();
     let mut text = vec![in alloc; b'#'; 16_777_216]?;
-    assert!(rt; serves(alloc, &text, 0, b"queue 1\nstats 0 0 0\nruh 0 1\n")?);
+    assert!(rt; serves(&rt, alloc, &text, 0, b"queue 1\nstats 0 0 0\nruh 0 1\n")?);
     text.push(b'#')?;
-    assert!(rt; serves(alloc, &text, 3, b"fault 3 trace 1 long\n")?);
+    assert!(rt; serves(&rt, alloc, &text, 3, b"fault 3 trace 1 long\n")?);
     Ok(())
 }

@@ -10,7 +10,7 @@ returns-in-Ok-clause-runs g c =
       between = g.B.Bench.state c.take_flash.new.self;
       handed = c.in-Ok.flash;
       given = c.run_on-end.result.flash;
-      taken = subst (λ (geometry : Geometry). HandsOut (g.B.Bench.state c.args.bench.now) (g.B.Bench.state c.take_flash.new.self) c.args.wanted.now.image.now geometry (g.B.F.Flash.state c.in-Ok.flash)) c.geometry.ensures.value c.in-Ok.ensures.answer;
+      taken = subst (λ (geometry : Geometry). HandsOut (g.B.Bench.state c.args.bench.now) (g.B.Bench.state c.take_flash.new.self) c.args.wanted.image.now geometry (g.B.F.Flash.state c.in-Ok.flash)) c.geometry.ensures.value c.in-Ok.ensures.answer;
       ran = c.run_on-end.ensures.ends;
       back = c.give_flash.ensures.back;
     })

@@ -1,18 +1,19 @@
-use Rattle.std.proofs.Common.{◌+◌, ◌++◌, ◌∷◌, [], sym, subst, ◌∙◌, arith, List, ℕ}
+use Rattle.std.proofs.Common.{◌+◌, ◌++◌, ◌∷◌, [], sym, subst, ◌∙◌, arith, List}
 use Rattle.std.specs.Global.{Vec}
 use Rattle.fdp_base.specs.declared.command.Command.{Command}
-use Rattle.fdp_finding.specs.Traced.{ReadsTrace}
-use Rattle.fdp_finding.specs.Wanted.{TraceLacks}
-use Rattle.fdp_finding.proofs.Traces.{AreRead, none_next, one_read, pushed_of}
+use Rattle.fdp_finding.proofs.Traces.{AreRead, Name, none_next, one_read, pushed_of}
 use Rattle.fdp_finding.proofs.reading.find_traces.Goals as goal
+
+-- what the loop reads past the end
+abbrev none : Name
+none = record { ref_ptr = (0, 0); now = [] }
 
 pub returns-in-Err-clause-answer : goal.returns-in-Err-clause-answer
 returns-in-Err-clause-answer g c =
     let mid = g.B.Bench.state c.loop-index.bench in
     let new = g.B.Bench.state c.find_trace.new.bench in
-    let lacks = subst (λ (name : List ℕ). TraceLacks mid new (c.loop-index.index + 1) name c.in-Err.fault) c.as_str.ensures.value c.in-Err.ensures.answer in
-    none_next (g.B.Bench.state c.args.bench.now) mid new c.args.names.now c.loop-index.index c.args.queues c.loop-index.traces.items c.index-names-index.result c.in-Err.fault
-    c.loop-index.invariant (omega arith) (omega arith) c.index-names-index.is lacks
+    none_next (g.B.Bench.state c.args.bench.now) mid new c.args.names.now c.loop-index.index c.args.queues c.loop-index.traces.items none c.in-Err.fault
+    c.loop-index.invariant (omega arith) (omega arith) c.in-Err.ensures.answer
 
 pub loop-index-preserved : goal.loop-index-preserved
 loop-index-preserved g c =
@@ -20,8 +21,7 @@ loop-index-preserved g c =
     let mid = g.B.Bench.state c.loop-index.bench in
     let new = g.B.Bench.state c.find_trace.new.bench in
     let trace = c.in-Ok.trace in
-    let reads = subst (λ (name : List ℕ). ReadsTrace mid name trace.items) c.as_str.ensures.value c.in-Ok.ensures.answer in
     let pushed = pushed_of c.push.result c.push.new.self.items (c.loop-index.traces.items ++ trace ∷ []) c.loop-index.traces.items (sym c.is_err.ensures.value ∙ c.if-is_err.false) c.push.ensures.items in
     subst (λ (traces : List (Vec Command)). AreRead old new c.args.names.now (c.loop-index.index + 1) traces) (sym pushed)
-    (one_read old mid new c.args.names.now c.loop-index.index c.loop-index.traces.items c.index-names-index.result trace c.loop-index.invariant (omega arith) c.index-names-index.is
-    c.in-Ok.ensures.texts c.in-Ok.ensures.flashes c.in-Ok.ensures.counts reads c.in-Ok.ensures.servable)
+    (one_read old mid new c.args.names.now c.loop-index.index c.loop-index.traces.items none trace c.loop-index.invariant (omega arith)
+    c.in-Ok.ensures.texts c.in-Ok.ensures.flashes c.in-Ok.ensures.counts c.in-Ok.ensures.answer c.in-Ok.ensures.servable)

@@ -1,71 +1,28 @@
-use Rattle.std.proofs.Common.{◌+◌, ◌∷◌, [], ap, arith, length, length-append, subst, sym, ◌∙◌}
-use Rattle.std.proofs.lemmas.Iterator.Adapters.{YieldsList-from_vec}
-use Rattle.std.proofs.lemmas.Iterator.Consumers.{YieldsList-at, YieldsList-end, YieldsList-from_enumerate, YieldsList-turn}
-use Rattle.std.proofs.lemmas.List.FromFn.{length-enumerate_from}
-use Rattle.fdp_workers.specs.Hosting.{IsAt, IsIdleAt, run_of}
-use Rattle.fdp_workers.specs.Queues.{so_far}
-use Rattle.fdp_workers.proofs.Posts.{post-first, post-more, post-still}
-use Rattle.fdp_workers.proofs.Serving.{first-more, next-command}
+use Rattle.std.proofs.Common.{subst}
+use Rattle.fdp_workers.specs.Hosting.{BeginsAt}
+use Rattle.fdp_workers.specs.Queues.{begins}
+use Rattle.fdp_workers.proofs.Serving.{serves-ended, serves-started, starts-waits, stops-started}
 use Rattle.fdp_workers.proofs.hosts.serve.Goals as goal
 
-pub loop-number-init : goal.loop-number-init
-loop-number-init g c = record {
-  post = post-first c.args.gauge.now c.args.seat.now c.args.pass.now c.requires.post.pass_is;
-  idle = subst (λ rs. IsIdleAt g.V.Recorded.origin g.V.Steps.run g.V.Steps.entry g.V.Recorded.mark c.args.lock.now (so_far c.args.trace.items 0 rs) 0 c.args.seat.now) (sym c.requires.none) c.requires.idle;
-  room = c.requires.room;
-  count = ap length c.requires.none;
-  shown = λ low. absurd (omega (arith, low));
-}
+pub end_write-requires-clause-flies : goal.end_write-requires-clause-flies
+end_write-requires-clause-flies g c =
+    let idle = c.requires.idle in
+    let b = subst (BeginsAt g.V.Recorded.origin g.V.Steps.run g.V.Steps.entry g.V.Recorded.mark c.args.lock.now idle.0 c.args.number c.args.command c.begin.new.seat c.begin.new.pass) c.in-Going.is (c.in-Ok-begin.ensures.begun idle.0 idle.1) in
+    (begins idle.0 c.args.number b.going, b.going, starts-waits g.V.Recorded.origin g.V.Steps.run g.V.Steps.entry g.V.Recorded.mark c.args.lock.now idle.0 c.args.config.now c.args.number c.args.command c.begin.new.seat c.in-Going.ticket c.requires.formed b)
 
-pub serve_one-requires-clause-post : goal.serve_one-requires-clause-post
-serve_one-requires-clause-post g c = post-still (run_of g.V.Recorded.origin g.V.Steps.run c.args.lock.now) c.args.gauge.now c.args.seat.now c.loop-number.seat c.args.pass.now c.loop-number.pass c.requires.post c.loop-number.invariant.post
+pub returns-in-Ended-clause-served : goal.returns-in-Ended-clause-served
+returns-in-Ended-clause-served g c = λ p idle.
+    serves-ended g.V.Recorded.origin g.V.Steps.run g.V.Steps.entry g.V.Recorded.mark c.args.lock.now p c.args.number c.args.command c.begin.new.seat c.begin.new.pass c.in-Ended.done c.receipt_of.result idle.next c.receipt_of.ensures
+    (subst (BeginsAt g.V.Recorded.origin g.V.Steps.run g.V.Steps.entry g.V.Recorded.mark c.args.lock.now p c.args.number c.args.command c.begin.new.seat c.begin.new.pass) c.in-Ended.is (c.in-Ok-begin.ensures.begun p idle))
 
-pub serve_one-requires-clause-idle : goal.serve_one-requires-clause-idle
-serve_one-requires-clause-idle g c =
-    let t = next-command c.args.trace.items (length c.loop-number.yielded) c.in-Some.number c.in-Some.command (YieldsList-turn (YieldsList-at c.into_iter-number-iterator.ensures.into_iter_gives (YieldsList-from_enumerate (YieldsList-at c.enumerate-number-items.ensures.source (YieldsList-from_vec c.args.trace.items c.into_iter.ensures.rest (omega (arith, c.into_iter.ensures.len, c.args.trace.ok)))) c.enumerate-number-items.ensures.count)) c.loop-number.yielded c.loop-number.number-iterator c.loop-number.yielded_by c.next.result c.next.new.self (c.in-Some.number, c.in-Some.command) c.in-Some.is c.next.ensures.steps) in
-    (so_far c.args.trace.items (length c.loop-number.yielded) c.loop-number.receipts.items, subst (λ k. IsIdleAt g.V.Recorded.origin g.V.Steps.run g.V.Steps.entry g.V.Recorded.mark c.args.lock.now (so_far c.args.trace.items (length c.loop-number.yielded) c.loop-number.receipts.items) k c.loop-number.seat) (sym t.1) c.loop-number.invariant.idle)
+pub returns-in-Ok-end_write-clause-served : goal.returns-in-Ok-end_write-clause-served
+returns-in-Ok-end_write-clause-served g c = λ p idle.
+    let b = subst (BeginsAt g.V.Recorded.origin g.V.Steps.run g.V.Steps.entry g.V.Recorded.mark c.args.lock.now p c.args.number c.args.command c.begin.new.seat c.begin.new.pass) c.in-Going.is (c.in-Ok-begin.ensures.begun p idle) in
+    serves-started g.V.Recorded.origin g.V.Steps.run g.V.Steps.entry g.V.Recorded.mark c.args.lock.now p c.args.number c.args.command c.begin.new.seat c.end_write.new.seat c.in-Going.ticket c.end_write.new.pass c.in-Ok-end_write.done c.receipt_of-in-Ok-end_write.result c.receipt_of-in-Ok-end_write.ensures b
+    (c.in-Ok-end_write.ensures.ended (begins p c.args.number b.going) b.going (starts-waits g.V.Recorded.origin g.V.Steps.run g.V.Steps.entry g.V.Recorded.mark c.args.lock.now p c.args.config.now c.args.number c.args.command c.begin.new.seat c.in-Going.ticket c.requires.formed b))
 
-pub push_reserved-requires : goal.push_reserved-requires
-push_reserved-requires g c =
-    let t = next-command c.args.trace.items (length c.loop-number.yielded) c.in-Some.number c.in-Some.command (YieldsList-turn (YieldsList-at c.into_iter-number-iterator.ensures.into_iter_gives (YieldsList-from_enumerate (YieldsList-at c.enumerate-number-items.ensures.source (YieldsList-from_vec c.args.trace.items c.into_iter.ensures.rest (omega (arith, c.into_iter.ensures.len, c.args.trace.ok)))) c.enumerate-number-items.ensures.count)) c.loop-number.yielded c.loop-number.number-iterator c.loop-number.yielded_by c.next.result c.next.new.self (c.in-Some.number, c.in-Some.command) c.in-Some.is c.next.ensures.steps) in
-    omega (arith, t.0, c.loop-number.invariant.room, c.loop-number.invariant.count)
-
-pub returns-in-Err-clause-post : goal.returns-in-Err-clause-post
-returns-in-Err-clause-post g c = post-more c.args.gauge.now c.args.seat.now c.loop-number.seat c.serve_one.new.seat c.args.pass.now c.loop-number.pass c.serve_one.new.pass c.loop-number.invariant.post c.serve_one.ensures.post
-
-pub returns-in-Err-clause-serves : goal.returns-in-Err-clause-serves
-returns-in-Err-clause-serves g c =
-    let t = next-command c.args.trace.items (length c.loop-number.yielded) c.in-Some.number c.in-Some.command (YieldsList-turn (YieldsList-at c.into_iter-number-iterator.ensures.into_iter_gives (YieldsList-from_enumerate (YieldsList-at c.enumerate-number-items.ensures.source (YieldsList-from_vec c.args.trace.items c.into_iter.ensures.rest (omega (arith, c.into_iter.ensures.len, c.args.trace.ok)))) c.enumerate-number-items.ensures.count)) c.loop-number.yielded c.loop-number.number-iterator c.loop-number.yielded_by c.next.result c.next.new.self (c.in-Some.number, c.in-Some.command) c.in-Some.is c.next.ensures.steps) in
-    record {
-      count = length c.loop-number.yielded;
-      few = t.0;
-      sized = c.loop-number.invariant.count;
-      stopped = c.in-Err.ensures.served (so_far c.args.trace.items (length c.loop-number.yielded) c.loop-number.receipts.items) (subst (λ k. IsIdleAt g.V.Recorded.origin g.V.Steps.run g.V.Steps.entry g.V.Recorded.mark c.args.lock.now (so_far c.args.trace.items (length c.loop-number.yielded) c.loop-number.receipts.items) k c.loop-number.seat) (sym t.1) c.loop-number.invariant.idle);
-    }
-
-pub loop-number-preserved : goal.loop-number-preserved
-loop-number-preserved g c =
-    let t = next-command c.args.trace.items (length c.loop-number.yielded) c.in-Some.number c.in-Some.command (YieldsList-turn (YieldsList-at c.into_iter-number-iterator.ensures.into_iter_gives (YieldsList-from_enumerate (YieldsList-at c.enumerate-number-items.ensures.source (YieldsList-from_vec c.args.trace.items c.into_iter.ensures.rest (omega (arith, c.into_iter.ensures.len, c.args.trace.ok)))) c.enumerate-number-items.ensures.count)) c.loop-number.yielded c.loop-number.number-iterator c.loop-number.yielded_by c.next.result c.next.new.self (c.in-Some.number, c.in-Some.command) c.in-Some.is c.next.ensures.steps) in
-    let h = c.in-Ok.ensures.served (so_far c.args.trace.items (length c.loop-number.yielded) c.loop-number.receipts.items) (subst (λ k. IsIdleAt g.V.Recorded.origin g.V.Steps.run g.V.Steps.entry g.V.Recorded.mark c.args.lock.now (so_far c.args.trace.items (length c.loop-number.yielded) c.loop-number.receipts.items) k c.loop-number.seat) (sym t.1) c.loop-number.invariant.idle) in
-    let more = first-more g.V.Recorded.origin g.V.Steps.run g.V.Steps.entry g.V.Recorded.mark c.args.lock.now c.args.trace.items (length c.loop-number.yielded) c.in-Some.number c.loop-number.receipts.items c.in-Some.command c.serve_one.new.seat c.serve_one.new.pass c.in-Ok.receipt t h in
-    let one = length-append c.loop-number.yielded ((c.in-Some.number, c.in-Some.command) ∷ []) in
-    record {
-      post = post-more c.args.gauge.now c.args.seat.now c.loop-number.seat c.serve_one.new.seat c.args.pass.now c.loop-number.pass c.serve_one.new.pass c.loop-number.invariant.post c.serve_one.ensures.post;
-      idle = subst (λ k. IsIdleAt g.V.Recorded.origin g.V.Steps.run g.V.Steps.entry g.V.Recorded.mark c.args.lock.now (so_far c.args.trace.items k c.push_reserved.new.self.items) k c.serve_one.new.seat) (sym one) (subst (λ rs. IsIdleAt g.V.Recorded.origin g.V.Steps.run g.V.Steps.entry g.V.Recorded.mark c.args.lock.now (so_far c.args.trace.items (length c.loop-number.yielded + 1) rs) (length c.loop-number.yielded + 1) c.serve_one.new.seat) (sym c.push_reserved.ensures.items) more);
-      room = omega (arith, c.loop-number.invariant.room, c.push_reserved.ensures.capacity);
-      count = omega (arith, ap length c.push_reserved.ensures.items, length-append c.loop-number.receipts.items (c.in-Ok.receipt ∷ []), one, c.loop-number.invariant.count);
-      shown = λ low. h.shown;
-    }
-
-pub returns-clause-post : goal.returns-clause-post
-returns-clause-post g c = c.loop-number.invariant.post
-
-pub returns-clause-serves : goal.returns-clause-serves
-returns-clause-serves g c =
-    let t = YieldsList-end (YieldsList-at c.into_iter-number-iterator.ensures.into_iter_gives (YieldsList-from_enumerate (YieldsList-at c.enumerate-number-items.ensures.source (YieldsList-from_vec c.args.trace.items c.into_iter.ensures.rest (omega (arith, c.into_iter.ensures.len, c.args.trace.ok)))) c.enumerate-number-items.ensures.count)) c.loop-number.yielded c.loop-number.number-iterator c.loop-number.yielded_by c.next.result c.next.new.self c.in-None.is c.next.ensures.steps in
-    let all = t.1 ∙ length-enumerate_from 0 c.args.trace.items in
-    record {
-      at = subst (λ k. IsAt g.V.Recorded.origin g.V.Steps.run g.V.Steps.entry g.V.Recorded.mark c.args.lock.now (so_far c.args.trace.items k c.loop-number.receipts.items) c.loop-number.seat) all c.loop-number.invariant.idle.at;
-      paced = c.loop-number.invariant.idle.paced;
-      shown = λ low. c.loop-number.invariant.shown (omega (arith, low, all));
-    }
+pub returns-in-Err-end_write-clause-served : goal.returns-in-Err-end_write-clause-served
+returns-in-Err-end_write-clause-served g c = λ p idle.
+    let b = subst (BeginsAt g.V.Recorded.origin g.V.Steps.run g.V.Steps.entry g.V.Recorded.mark c.args.lock.now p c.args.number c.args.command c.begin.new.seat c.begin.new.pass) c.in-Going.is (c.in-Ok-begin.ensures.begun p idle) in
+    stops-started g.V.Recorded.origin g.V.Steps.run g.V.Steps.entry g.V.Recorded.mark c.args.lock.now p c.args.number b.going c.end_write.new.seat
+    (c.in-Err-end_write.ensures.ended (begins p c.args.number b.going) b.going (starts-waits g.V.Recorded.origin g.V.Steps.run g.V.Steps.entry g.V.Recorded.mark c.args.lock.now p c.args.config.now c.args.number c.args.command c.begin.new.seat c.in-Going.ticket c.requires.formed b))

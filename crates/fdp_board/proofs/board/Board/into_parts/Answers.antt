@@ -1,7 +1,15 @@
 use Rattle.std.proofs.Common.{subst}
-use Rattle.fdp_board.specs.Board.{BoardSeen, IsSafeSince}
+use Rattle.fdp_board.specs.Board.{AreCharged, BoardSeen, IsSafeSince, IsUnfailing}
 use Rattle.fdp_board.proofs.board.Board.into_parts.Goals as goal
 
 pub returns-clause-safe : goal.returns-clause-safe
 returns-clause-safe g c =
     subst (λ (b : BoardSeen g.row.F.Denot). IsSafeSince b.group.handed.moment (g.F.Flash.state b.group.flash) b.group.book.config b.group.book.found b.group.book.entries) c.self.view_is c.self.invariant.safe
+
+pub returns-clause-charged : goal.returns-clause-charged
+returns-clause-charged g c =
+    subst (λ (b : BoardSeen g.row.F.Denot). AreCharged b.group.handed.moment (g.F.Flash.state b.group.flash) b.group.book.entries) c.self.view_is c.self.invariant.charged
+
+pub returns-clause-unfailing : goal.returns-clause-unfailing
+returns-clause-unfailing g c =
+    subst (λ (b : BoardSeen g.row.F.Denot). IsUnfailing b.group.handed (g.F.Flash.state b.group.flash)) c.self.view_is c.self.invariant.unfailing

@@ -1,0 +1,6 @@
+mod Closing
+mod Hired
+mod Left
+mod Lists
+mod Served
+mod Shifting

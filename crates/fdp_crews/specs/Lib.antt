@@ -1,0 +1,4 @@
+pub mod Crews
+pub mod Leaving
+pub mod Rooms
+pub mod Shifts

@@ -1,0 +1,12 @@
+//! Crews: the hosts and the collectors of a drive, on threads of their own, from the making of its lock to its end.
+#![tactic(auto)]
+
+mod crews;
+mod hiring;
+mod leaving;
+mod rooms;
+mod shift;
+mod sweeper;
+mod worker;
+
+pub use shift::{Shift, serve_traces};

@@ -1,0 +1,144 @@
+-- A session, by what the crews of its drive have done.
+use Rattle.std.proofs.Common.{◌≡◌, ◌≢◌, ◌⊎◌, ℕ, zero, suc, ◌+◌, ◌-◌, ◌≤◌, get_or, List, [], ◌∷◌, ◌++◌, length, ap, sym, ◌∙◌, subst, arith, refl, inl, inr}
+use Rattle.std.specs.Prelude.{map}
+use mathlib.Core.List.{IsPrefix, map-append}
+use Rattle.std.proofs.lemmas.Bool.{cases_lt}
+use Rattle.std.proofs.lemmas.List.Elements.{All-cons, All-nil}
+use Rattle.fdp_base.specs.declared.command.Command.{Command}
+use Rattle.fdp_base.specs.declared.config.DriveConfig.{DriveConfig}
+use Rattle.fdp_base.specs.declared.entry.Entry.{Entry}
+use Rattle.fdp_base.specs.declared.recorded.Mark.{Mark}
+use Rattle.fdp_base.specs.Records.{CarriesNone}
+use Rattle.fdp_base.specs.declared.entry.Entry.TheVariants as entries
+use Rattle.fdp_base.proofs.Records.{prefix_refl}
+use Rattle.fdp_board.specs.Board.{AreCharged, Began, BoardSeen, IsJustOpened, IsSafeSince, IsUnfailing, began_with, items_of}
+use Rattle.fdp_board.proofs.Charging.{first-charged}
+use Rattle.fdp_board.proofs.Items.{entries-marked}
+use Rattle.fdp_crews.specs.Crews.{trace_of}
+use Rattle.fdp_crews.specs.Shifts.{HasTrace, IsShift}
+use Rattle.fdp_core.specs.Seen.{Seen}
+use Rattle.fdp_flash.specs.FlashState.{FlashState}
+use Rattle.fdp_rules.specs.History.{Found}
+use Rattle.fdp_rules.specs.Seats.{mark_of}
+use Rattle.fdp_rules.specs.Queue.{HoldsWhole, IsSilent, KeepsQueueOrder, numbered, starting_queue}
+use Rattle.fdp_rules.specs.Step.{IsQueue}
+use Rattle.fdp_workers.specs.declared.ends.End.{End}
+use Rattle.fdp_workers.specs.declared.ends.End.TheVariants as ends
+use Rattle.fdp_workers.specs.declared.receipt.Receipt.{Receipt}
+use Rattle.fdp_workers.specs.Marks.{entry_in, mark_in, marked_after}
+use Rattle.fdp_workers.specs.Queues.{receipts_of, times_started}
+use Rattle.fdp_workers.specs.Run.{Run}
+use Rattle.fdp_drive.specs.Session.{EndsAs, IsSameDrive, IsSession}
+
+-- ---- queues without a trace
+
+beyond : (traces : List (List Command)) (i : ℕ) → length traces ≤ i → get_or traces i [] ≡ []
+beyond [] i high = refl
+beyond (t ∷ ts) zero high = absurd (omega (arith, high))
+beyond (t ∷ ts) (suc i) high = beyond ts i (omega (arith, high))
+
+-- ---- the drive
+
+same-drive : {F : Type 0} (state : F → FlashState) (old new : BoardSeen F) → began_with state new ≡ began_with state old → IsSameDrive state old.group new.group
+same-drive state old new same = record {
+  config_is = ap (λ (b : Began). b.run.config) same;
+  found_is = ap (λ (b : Began). b.run.found) same;
+  opened_is = ap (λ (b : Began). b.opened) same;
+  handed_is = ap (λ (b : Began). b.handed) same;
+  told_is = ap (λ (b : Began). b.told) same;
+  images_are = ap (λ (b : Began). b.tells_images) same;
+  reliable_is = ap (λ (b : Began). b.reliable) same;
+}
+
+entries-of : {F : Type 0} (s : Seen F) → map entry_in (items_of s) ≡ s.book.entries
+entries-of s = entries-marked s.book.found [] s.book.entries
+
+goes-on : {F : Type 0} (old new : Seen F) → IsPrefix (items_of old) (items_of new) → IsPrefix old.book.entries new.book.entries
+goes-on old new p =
+    (map entry_in p.0, ap (λ (es : List Entry). es ++ map entry_in p.0) (sym (entries-of old)) ∙ sym (map-append entry_in (items_of old) p.0) ∙ ap (map entry_in) p.1 ∙ entries-of new)
+
+-- ---- the session
+
+module _ (run : Run) (traces : List (List Command)) (receipts : List (List Receipt)) (es : List Entry) (spent : ℕ) (end : End) (shift : IsShift run traces receipts es spent end) where
+  queue-order : (c : DriveConfig) (queue : ℕ) → IsQueue c queue → KeepsQueueOrder queue (trace_of traces queue) es
+  queue-order c queue is = elim (cases_lt (length traces) queue) [
+    | inl high ↦ (numbered (trace_of traces queue), ap (λ (xs : List (ℕ × Command)). xs ++ numbered (trace_of traces queue)) (sym (shift.others queue high).completes))
+    | inr most ↦ shift.orders queue (record { least = is.0; most = most })
+  ]
+
+  queue-whole : (c : DriveConfig) (queue : ℕ) → IsQueue c queue → ((queue : ℕ) → HasTrace traces queue → HoldsWhole queue (trace_of traces queue) es) → HoldsWhole queue (trace_of traces queue) es
+  queue-whole c queue is whole = elim (cases_lt (length traces) queue) [
+    | inl high ↦ (shift.others queue high).completes ∙ ap numbered (sym (beyond traces (queue - 1) (omega (arith, high))))
+    | inr most ↦ whole queue (record { least = is.0; most = most })
+  ]
+
+ended-as : {F : Type 0} (s : Seen F) (run : Run) (traces : List (List Command)) (receipts : List (List Receipt)) (end : End) → length traces ≤ s.book.config.queues → IsShift run traces receipts s.book.entries s.book.spent end → EndsAs s.book traces receipts end
+ended-as s run traces receipts ends.Whole few shift =
+    ((λ queue is. queue-whole run traces receipts s.book.entries s.book.spent ends.Whole shift s.book.config queue is (λ q has. (shift.ended.0 q has).whole)), shift.ended.1)
+ended-as s run traces receipts ends.Turns few shift =
+    let l = shift.ended.0 in
+    (record { queue = l.queue; is_queue = (l.is_queue.least, omega (arith, l.is_queue.most, few)); left = l.left }, shift.ended.1)
+ended-as s run traces receipts ends.NoMemory few shift = tt
+
+pub session-made : {F : Type 0} (state : F → FlashState) (old new : BoardSeen F) (traces : List (List Command)) (receipts : List (List Receipt)) (end : End) → length traces ≤ old.group.book.config.queues → began_with state new ≡ began_with state old → IsPrefix (items_of old.group) (items_of new.group) →
+    IsShift (began_with state old).run traces receipts (map entry_in (items_of new.group)) new.group.book.spent end → IsSafeSince new.group.handed.moment (state new.group.flash) new.group.book.config new.group.book.found new.group.book.entries →
+    AreCharged new.group.handed.moment (state new.group.flash) new.group.book.entries → IsUnfailing new.group.handed (state new.group.flash) → IsSession state old.group new.group traces receipts end
+session-made state old new traces receipts end few same prefix shift safe charged unfailing =
+    let s = new.group in
+    let r = (began_with state old).run in
+    let here : IsShift r traces receipts s.book.entries s.book.spent end = subst (λ (es : List Entry). IsShift r traces receipts es s.book.spent end) (entries-of s) shift in
+    let drive = same-drive state old new same in
+    let found = ap (λ (b : Began). b.run.found) same in
+    record {
+      same = drive;
+      goes_on = goes-on old.group s prefix;
+      orders = λ queue is. queue-order r traces receipts s.book.entries s.book.spent end here s.book.config queue is;
+      once = here.once;
+      others = here.others;
+      receipts_are = record { count = here.receipts_are.count; each = λ i low. here.receipts_are.each i low ∙ ap (λ f. receipts_of f (i + 1) s.book.entries) (sym found) };
+      ended = ended-as s r traces receipts end (subst (λ (c : DriveConfig). length traces ≤ c.queues) (sym drive.config_is) few) here;
+      safe = safe;
+      charged = charged;
+      unfailing = unfailing;
+    }
+
+first-silent : (queue : ℕ) (es : List Entry) → queue ≢ 0 → (es ≡ []) ⊎ (es ≡ entries.Reopened ∷ []) → IsSilent queue es
+first-silent queue es low (inl none) = subst (IsSilent queue) (sym none) (record { completes = refl; starts = All-nil (λ e. starting_queue e ≢ queue) })
+first-silent queue es low (inr one) = subst (IsSilent queue) (sym one) (record { completes = refl; starts = All-cons (λ e. starting_queue e ≢ queue) entries.Reopened [] (λ same. low (sym same)) (All-nil (λ e. starting_queue e ≢ queue)) })
+
+first-once : (queue number : ℕ) (es : List Entry) → (es ≡ []) ⊎ (es ≡ entries.Reopened ∷ []) → times_started queue number es ≤ 1
+first-once queue number es (inl none) = subst (λ (xs : List Entry). times_started queue number xs ≤ 1) (sym none) (omega arith)
+first-once queue number es (inr one) = subst (λ (xs : List Entry). times_started queue number xs ≤ 1) (sym one) (omega arith)
+
+-- nothing was served
+pub session-unserved : {F : Type 0} (state : F → FlashState) (s : Seen F) (traces : List (List Command)) → IsJustOpened state s → IsSession state s s traces [] ends.NoMemory
+session-unserved state s traces opened = record {
+  same = record { config_is = refl; found_is = refl; opened_is = refl; handed_is = refl; told_is = refl; images_are = refl; reliable_is = refl };
+  goes_on = prefix_refl s.book.entries;
+  orders = λ queue is. (numbered (trace_of traces queue), ap (λ (xs : List (ℕ × Command)). xs ++ numbered (trace_of traces queue)) (sym (silent queue (λ zero. absurd (omega (arith, zero, is.0)))).completes));
+  once = λ queue number low. first-once queue number s.book.entries opened.entries_are;
+  others = λ queue high. silent queue (λ zero. absurd (omega (arith, zero, high)));
+  receipts_are = record { count = inr refl; each = λ i low. absurd (omega (arith, low)) };
+  ended = tt;
+  safe = opened.safe;
+  charged = first-charged (state s.flash) s.handed.moment s.book.entries opened.entries_are;
+  unfailing = opened.unfailing;
+} where
+  silent : (queue : ℕ) → queue ≢ 0 → IsSilent queue s.book.entries
+  silent queue low = first-silent queue s.book.entries low opened.entries_are
+
+-- where it ended before it began
+pub ended-early : {F X : Type 0} (items : X → List Receipt) (state : F → FlashState) (s new : Seen F) (traces : List (List Command)) (receipts : List X) (end : End) → new ≡ s → receipts ≡ [] → end ≡ ends.NoMemory → IsJustOpened state s → IsSession state s new traces (map items receipts) end
+ended-early {F} {X} items state s new traces receipts end same none is opened =
+    subst (λ (x : Seen F). IsSession state s x traces (map items receipts) end) (sym same)
+    (subst (λ (rs : List X). IsSession state s s traces (map items rs) end) (sym none)
+    (subst (λ (e : End). IsSession state s s traces [] e) (sym is) (session-unserved state s traces opened)))
+
+quiet-first : (f : Found) (es : List Entry) → (es ≡ []) ⊎ (es ≡ entries.Reopened ∷ []) → CarriesNone mark_in (marked_after f [] es)
+unfolding marked_after
+quiet-first f es (inl none) = subst (λ (xs : List Entry). CarriesNone mark_in (marked_after f [] xs)) (sym none) (All-nil (λ (x : Entry × Mark). (mark_in x).number ≡ 0))
+quiet-first f es (inr one) = subst (λ (xs : List Entry). CarriesNone mark_in (marked_after f [] xs)) (sym one) (All-cons (λ (x : Entry × Mark). (mark_in x).number ≡ 0) (entries.Reopened, mark_of f [] entries.Reopened) [] refl (All-nil (λ (x : Entry × Mark). (mark_in x).number ≡ 0)))
+
+-- no entry carries a number yet
+pub first-unmarked : {F : Type 0} (s : Seen F) → (s.book.entries ≡ []) ⊎ (s.book.entries ≡ entries.Reopened ∷ []) → CarriesNone mark_in (items_of s)
+first-unmarked s first = quiet-first s.book.found s.book.entries first

@@ -1,0 +1,11 @@
+pub mod Agreeing
+pub mod Beginnings
+pub mod Forms
+pub mod Lines
+pub mod Listing
+pub mod Loads
+pub mod Readings
+pub mod Repeats
+pub mod Summing
+pub mod Tables
+pub mod Unwritten

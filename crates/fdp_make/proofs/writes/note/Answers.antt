@@ -1,0 +1,13 @@
+use Rattle.std.proofs.Common.{sym}
+use Rattle.fdp_make.proofs.Tables.{takes_host, takes_nothing, tells_next, when_ok}
+use Rattle.fdp_make.proofs.writes.note.Goals as goal
+
+pub returns-in-Some : goal.returns-in-Some
+returns-in-Some c =
+    when_ok _ _ c.note_host.result
+    (λ made es tells. tells_next c.args.writes.now c.note_host.new.writes es c.args.entry.now
+    (takes_host c.args.writes.now c.note_host.new.writes c.args.entry.now c.in-Some.host.now (sym c.in-Some.ensures) made) tells)
+    c.note_host.ensures
+
+pub returns-in-None : goal.returns-in-None
+returns-in-None c es tells = tells_next c.args.writes.now c.args.writes.now es c.args.entry.now (takes_nothing c.args.writes.now c.args.entry.now (sym c.in-None.ensures)) tells

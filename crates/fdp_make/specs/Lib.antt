@@ -1,0 +1,4 @@
+pub mod Load
+pub mod Served
+pub mod Summary
+pub mod Table

@@ -1,0 +1,163 @@
+//! Hosts and a collector that have to wait for one another within their commands and passes. A run on one thread does not get through, nor one that keeps the
+//! drive over a whole command, nor one whose collector makes no step.
+use crate::outcome::run;
+use crate::texts::Trace;
+use fdp_io::{BenchMem, Gate, Point};
+use std::alloc::{AllocError, Global};
+use std::sync::Wait;
+use std::sync::atomic::{AtomicUsize, Ordering};
+use std::thread;
+use std::thread::Threads;
+
+const CONFIG: &[u8] = b"\
+    block = 512\n\
+    unit_pages = 8\n\
+    groups = 2\n\
+    units = 20\n\
+    area_units = 4\n\
+    queues = 2\n\
+    blocks_per_command = 4\n\
+    fdp = [[\"initial\", \"initial\", \"persistent\"]]\n\
+    enabled = true\n\
+    index = 0\n\
+    queue_depth = 16\n\
+    collectors = 1\n\
+    turns = 4096\n\
+    namespaces = [{ blocks = 80, handles = [0, 1, 2] }]\n\
+";
+
+/// So many commands of host 1 fill all but three units of the first group, and leave a live page in each.
+const FILLING: usize = 37;
+
+/// The most looks of a worker that is held.
+const LOOKS: u32 = 30_000_000;
+
+/// What the workers have come to.
+#[derive(Drop)]
+struct Crossing {
+    ended_first: AtomicUsize,
+    ended_second: AtomicUsize,
+    begun_second: AtomicUsize,
+    ready_first: AtomicUsize,
+    copied: AtomicUsize,
+    /// How often a worker was held until its looks ran out.
+    late: AtomicUsize,
+}
+
+impl Crossing {
+    fn new() -> Crossing {
+        Crossing {
+            ended_first: AtomicUsize::new(0),
+            ended_second: AtomicUsize::new(0),
+            begun_second: AtomicUsize::new(0),
+            ready_first: AtomicUsize::new(0),
+            copied: AtomicUsize::new(0),
+            late: AtomicUsize::new(0),
+        }
+    }
+
+    /// Holds a worker until a count is so high.
+    fn hold(&self, count: &AtomicUsize, least: usize) {
+        for _ in 0..LOOKS {
+            if count.load(Ordering::SeqCst) >= least {
+                return;
+            }
+            thread::yield_now();
+        }
+        self.late.fetch_add(1, Ordering::SeqCst);
+    }
+
+    /// The collector begins once the group has three free units, and waits behind its first copy for the overwrite of host 2.
+    fn at_collector(&self, point: Point) {
+        match point {
+            Point::Begun => self.hold(&self.ended_first, FILLING),
+            Point::Copied => {
+                if self.copied.fetch_add(1, Ordering::SeqCst) == 0 {
+                    self.hold(&self.ended_second, 2);
+                }
+            }
+            Point::Placed | Point::BeforeCommit | Point::Ended => {}
+        }
+    }
+
+    /// Host 1 waits within its last command for the first one of host 2.
+    fn at_first(&self, point: Point) {
+        match point {
+            Point::BeforeCommit => {
+                if self.ready_first.fetch_add(1, Ordering::SeqCst) == FILLING {
+                    self.hold(&self.ended_second, 1);
+                }
+            }
+            Point::Ended => {
+                self.ended_first.fetch_add(1, Ordering::SeqCst);
+            }
+            Point::Begun | Point::Placed | Point::Copied => {}
+        }
+    }
+
+    /// Host 2 waits before its overwrite, its second command, for the first copy.
+    fn at_second(&self, point: Point) {
+        match point {
+            Point::Begun => {
+                if self.begun_second.fetch_add(1, Ordering::SeqCst) == 1 {
+                    self.hold(&self.copied, 1);
+                }
+            }
+            Point::Ended => {
+                self.ended_second.fetch_add(1, Ordering::SeqCst);
+            }
+            Point::Placed | Point::BeforeCommit | Point::Copied => {}
+        }
+    }
+}
+
+impl Gate for Crossing {
+    fn at(&self, queue: u8, point: Point) {
+        match queue {
+            0 => self.at_collector(point),
+            1 => self.at_first(point),
+            _ => self.at_second(point),
+        }
+    }
+}
+
+/// Fills 72 blocks, and then all of them but one a unit once more, in the first group; and one block more.
+fn first_trace(alloc: Global) -> Result<Trace, AllocError> {
+    let mut trace = Trace::new(alloc);
+    for part in 0..18u32 {
+        trace.write(alloc, 1, 4 * part, 4, part, 0)?;
+    }
+    for unit in 0..9u32 {
+        trace.write(alloc, 1, 8 * unit, 4, 100 + unit, 0)?;
+        trace.write(alloc, 1, 8 * unit + 4, 3, 200 + unit, 0)?;
+    }
+    trace.write(alloc, 1, 0, 1, 300, 0)?;
+    trace.write(alloc, 1, 1, 1, 301, 0)?;
+    Ok(trace)
+}
+
+/// Reads a block, overwrites one whose page the collector copies, and reads that.
+fn second_trace(alloc: Global) -> Result<Trace, AllocError> {
+    let mut trace = Trace::new(alloc);
+    trace.read(alloc, 1, 79, 1)?;
+    trace.write(alloc, 1, 7, 1, 77, 0x8000)?;
+    trace.read(alloc, 1, 7, 1)?;
+    Ok(trace)
+}
+
+/// The row, and how it came out.
+pub fn row<R: Threads + Wait + Sync>(rt: &R, alloc: Global) -> Result<String, AllocError> {
+    let mut bench = BenchMem::new(alloc, Vec::new(alloc));
+    bench.add(alloc, "config", CONFIG)?;
+    bench.add(alloc, "first", first_trace(alloc)?.text.as_bytes())?;
+    bench.add(alloc, "second", second_trace(alloc)?.text.as_bytes())?;
+    let gate = Crossing::new();
+    let words = ["run", "config", "image", "first", "second"];
+    let came = run(rt, alloc, &words, &mut bench, 1 << 16, &gate)?;
+    let (status, well) = (came.status, came.count(b"0/00"));
+    let late = gate.late.load(Ordering::SeqCst);
+    let copied = gate.copied.load(Ordering::SeqCst) > 0;
+    format!(in alloc;
+        "crossing: status {status}, {well} commands succeeded, a page was copied: {copied}, {late} waits ran out"
+    )
+}
