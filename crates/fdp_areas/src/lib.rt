@@ -7,8 +7,6 @@ mod data;
 mod look;
 mod seal;
 mod search;
-#[cfg(test)]
-mod tests;
 
 pub use current::find_current;
 pub use data::{find_used, look_at_data};

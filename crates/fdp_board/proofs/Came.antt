@@ -11,24 +11,24 @@ use Rattle.fdp_base.specs.declared.entry.Entry.{Entry}
 use Rattle.fdp_base.specs.declared.entry.Entry.TheVariants as entries
 use Rattle.fdp_base.specs.declared.entry.Host.{Host}
 use Rattle.fdp_base.specs.CommandKinds.{write_of}
-use Rattle.fdp_book.specs.declared.ticket.Done.{Done}
-use Rattle.fdp_book.specs.declared.ticket.Ticket.{Ticket}
-use Rattle.fdp_book.specs.Book.{state_in}
-use Rattle.fdp_book.specs.Relocating.{told_by}
-use Rattle.fdp_book.specs.Tickets.{IsTicketOf}
-use Rattle.fdp_collector.specs.declared.step.Lost.{Lost}
-use Rattle.fdp_collector.specs.declared.step.Lost.TheVariants as lost
-use Rattle.fdp_collector.specs.declared.step.Step.TheVariants as steps
-use Rattle.fdp_core.specs.declared.answer.Begun.{Begun}
-use Rattle.fdp_core.specs.declared.answer.Begun.TheVariants as begun
-use Rattle.fdp_core.specs.declared.answer.Placed.{Placed}
-use Rattle.fdp_core.specs.declared.answer.Placed.TheVariants as placed
-use Rattle.fdp_core.specs.Answers.{Begins, Collects, CollectsStep, Commits, EndsInPlacing, MakesRoom, Places, PlacesPage, Starts}
-use Rattle.fdp_core.specs.Seen.{Seen}
-use Rattle.fdp_core.specs.Steps.{Completes}
+use Rattle.fdp_workers.specs.fdp_book.declared.ticket.Done.{Done}
+use Rattle.fdp_workers.specs.fdp_book.declared.ticket.Ticket.{Ticket}
+use Rattle.fdp_workers.specs.fdp_book.Book.{state_in}
+use Rattle.fdp_workers.specs.fdp_book.Relocating.{told_by}
+use Rattle.fdp_workers.specs.fdp_book.Tickets.{IsTicketOf}
+use Rattle.fdp_workers.specs.fdp_collector.declared.step.Lost.{Lost}
+use Rattle.fdp_workers.specs.fdp_collector.declared.step.Lost.TheVariants as lost
+use Rattle.fdp_workers.specs.fdp_collector.declared.step.Step.TheVariants as steps
+use Rattle.fdp_workers.specs.fdp_core.declared.answer.Begun.{Begun}
+use Rattle.fdp_workers.specs.fdp_core.declared.answer.Begun.TheVariants as begun
+use Rattle.fdp_workers.specs.fdp_core.declared.answer.Placed.{Placed}
+use Rattle.fdp_workers.specs.fdp_core.declared.answer.Placed.TheVariants as placed
+use Rattle.fdp_workers.specs.fdp_core.Answers.{Begins, Collects, CollectsStep, Commits, EndsInPlacing, MakesRoom, Places, PlacesPage, Starts}
+use Rattle.fdp_workers.specs.fdp_core.Seen.{Seen}
+use Rattle.fdp_workers.specs.fdp_core.Steps.{Completes}
 use Rattle.fdp_flash.specs.FlashState.{Call, FlashState}
-use Rattle.fdp_relocation.specs.declared.advance.Advance.{Advance}
-use Rattle.fdp_relocation.specs.declared.advance.Advance.TheVariants as advance
+use Rattle.fdp_workers.specs.fdp_relocation.declared.advance.Advance.{Advance}
+use Rattle.fdp_workers.specs.fdp_relocation.declared.advance.Advance.TheVariants as advance
 use Rattle.fdp_rules.specs.History.{Found, state_of}
 use Rattle.fdp_rules.specs.PlainState.{Going}
 use Rattle.fdp_rules.specs.Queue.{completed}

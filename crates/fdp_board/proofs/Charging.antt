@@ -7,13 +7,13 @@ use Rattle.fdp_base.specs.declared.command.Command.{Command}
 use Rattle.fdp_base.specs.declared.entry.Entry.{Entry}
 use Rattle.fdp_base.specs.declared.entry.Entry.TheVariants as entries
 use Rattle.fdp_base.specs.declared.entry.Host.{Host}
-use Rattle.fdp_book.specs.declared.ticket.Done.{Done}
-use Rattle.fdp_core.specs.Seen.{Seen}
-use Rattle.fdp_core.specs.Steps.{Completes}
+use Rattle.fdp_workers.specs.fdp_book.declared.ticket.Done.{Done}
+use Rattle.fdp_workers.specs.fdp_core.Seen.{Seen}
+use Rattle.fdp_workers.specs.fdp_core.Steps.{Completes}
 use Rattle.fdp_flash.specs.declared.cell.Cell.{Cell}
 use Rattle.fdp_flash.specs.FlashState.{Call, FlashState}
 use Rattle.fdp_flash.specs.Runs.{Runs}
-use Rattle.fdp_ledger.specs.Told.{is_media_reply}
+use Rattle.fdp_workers.specs.fdp_ledger.Told.{is_media_reply}
 use Rattle.fdp_rules.specs.Change.{is_media_error}
 use Rattle.fdp_board.specs.Board.{AreCharged, FailedSince, moment_of}
 use Rattle.fdp_board.proofs.Items.{IsQuiet}

@@ -15,7 +15,7 @@ use Rattle.fdp_base.specs.declared.recorded.Mark.{Mark}
 use Rattle.fdp_base.specs.declared.recorded.Snapshot.{Snapshot}
 use Rattle.fdp_base.specs.EntryKinds.{host_of, placed_of, started_of}
 use Rattle.fdp_base.specs.Records.{CarriesNone}
-use Rattle.fdp_relocation.specs.Entries.{AreRelocationIn, IsRelocationIn}
+use Rattle.fdp_workers.specs.fdp_relocation.Entries.{AreRelocationIn, IsRelocationIn}
 use Rattle.fdp_rules.specs.History.{Found, totals_of}
 use Rattle.fdp_rules.specs.Seats.{mark_of, marks_after, queue_of_ticket, seat_of_entry}
 use Rattle.fdp_rules.specs.Totals.{erases, host_blocks, media_blocks}

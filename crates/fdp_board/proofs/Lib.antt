@@ -1,3 +1,5 @@
+-- passed on to the crates above
+pub use Rattle.fdp_workers.proofs.fdp_outline as fdp_outline
 pub mod Came
 pub mod Charging
 pub mod Items

@@ -13,10 +13,10 @@ use Rattle.fdp_base.specs.declared.entry.Host.{Host}
 use Rattle.fdp_base.specs.declared.status.TheConstants.Status as statuses
 use Rattle.fdp_base.specs.CommandKinds.{is_saved}
 use Rattle.fdp_base.proofs.Entries.{by-host}
-use Rattle.fdp_book.specs.declared.ticket.Done.{Done}
-use Rattle.fdp_core.specs.Seen.{Seen}
-use Rattle.fdp_core.specs.Steps.{Completes}
-use Rattle.fdp_durability.proofs.Owed.{owed-later, unowed, unowed-late}
+use Rattle.fdp_workers.specs.fdp_book.declared.ticket.Done.{Done}
+use Rattle.fdp_workers.specs.fdp_core.Seen.{Seen}
+use Rattle.fdp_workers.specs.fdp_core.Steps.{Completes}
+use Rattle.fdp_workers.proofs.fdp_durability.Owed.{owed-later, unowed, unowed-late}
 use Rattle.fdp_flash.specs.declared.cell.Cell.{Cell}
 use Rattle.fdp_flash.specs.FlashState.{Call, FlashState}
 use Rattle.fdp_image.specs.Kept.{IsBeginning, StandsForKept, is_completed, is_owed}

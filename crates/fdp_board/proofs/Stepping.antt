@@ -8,16 +8,16 @@ use Rattle.fdp_base.specs.declared.entry.Entry.{Entry}
 use Rattle.fdp_base.specs.declared.entry.Totals.{Totals}
 use Rattle.fdp_base.specs.declared.recorded.Mark.{Mark}
 use Rattle.fdp_base.proofs.Records.{prefix_trans}
-use Rattle.fdp_book.specs.Book.{BookSeen, state_in}
-use Rattle.fdp_book.specs.declared.ticket.Ticket.{Ticket}
-use Rattle.fdp_book.specs.Tickets.{IsTicketOf}
-use Rattle.fdp_core.specs.Seen.{Seen}
-use Rattle.fdp_core.specs.Steps.{Adds}
-use Rattle.fdp_core.specs.Stops.{OutlastsStops}
+use Rattle.fdp_workers.specs.fdp_book.Book.{BookSeen, state_in}
+use Rattle.fdp_workers.specs.fdp_book.declared.ticket.Ticket.{Ticket}
+use Rattle.fdp_workers.specs.fdp_book.Tickets.{IsTicketOf}
+use Rattle.fdp_workers.specs.fdp_core.Seen.{Seen}
+use Rattle.fdp_workers.specs.fdp_core.Steps.{Adds}
+use Rattle.fdp_workers.specs.fdp_core.Stops.{OutlastsStops}
 use Rattle.fdp_flash.specs.declared.cell.Cell.{Cell}
 use Rattle.fdp_flash.specs.FlashState.{Call, FlashState}
 use Rattle.fdp_image.specs.Kept.{StandsForKept}
-use Rattle.fdp_ledger.specs.declared.counts.Counts.{Counts}
+use Rattle.fdp_workers.specs.fdp_ledger.declared.counts.Counts.{Counts}
 use Rattle.fdp_rules.specs.History.{Found, point_of, state_of}
 use Rattle.fdp_rules.specs.PlainState.{Going, PlainState}
 use Rattle.fdp_rules.specs.Seats.{mark_of, marks_after, marks_of, seat_of_entry}

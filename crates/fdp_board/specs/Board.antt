@@ -11,12 +11,12 @@ use Rattle.fdp_base.specs.declared.entry.Totals.{Totals}
 use Rattle.fdp_base.specs.declared.recorded.Mark.{Mark}
 use Rattle.fdp_base.specs.Counts.{Rose}
 use Rattle.fdp_base.specs.EntryKinds.{host_of}
-use Rattle.fdp_core.specs.Seen.{Seen}
+use Rattle.fdp_workers.specs.fdp_core.Seen.{Seen}
 use Rattle.fdp_flash.specs.declared.cell.Cell.{Cell}
 use Rattle.fdp_flash.specs.FlashState.{Call, FlashState}
 use Rattle.fdp_image.specs.Kept.{StandsForKept}
-use Rattle.fdp_ledger.specs.declared.counts.Counts.{Counts}
-use Rattle.fdp_ledger.specs.Told.{is_media_reply}
+use Rattle.fdp_workers.specs.fdp_ledger.declared.counts.Counts.{Counts}
+use Rattle.fdp_workers.specs.fdp_ledger.Told.{is_media_reply}
 use Rattle.fdp_origin.specs.Opening.{blank}
 use Rattle.fdp_rules.specs.History.{Found}
 use Rattle.fdp_rules.specs.Seats.{marks_of}

@@ -7,3 +7,4 @@ mod record;
 
 pub use beginning::Beginning;
 pub use board::Board;
+pub use fdp_workers::{Group, NotLoaded, OpenFault};

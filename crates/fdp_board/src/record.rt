@@ -2,8 +2,8 @@ ghost use Rattle.std.specs.Prelude.{◌≡◌, length};
 
 use crate::beginning::Beginning;
 use fdp_base::{Entry, Mark, Recorded};
-use fdp_core::Group;
 use fdp_flash::Flash;
+use fdp_workers::Group;
 use std::marker::Model;
 
 /// The history of a drive, to be shown on a gauge.
@@ -13,7 +13,7 @@ pub struct Record<'a, F: Flash> {
 }
 
 impl<'a, F: Flash> Model for Record<'a, F> {
-    ghost use Rattle.fdp_core.specs.Seen.{Seen};
+    ghost use Rattle.fdp_workers.specs.fdp_core.Seen.{Seen};
 
     ghost Value = { Seen F };
 

@@ -26,7 +26,7 @@ use Rattle.fdp_book.specs.Room.{places_of}
 use Rattle.fdp_book.specs.Updating.{CanSet, CanUpdate, SetsTables, Updates}
 use Rattle.fdp_book.proofs.Flights.Starting.{position-is}
 use Rattle.fdp_book.proofs.Numbers.{number-left}
-use Rattle.fdp_locations.specs.Held.{pages_held}
+use Rattle.fdp_readings.specs.fdp_locations.Held.{pages_held}
 use Rattle.fdp_origin.specs.Opening.{Opening}
 use Rattle.fdp_book.proofs.Held.Applied.{applied-follows}
 use Rattle.fdp_book.proofs.Held.Cleared.{ClearsTables, has-pointers, held-deallocated, held-zeroed}

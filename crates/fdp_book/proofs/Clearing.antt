@@ -18,9 +18,9 @@ use Rattle.fdp_owners.specs.declared.owner.Owner.{Owner}
 use Rattle.fdp_owners.specs.Owned.{AreOwners, with_pointer}
 use Rattle.fdp_owners.specs.OwnerTable.{owner_at, pointer_of, with_owner}
 use Rattle.fdp_owners.proofs.Owned.{owners-cleared}
-use Rattle.fdp_pages.specs.Joined.{AreJoined}
-use Rattle.fdp_pages.specs.PageTables.{PageTables}
-use Rattle.fdp_pages.specs.Steps.{ChangesOwners}
+use Rattle.fdp_readings.specs.fdp_pages.Joined.{AreJoined}
+use Rattle.fdp_readings.specs.fdp_pages.PageTables.{PageTables}
+use Rattle.fdp_readings.specs.fdp_pages.Steps.{ChangesOwners}
 use Rattle.fdp_pointers.specs.Facts.{Page}
 use Rattle.fdp_pointers.specs.Pointers.{Behind, Pointer, Pointer.of_block, Pointer.of_flight, is_outside, only, renamed}
 use Rattle.fdp_rules.specs.Effect.{is_in_ranges}

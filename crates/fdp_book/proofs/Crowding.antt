@@ -7,18 +7,18 @@ use Rattle.fdp_book.specs.declared.flight.Flight.{Flight}
 use Rattle.fdp_book.specs.Held.{ArePagesOf}
 use Rattle.fdp_history.specs.OrderlyState.{IsOrderlyState}
 use Rattle.fdp_history.specs.Standing.{IsStanding}
-use Rattle.fdp_locations.specs.Located.{AreUnitsOf, next_in}
-use Rattle.fdp_locations.specs.Written.{Written}
-use Rattle.fdp_locations.proofs.Others.{is-group}
+use Rattle.fdp_readings.specs.fdp_locations.Located.{AreUnitsOf, next_in}
+use Rattle.fdp_readings.specs.fdp_locations.Written.{Written}
+use Rattle.fdp_readings.proofs.fdp_locations.Others.{is-group}
 use Rattle.fdp_map.specs.MapTable.{MapTable}
-use Rattle.fdp_pages.specs.Joined.{AreJoined}
-use Rattle.fdp_pages.specs.PageTables.{PageTables, target_of, unit_of}
-use Rattle.fdp_pages.proofs.Held.{referenced-held, target-held}
+use Rattle.fdp_readings.specs.fdp_pages.Joined.{AreJoined}
+use Rattle.fdp_readings.specs.fdp_pages.PageTables.{PageTables, target_of, unit_of}
+use Rattle.fdp_readings.proofs.fdp_pages.Held.{referenced-held, target-held}
 use Rattle.fdp_rules.specs.Point.{Point}
 use Rattle.fdp_rules.specs.Room.{handles_in_force}
-use Rattle.fdp_trails.specs.Crowded.{IsCrowded}
-use Rattle.fdp_trails.proofs.Counting.{live-most}
-use Rattle.fdp_trails.proofs.Holding.{held-few}
+use Rattle.fdp_readings.specs.fdp_trails.Crowded.{IsCrowded}
+use Rattle.fdp_readings.proofs.fdp_trails.Counting.{live-most}
+use Rattle.fdp_readings.proofs.fdp_trails.Holding.{held-few}
 use Rattle.fdp_units.specs.DataUnits.{is_free, is_referenced, is_target}
 use Rattle.fdp_units.specs.UnitTable.{Cut, HasNoVictim, count_in}
 

@@ -18,7 +18,7 @@ use Rattle.fdp_map.specs.MapTable.{MapTable, mapped_at, size_in}
 use Rattle.fdp_map.proofs.Tables.{block_past}
 use Rattle.fdp_owners.specs.Owned.{AreOwners}
 use Rattle.fdp_owners.specs.OwnerTable.{owner_at}
-use Rattle.fdp_pages.specs.PageTables.{PageTables}
+use Rattle.fdp_readings.specs.fdp_pages.PageTables.{PageTables}
 use Rattle.fdp_pointers.specs.Facts.{Page}
 use Rattle.fdp_pointers.specs.Pointers.{Behind, Pointer, Pointer.of_block, Pointer.of_flight, is_outside, only, renamed}
 use Rattle.fdp_rules.specs.PlainState.{Namespace}

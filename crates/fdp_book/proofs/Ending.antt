@@ -27,8 +27,8 @@ use Rattle.fdp_book.proofs.Committing.Points.{blocks-count}
 use Rattle.fdp_book.proofs.Held.Ended.{held-answered, held-ended}
 use Rattle.fdp_book.proofs.Placing.Nexts.{one-going}
 use Rattle.fdp_history.specs.OrderlyState.{IsOrderlyGoing}
-use Rattle.fdp_locations.proofs.Ended.{host}
-use Rattle.fdp_locations.specs.Written.{Written}
+use Rattle.fdp_readings.proofs.fdp_locations.Ended.{host}
+use Rattle.fdp_readings.specs.fdp_locations.Written.{Written}
 use Rattle.fdp_map.specs.MapTable.{size_in}
 use Rattle.fdp_rules.specs.Answer.{bare}
 use Rattle.fdp_rules.specs.History.{Found}

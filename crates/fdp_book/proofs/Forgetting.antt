@@ -7,8 +7,8 @@ use Rattle.fdp_book.specs.declared.tables.Tables.{Tables}
 use Rattle.fdp_book.specs.Forgetting.{MayForget}
 use Rattle.fdp_book.specs.Held.{IsHeld, flight_in}
 use Rattle.fdp_book.proofs.Leading.{live-known, pages-owned}
-use Rattle.fdp_locations.specs.Written.{Written}
-use Rattle.fdp_pages.specs.Steps.{AreOwned}
+use Rattle.fdp_readings.specs.fdp_locations.Written.{Written}
+use Rattle.fdp_readings.specs.fdp_pages.Steps.{AreOwned}
 use Rattle.fdp_rules.specs.History.{Found, point_of}
 use Rattle.fdp_rules.specs.Step.{IsQueue}
 

@@ -18,14 +18,14 @@ use Rattle.fdp_book.specs.Forgetting.{is_there_in, live_pages}
 use Rattle.fdp_book.specs.Held.{flight_in, going_of, lead_in, page_in}
 use Rattle.fdp_book.proofs.Flights.Rows.{flight_in-set}
 use Rattle.fdp_book.proofs.Kept.{there-alike}
-use Rattle.fdp_locations.specs.Located.{LeadsTo}
-use Rattle.fdp_locations.proofs.Ended.{AreItsPages}
+use Rattle.fdp_readings.specs.fdp_locations.Located.{LeadsTo}
+use Rattle.fdp_readings.proofs.fdp_locations.Ended.{AreItsPages}
 use Rattle.fdp_map.specs.MapTable.{MapTable}
 use Rattle.fdp_owners.specs.declared.owner.Owner.{Owner}
 use Rattle.fdp_owners.specs.Owned.{AreOwners}
 use Rattle.fdp_owners.specs.OwnerTable.{OwnerTable, owner_at}
 use Rattle.fdp_owners.proofs.Tables.{is_spot-same}
-use Rattle.fdp_pages.specs.Steps.{AreOwned}
+use Rattle.fdp_readings.specs.fdp_pages.Steps.{AreOwned}
 use Rattle.fdp_pointers.specs.Facts.{IsApart, Page}
 use Rattle.fdp_pointers.specs.Pointers.{Behind, Pointer, Pointer.of_block, Pointer.of_flight, is_of_another, only, renamed}
 use Rattle.fdp_pointers.proofs.Copies.{same-spot}

@@ -1,3 +1,10 @@
+-- passed on to the crates above
+pub use Rattle.fdp_found.proofs.fdp_collector as fdp_collector
+pub use Rattle.fdp_found.proofs as fdp_found
+pub use Rattle.fdp_found.proofs.fdp_locations as fdp_locations
+pub use Rattle.fdp_found.proofs.fdp_pages as fdp_pages
+pub use Rattle.fdp_readings.proofs as fdp_readings
+pub use Rattle.fdp_found.proofs.fdp_trails as fdp_trails
 pub mod Kept
 pub mod Leading
 pub mod Flights

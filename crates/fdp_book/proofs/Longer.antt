@@ -6,9 +6,9 @@ use Rattle.fdp_base.specs.declared.entry.Entry.{Entry}
 use Rattle.fdp_base.specs.declared.entry.Spot.{Spot}
 use Rattle.fdp_book.specs.Book.{BookSeen, IsLonger, first_in, point_in, state_in, written_in}
 use Rattle.fdp_flash.specs.declared.cell.Cell.{Cell}
-use Rattle.fdp_locations.specs.Held.{pages_held}
-use Rattle.fdp_locations.specs.Written.{Written, written_after, written_by}
-use Rattle.fdp_locations.proofs.Histories.{written_by-push}
+use Rattle.fdp_readings.specs.fdp_locations.Held.{pages_held}
+use Rattle.fdp_readings.specs.fdp_locations.Written.{Written, written_after, written_by}
+use Rattle.fdp_readings.proofs.fdp_locations.Histories.{written_by-push}
 use Rattle.fdp_rules.proofs.Pushes.{point_of-push}
 use Rattle.fdp_rules.specs.History.{Found, point_of, state_of}
 use Rattle.fdp_rules.specs.Next.{next}

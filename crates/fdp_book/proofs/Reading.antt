@@ -9,12 +9,12 @@ use Rattle.fdp_book.specs.Book.{BookSeen, point_in, state_in, written_in, first_
 use Rattle.fdp_book.specs.Held.{IsHeld}
 use Rattle.fdp_book.specs.Reading.{StandsAt}
 use Rattle.fdp_book.proofs.Leading.{led-page}
-use Rattle.fdp_locations.specs.Located.{next_in}
+use Rattle.fdp_readings.specs.fdp_locations.Located.{next_in}
 use Rattle.fdp_map.specs.declared.mapped.Mapped.{Mapped}
 use Rattle.fdp_map.specs.MapTable.{mapped_at}
 use Rattle.fdp_owners.specs.declared.owner.Owner.{Owner}
 use Rattle.fdp_owners.specs.OwnerTable.{IsPlace, OwnerTable, owner_at, page_number}
-use Rattle.fdp_pages.specs.Joined.{AreJoined}
+use Rattle.fdp_readings.specs.fdp_pages.Joined.{AreJoined}
 use Rattle.fdp_pointers.specs.Contents.{PageContent}
 use Rattle.fdp_pointers.specs.Facts.{Page}
 use Rattle.fdp_pointers.specs.Pointers.{Pointer.of_block}

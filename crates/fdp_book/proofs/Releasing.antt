@@ -13,14 +13,14 @@ use Rattle.fdp_book.specs.Held.{flight_in}
 use Rattle.fdp_book.specs.Namespaces.{AreFlown, HasFlights, Releases, goes_to, is_apart, is_to, pages_to}
 use Rattle.fdp_book.proofs.Clearing.{lets-none, lets-on}
 use Rattle.fdp_book.proofs.Leading.{LeadsAlong, its-along, owned-along}
-use Rattle.fdp_locations.proofs.Ended.{owners-released}
+use Rattle.fdp_readings.proofs.fdp_locations.Ended.{owners-released}
 use Rattle.fdp_owners.specs.declared.owner.Owner.{Owner}
 use Rattle.fdp_owners.specs.Owned.{AreOwners}
 use Rattle.fdp_owners.specs.OwnerTable.{OwnerTable, owner_at}
 use Rattle.fdp_owners.proofs.Owned.{owners-apart}
-use Rattle.fdp_pages.specs.Joined.{AreJoined}
-use Rattle.fdp_pages.specs.PageTables.{PageTables}
-use Rattle.fdp_pages.specs.Steps.{AreOwned, ChangesOwners, without}
+use Rattle.fdp_readings.specs.fdp_pages.Joined.{AreJoined}
+use Rattle.fdp_readings.specs.fdp_pages.PageTables.{PageTables}
+use Rattle.fdp_readings.specs.fdp_pages.Steps.{AreOwned, ChangesOwners, without}
 use Rattle.fdp_pointers.specs.Facts.{Page}
 use Rattle.fdp_pointers.specs.Pointers.{Behind, Pointer, Pointer.of_block, Pointer.of_flight, is_of_another, only, renamed}
 use Rattle.fdp_rules.specs.Sites.{is_spot}

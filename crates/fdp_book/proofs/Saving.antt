@@ -17,7 +17,7 @@ use Rattle.fdp_book.specs.Tickets.{IsTicketOf}
 use Rattle.fdp_book.proofs.Placing.Nexts.{one-going}
 use Rattle.fdp_flash.specs.Layout.{page_number}
 use Rattle.fdp_image.specs.Areas.{data_pages}
-use Rattle.fdp_locations.specs.Located.{next_in}
+use Rattle.fdp_readings.specs.fdp_locations.Located.{next_in}
 use Rattle.fdp_map.specs.declared.mapped.Mapped.{Mapped}
 use Rattle.fdp_map.specs.MapTable.{IsPlaced, MapTable, mapped_at}
 use Rattle.fdp_map.specs.PageLists.{page_of}

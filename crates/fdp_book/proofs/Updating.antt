@@ -7,9 +7,9 @@ use Rattle.fdp_base.specs.declared.config.DriveConfig.{DriveConfig}
 use Rattle.fdp_book.specs.declared.tables.Tables.{Tables}
 use Rattle.fdp_book.specs.Updating.{CanUpdate, Updates}
 use Rattle.fdp_handles.specs.HandleTable.{HandleTable, reference_at}
-use Rattle.fdp_pages.specs.PageTables.{PageTables}
-use Rattle.fdp_pages.specs.Steps.{UpdatesHandle}
-use Rattle.fdp_pages.proofs.LeftUnits.{leaves-none, leaves-on}
+use Rattle.fdp_readings.specs.fdp_pages.PageTables.{PageTables}
+use Rattle.fdp_readings.specs.fdp_pages.Steps.{UpdatesHandle}
+use Rattle.fdp_readings.proofs.fdp_pages.LeftUnits.{leaves-none, leaves-on}
 use Rattle.fdp_rules.specs.Effect.{References, updated_at, updated_by}
 use Rattle.fdp_rules.specs.PlainState.{PlainState}
 use Rattle.fdp_rules.specs.Target.{Target}

@@ -10,7 +10,7 @@ use Rattle.fdp_base.specs.CommandKinds.{IsWellFormed, is_saved, is_write}
 use Rattle.fdp_book.specs.declared.tables.Tables.{Tables}
 use Rattle.fdp_book.specs.Commanded.{applied_reply}
 use Rattle.fdp_book.specs.Held.{IsHeld}
-use Rattle.fdp_locations.specs.Written.{Written}
+use Rattle.fdp_readings.specs.fdp_locations.Written.{Written}
 use Rattle.fdp_rules.specs.History.{Found, point_of}
 use Rattle.fdp_rules.specs.Refusal.{refusal_of}
 use Rattle.fdp_rules.specs.Step.{IsQueue}

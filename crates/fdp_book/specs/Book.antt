@@ -6,11 +6,11 @@ use Rattle.fdp_base.specs.declared.entry.Spot.{Spot}
 use Rattle.fdp_flash.specs.declared.cell.Cell.{Cell}
 use Rattle.fdp_book.specs.Configured.{fresh_opening}
 use Rattle.fdp_handles.specs.HandleTable.{reference_at}
-use Rattle.fdp_locations.specs.Held.{pages_held}
-use Rattle.fdp_locations.specs.Located.{AreLed}
-use Rattle.fdp_locations.specs.Written.{Written, written_by}
+use Rattle.fdp_readings.specs.fdp_locations.Held.{pages_held}
+use Rattle.fdp_readings.specs.fdp_locations.Located.{AreLed}
+use Rattle.fdp_readings.specs.fdp_locations.Written.{Written, written_by}
 use Rattle.fdp_owners.specs.OwnerTable.{owner_at}
-use Rattle.fdp_pages.specs.PageTables.{PageTables, no_targets}
+use Rattle.fdp_readings.specs.fdp_pages.PageTables.{PageTables, no_targets}
 use Rattle.fdp_pointers.specs.Facts.{Page}
 use Rattle.fdp_pointers.specs.Pointers.{Behind}
 use Rattle.fdp_rules.specs.Effect.{no_reference}

@@ -11,8 +11,8 @@ use Rattle.fdp_base.specs.CommandKinds.{IsWellFormed, is_saved, is_write}
 use Rattle.fdp_base.specs.Placement.{classes_of}
 use Rattle.fdp_book.specs.Book.{BookSeen, point_in}
 use Rattle.fdp_owners.specs.OwnerTable.{owner_at}
-use Rattle.fdp_pages.specs.PageTables.{PageTables}
-use Rattle.fdp_pages.specs.Steps.{ChangesOwners, LeavesUnits, SetsClasses}
+use Rattle.fdp_readings.specs.fdp_pages.PageTables.{PageTables}
+use Rattle.fdp_readings.specs.fdp_pages.Steps.{ChangesOwners, LeavesUnits, SetsClasses}
 use Rattle.fdp_rules.specs.Answer.{dword0_of}
 use Rattle.fdp_rules.specs.Change.{is_status}
 use Rattle.fdp_rules.specs.PlainState.{PlainState}

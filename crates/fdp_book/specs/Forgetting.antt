@@ -8,7 +8,7 @@ use Rattle.fdp_book.specs.declared.flight.Flight.{Flight}
 use Rattle.fdp_book.specs.declared.tables.Tables.{Tables}
 use Rattle.fdp_book.specs.Held.{flight_in, going_of}
 use Rattle.fdp_owners.specs.OwnerTable.{owner_at}
-use Rattle.fdp_pages.specs.Steps.{AreOwned, ChangesOwners, without}
+use Rattle.fdp_readings.specs.fdp_pages.Steps.{AreOwned, ChangesOwners, without}
 use Rattle.fdp_rules.specs.PlainState.{Namespace, PlainState}
 use Rattle.fdp_rules.specs.Sites.{is_there}
 use Rattle.fdp_spaces.specs.SpaceTable.{SpaceTable, namespace_at}

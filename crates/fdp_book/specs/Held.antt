@@ -15,13 +15,13 @@ use Rattle.fdp_book.specs.Logged.{Logged}
 use Rattle.fdp_history.specs.Listed.{IsListed}
 use Rattle.fdp_history.specs.Orderly.{IsOrderly}
 use Rattle.fdp_history.specs.Standing.{IsStanding}
-use Rattle.fdp_locations.specs.Held.{pages_held}
-use Rattle.fdp_locations.specs.Located.{AreLed, AreUnitsOf, LeadsTo}
-use Rattle.fdp_locations.specs.Written.{Written, written_by}
+use Rattle.fdp_readings.specs.fdp_locations.Held.{pages_held}
+use Rattle.fdp_readings.specs.fdp_locations.Located.{AreLed, AreUnitsOf, LeadsTo}
+use Rattle.fdp_readings.specs.fdp_locations.Written.{Written, written_by}
 use Rattle.fdp_map.specs.declared.mapped.Mapped.{Mapped}
 use Rattle.fdp_origin.specs.Opening.{Opening}
 use Rattle.fdp_map.specs.MapTable.{MapTable, mapped_at, size_in}
-use Rattle.fdp_pages.specs.PageTables.{PageTables}
+use Rattle.fdp_readings.specs.fdp_pages.PageTables.{PageTables}
 use Rattle.fdp_pointers.specs.Facts.{Page}
 use Rattle.fdp_pointers.specs.Pointers.{Behind, Pointer, Pointer.of_block, Pointer.of_flight}
 use Rattle.fdp_rules.specs.History.{Found, point_of}

@@ -9,7 +9,7 @@ use Rattle.fdp_book.specs.declared.flight.Flight.{Flight}
 use Rattle.fdp_book.specs.declared.tables.Tables.{Tables}
 use Rattle.fdp_book.specs.Held.{flight_in, going_of, lead_in}
 use Rattle.fdp_book.specs.Taking.{IsPageIn}
-use Rattle.fdp_locations.specs.Located.{LeadsTo}
+use Rattle.fdp_readings.specs.fdp_locations.Located.{LeadsTo}
 use Rattle.fdp_map.specs.declared.mapped.Mapped.{Mapped}
 use Rattle.fdp_map.specs.MapTable.{MapTable, mapped_at, size_in, with_mapped}
 use Rattle.fdp_owners.specs.declared.owner.Holder.{Holder}
@@ -17,13 +17,13 @@ use Rattle.fdp_owners.specs.declared.owner.Holder.TheVariants as holders
 use Rattle.fdp_owners.specs.declared.owner.Owner.{Owner}
 use Rattle.fdp_owners.specs.Owned.{AreOwners}
 use Rattle.fdp_owners.specs.OwnerTable.{owner_at}
-use Rattle.fdp_pages.specs.PageTables.{copies_at}
-use Rattle.fdp_pages.specs.Steps.{ChangesOwners, moved}
+use Rattle.fdp_readings.specs.fdp_pages.PageTables.{copies_at}
+use Rattle.fdp_readings.specs.fdp_pages.Steps.{ChangesOwners, moved}
 use Rattle.fdp_pointers.specs.Facts.{Page}
 use Rattle.fdp_pointers.specs.Pointers.{Behind}
 use Rattle.fdp_rules.specs.PlainState.{PlainState}
 use Rattle.fdp_units.specs.UnitTable.{UnitTable, cut_of}
-use Rattle.fdp_trails.specs.Moves.{name_at, owners_moved}
+use Rattle.fdp_readings.specs.fdp_trails.Moves.{name_at, owners_moved}
 
 -- a block is at this page
 abbrev pub moved_to : Spot → Mapped → Mapped

@@ -3,8 +3,8 @@ use Rattle.std.specs.Prelude.{◌≡◌, ℕ, ◌<◌, Option, Some, None}
 use Rattle.fdp_base.specs.declared.entry.Spot.{Spot}
 use Rattle.fdp_book.specs.Book.{BookSeen}
 use Rattle.fdp_book.specs.Tickets.{TakesUnit}
-use Rattle.fdp_pages.specs.PageTables.{unit_of}
-use Rattle.fdp_pages.specs.Steps.{MayPut}
+use Rattle.fdp_readings.specs.fdp_pages.PageTables.{unit_of}
+use Rattle.fdp_readings.specs.fdp_pages.Steps.{MayPut}
 use Rattle.fdp_units.specs.DataUnits.{is_free}
 use Rattle.fdp_units.specs.UnitTable.{count_in}
 

@@ -3,7 +3,7 @@ use Rattle.std.specs.Prelude.{◌≡◌, Option, Some, None}
 use Rattle.fdp_base.specs.Spare.{data_spare}
 use Rattle.fdp_book.specs.declared.book.reading.Page.{Page}
 use Rattle.fdp_book.specs.Book.{BookSeen, point_in, written_in}
-use Rattle.fdp_locations.specs.Written.{Written}
+use Rattle.fdp_readings.specs.fdp_locations.Written.{Written}
 use Rattle.fdp_rules.specs.PlainState.{Block}
 use Rattle.fdp_rules.specs.Step.{IsPage}
 

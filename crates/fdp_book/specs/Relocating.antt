@@ -5,18 +5,18 @@ use Rattle.fdp_base.specs.declared.entry.Entry.TheVariants as entries
 use Rattle.fdp_book.specs.declared.tables.Sums.{Sums}
 use Rattle.fdp_book.specs.Book.{BookSeen, IsLonger, point_in}
 use Rattle.fdp_book.specs.Logged.{Logged}
-use Rattle.fdp_collector.specs.declared.step.Lost.TheVariants as lost
-use Rattle.fdp_collector.specs.declared.step.Step.{Step}
-use Rattle.fdp_collector.specs.declared.step.Step.TheVariants as steps
-use Rattle.fdp_collector.specs.Step.{IsStep}
+use Rattle.fdp_readings.specs.fdp_collector.declared.step.Lost.TheVariants as lost
+use Rattle.fdp_readings.specs.fdp_collector.declared.step.Step.{Step}
+use Rattle.fdp_readings.specs.fdp_collector.declared.step.Step.TheVariants as steps
+use Rattle.fdp_readings.specs.fdp_collector.Step.{IsStep}
 use Rattle.fdp_flash.specs.FlashState.{FlashState}
 use Rattle.fdp_owners.specs.OwnerTable.{owner_at}
-use Rattle.fdp_pages.specs.PageTables.{copies_at, passes_at, relocation_at}
-use Rattle.fdp_pages.specs.Steps.{HasSize, Recounts, ended_move}
+use Rattle.fdp_readings.specs.fdp_pages.PageTables.{copies_at, passes_at, relocation_at}
+use Rattle.fdp_readings.specs.fdp_pages.Steps.{HasSize, Recounts, ended_move}
 use Rattle.fdp_rules.specs.Sites.{moved_blocks}
 use Rattle.fdp_rules.specs.Step.{Follows}
 use Rattle.fdp_rules.specs.Totals.{erases, media_blocks}
-use Rattle.fdp_trails.specs.Moves.{owners_moved}
+use Rattle.fdp_readings.specs.fdp_trails.Moves.{owners_moved}
 
 -- the entry that tells of a step of relocation in a group, if one does
 abbrev pub told_by : ℕ → Step → List Entry

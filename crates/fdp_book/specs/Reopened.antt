@@ -11,11 +11,11 @@ use Rattle.fdp_found.specs.Opened.{AreOpened}
 use Rattle.fdp_found.specs.Told.{opened_cells}
 use Rattle.fdp_image.specs.Checkpoint.{reading_of_state}
 use Rattle.fdp_image.specs.Reading.{Reading}
-use Rattle.fdp_opening.specs.Found.{AreFound}
+use Rattle.fdp_found.specs.fdp_opening.Found.{AreFound}
 use Rattle.fdp_origin.specs.Opening.{Opening}
 use Rattle.fdp_owners.specs.OwnerTable.{owner_at}
-use Rattle.fdp_pages.specs.PageTables.{PageTables}
-use Rattle.fdp_recovery.specs.Opened.{CanGoOn}
+use Rattle.fdp_readings.specs.fdp_pages.PageTables.{PageTables}
+use Rattle.fdp_found.specs.fdp_recovery.Opened.{CanGoOn}
 use Rattle.fdp_snapshot.specs.declared.state.State.{State}
 
 -- a flash is cut as this configuration asks; a drive can go on from this state, and these tables of its pages were found there

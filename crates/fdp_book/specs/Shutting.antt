@@ -8,8 +8,8 @@ use Rattle.fdp_book.specs.declared.ticket.Ticket.{Ticket}
 use Rattle.fdp_book.specs.Book.{BookSeen, IsLonger, point_in, state_in}
 use Rattle.fdp_book.specs.Steps.{Completes}
 use Rattle.fdp_book.specs.Tickets.{IsNextSpot, IsTicketOf}
-use Rattle.fdp_pages.specs.PageTables.{PageTables}
-use Rattle.fdp_pages.specs.Steps.{ChangesOwners, ShutsUnit}
+use Rattle.fdp_readings.specs.fdp_pages.PageTables.{PageTables}
+use Rattle.fdp_readings.specs.fdp_pages.Steps.{ChangesOwners, ShutsUnit}
 use Rattle.fdp_rules.specs.Answer.{bare}
 use Rattle.fdp_rules.specs.PlainState.{Going}
 use Rattle.fdp_rules.specs.Step.{Follows}

@@ -15,7 +15,7 @@ use Rattle.fdp_rules.specs.Sites.{is_there}
 use Rattle.fdp_rules.specs.Step.{Follows, IsQueue, MaySucceed, exceeds_budget, goes_to}
 use Rattle.fdp_rules.specs.Target.{Target}
 use Rattle.fdp_owners.specs.declared.owner.Owner.{Owner}
-use Rattle.fdp_pages.specs.Steps.{PutsPage}
+use Rattle.fdp_readings.specs.fdp_pages.Steps.{PutsPage}
 use Rattle.fdp_book.specs.declared.ticket.Done.{Done}
 use Rattle.fdp_book.specs.declared.ticket.Ticket.{Ticket}
 use Rattle.fdp_book.specs.Book.{BookSeen, IsLonger, point_in, position_in, state_in}

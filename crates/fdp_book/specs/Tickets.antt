@@ -9,9 +9,9 @@ use Rattle.fdp_book.specs.declared.next_page.NextPage.{NextPage}
 use Rattle.fdp_book.specs.declared.next_page.NextPage.TheVariants as next
 use Rattle.fdp_book.specs.declared.ticket.Ticket.{Ticket}
 use Rattle.fdp_book.specs.Book.{BookSeen, point_in, state_in}
-use Rattle.fdp_locations.specs.Located.{next_in}
-use Rattle.fdp_locations.specs.Written.{next_spare}
-use Rattle.fdp_pages.specs.Steps.{MayPut}
+use Rattle.fdp_readings.specs.fdp_locations.Located.{next_in}
+use Rattle.fdp_readings.specs.fdp_locations.Written.{next_spare}
+use Rattle.fdp_readings.specs.fdp_pages.Steps.{MayPut}
 use Rattle.fdp_rules.specs.PlainState.{Going, PlainState}
 use Rattle.fdp_rules.specs.Sites.{is_there}
 use Rattle.fdp_rules.specs.Step.{Follows}

@@ -5,7 +5,7 @@ use Rattle.fdp_base.specs.Config.{IsValidConfig}
 use Rattle.fdp_base.specs.Placement.{classes_of}
 use Rattle.fdp_book.specs.declared.tables.Tables.{Tables}
 use Rattle.fdp_handles.specs.HandleTable.{reference_at}
-use Rattle.fdp_pages.specs.Steps.{HasNoOwner, LeavesUnits, SetsClasses}
+use Rattle.fdp_readings.specs.fdp_pages.Steps.{HasNoOwner, LeavesUnits, SetsClasses}
 use Rattle.fdp_rules.specs.Effect.{updated_by}
 use Rattle.fdp_rules.specs.PlainState.{PlainState}
 use Rattle.fdp_spaces.specs.Resolving.{Agrees}

@@ -7,7 +7,7 @@ use crate::log::{Log, MOST_STEP_ENTRIES};
 use crate::tables::Tables;
 use fdp_base::{DriveConfig, Entry, Totals};
 use fdp_origin::Origin;
-use fdp_pages::Pages;
+use fdp_readings::Pages;
 use std::alloc::AllocError;
 use std::marker::Model;
 

@@ -16,6 +16,10 @@ mod write_names;
 mod write_place;
 
 pub use book::{Book, Page};
+pub use fdp_found::{
+    Lost, OpenFault, Opened, Pages, PagesFault, Step, find_pages, open_state,
+    toil_is_what_can_be_won,
+};
 pub use first_step::FirstStep;
 pub use next_page::NextPage;
 pub use room::{Replies, Room};

@@ -1,6 +1,6 @@
 use crate::flight::Flight;
 use fdp_map::Map;
-use fdp_pages::Pages;
+use fdp_readings::Pages;
 use fdp_spaces::Spaces;
 
 /// Whether placement is enabled, the index of its configuration, and how often these two were set.

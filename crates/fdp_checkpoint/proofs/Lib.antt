@@ -1,3 +1,5 @@
+-- passed on to the crates above
+pub use Rattle.fdp_areas.proofs as fdp_areas
 pub mod Collecting
 pub mod Telling
 pub mod OfImage

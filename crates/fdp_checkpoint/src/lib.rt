@@ -10,12 +10,11 @@ mod laws;
 mod reading;
 mod sealing;
 mod target;
-#[cfg(test)]
-mod tests;
 mod writing;
 
 pub use count::page_count;
 pub use fault::{CheckpointFault, ContentFault, FoundCheckpoint};
+pub use fdp_areas::{Current, LookFailed, find_current, find_used, look_at_data};
 pub use laws::{bad_checkpoint_is_none_of_the_image, checkpoint_is_that_of_the_image};
 pub use reading::{read, read_content};
 pub use writing::{VERSION, write};

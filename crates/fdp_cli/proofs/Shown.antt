@@ -7,17 +7,17 @@ use Rattle.fdp_base.specs.declared.command.Command.{Command}
 use Rattle.fdp_base.specs.declared.config.DriveConfig.{DriveConfig}
 use Rattle.fdp_base.specs.declared.entry.Entry.{Entry}
 use Rattle.fdp_base.specs.declared.entry.Entry.TheVariants as entries
-use Rattle.fdp_book.specs.Book.{BookSeen, point_in}
-use Rattle.fdp_core.specs.Loading.{IsLoaded, IsNotLoaded}
-use Rattle.fdp_core.specs.Seen.{HoldsHistory, IsLegalOver, Seen}
-use Rattle.fdp_board.specs.Board.{AreCharged, IsJustOpened, IsSafeSince}
-use Rattle.fdp_board.proofs.Outlasting.{AreLate}
-use Rattle.fdp_crews.specs.Crews.{IsTrace}
+use Rattle.fdp_drive.specs.fdp_book.Book.{BookSeen, point_in}
+use Rattle.fdp_drive.specs.fdp_core.Loading.{IsLoaded, IsNotLoaded}
+use Rattle.fdp_drive.specs.fdp_core.Seen.{HoldsHistory, IsLegalOver, Seen}
+use Rattle.fdp_drive.specs.fdp_board.Board.{AreCharged, IsJustOpened, IsSafeSince}
+use Rattle.fdp_drive.proofs.fdp_board.Outlasting.{AreLate}
+use Rattle.fdp_drive.specs.fdp_crews.Crews.{IsTrace}
 use Rattle.fdp_drive.specs.Session.{HoldsTraces, IsSameDrive, IsSession, KeepsOrders}
-use Rattle.fdp_ledger.specs.Counted.{counts_of}
-use Rattle.fdp_workers.specs.declared.ends.End.{End}
-use Rattle.fdp_workers.specs.declared.ends.End.TheVariants as ends
-use Rattle.fdp_workers.specs.declared.receipt.Receipt.{Receipt}
+use Rattle.fdp_drive.specs.fdp_ledger.Counted.{counts_of}
+use Rattle.fdp_drive.specs.fdp_workers.declared.ends.End.{End}
+use Rattle.fdp_drive.specs.fdp_workers.declared.ends.End.TheVariants as ends
+use Rattle.fdp_drive.specs.fdp_workers.declared.receipt.Receipt.{Receipt}
 use Rattle.fdp_finding.specs.declared.asked.Form.{Form}
 use Rattle.fdp_finding.specs.declared.fault.Fault.{Fault}
 use Rattle.fdp_finding.specs.Traced.{IsServable}
@@ -25,17 +25,17 @@ use Rattle.fdp_flash.specs.declared.cell.Cell.{Cell}
 use Rattle.fdp_flash.specs.FlashState.{FlashState}
 use Rattle.fdp_image.specs.Kept.{AreFirm, StandsForBeginning, StandsForKept, is_owed}
 use Rattle.fdp_io.specs.Sink.{HoldsFront, SinkState}
-use Rattle.fdp_isolation.specs.Begun.{OpenedApart}
-use Rattle.fdp_isolation.specs.Isolated.{IsIsolatedDrive}
-use Rattle.fdp_ledger.specs.declared.counts.Counts.{Counts}
-use Rattle.fdp_ledger.specs.Counted.{CountedSince}
-use Rattle.fdp_ledger.specs.Start.{start_of}
+use Rattle.fdp_drive.specs.fdp_isolation.Begun.{OpenedApart}
+use Rattle.fdp_drive.specs.fdp_isolation.Isolated.{IsIsolatedDrive}
+use Rattle.fdp_drive.specs.fdp_ledger.declared.counts.Counts.{Counts}
+use Rattle.fdp_drive.specs.fdp_ledger.Counted.{CountedSince}
+use Rattle.fdp_drive.specs.fdp_ledger.Start.{start_of}
 use Rattle.fdp_printing.specs.declared.closing.Closing.{Closing}
 use Rattle.fdp_printing.specs.declared.pieces.Cut.{Cut}
 use Rattle.fdp_printing.specs.declared.pieces.Cut.TheVariants as cuts
 use Rattle.fdp_printing.specs.Closing.{IsClosing}
 use Rattle.fdp_printing.specs.Printing.{HoldsSome, Prints}
-use Rattle.fdp_recovery.specs.declared.opened.OpenFault.{OpenFault}
+use Rattle.fdp_drive.specs.fdp_recovery.declared.opened.OpenFault.{OpenFault}
 use Rattle.fdp_rules.specs.History.{Found, point_of}
 use Rattle.fdp_cli.specs.Loading.{of_opening}
 use Rattle.fdp_cli.specs.Session.{IsRun}

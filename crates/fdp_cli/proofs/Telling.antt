@@ -5,8 +5,8 @@ use Rattle.std.proofs.lemmas.List.{take_all, take_more}
 use Rattle.std.proofs.lemmas.Option.{slice_get_cases}
 use Rattle.fdp_base.specs.declared.event.Event.{Event}
 use Rattle.fdp_base.specs.Numbers.{numbers_from}
-use Rattle.fdp_book.specs.Book.{BookSeen, point_in}
-use Rattle.fdp_outline.proofs.Keeping.{few-latest}
+use Rattle.fdp_drive.specs.fdp_book.Book.{BookSeen, point_in}
+use Rattle.fdp_drive.proofs.fdp_outline.Keeping.{few-latest}
 use Rattle.fdp_rules.specs.Events.{is_host_event}
 use Rattle.fdp_rules.specs.History.{controller_events_of, events_of, host_events_of, point_of, totals_of}
 

@@ -2,8 +2,8 @@
 use Rattle.fdp_finding.specs.declared.fault.Fault.{Fault}
 use Rattle.fdp_finding.specs.declared.fault.Fault.TheVariants as faults
 use Rattle.fdp_finding.specs.declared.image.ImageFault.TheVariants as images
-use Rattle.fdp_recovery.specs.declared.opened.OpenFault.{OpenFault}
-use Rattle.fdp_recovery.specs.declared.opened.OpenFault.TheVariants as opens
+use Rattle.fdp_drive.specs.fdp_recovery.declared.opened.OpenFault.{OpenFault}
+use Rattle.fdp_drive.specs.fdp_recovery.declared.opened.OpenFault.TheVariants as opens
 
 -- what the cells show is a fault of the image; a call that failed is one of the flash
 abbrev pub of_opening : OpenFault → Fault

@@ -3,21 +3,21 @@ use Rattle.std.specs.Prelude.{◌≡◌, IsTrue, List}
 use Rattle.fdp_base.specs.declared.command.Command.{Command}
 use Rattle.fdp_base.specs.declared.config.DriveConfig.{DriveConfig}
 use Rattle.fdp_base.specs.declared.entry.Entry.{Entry}
-use Rattle.fdp_board.specs.Board.{AreCharged, IsSafeSince}
-use Rattle.fdp_book.specs.Book.{point_in}
-use Rattle.fdp_core.specs.Loading.{IsLoaded}
-use Rattle.fdp_core.specs.Seen.{HoldsHistory, IsLegalOver, Seen}
+use Rattle.fdp_drive.specs.fdp_board.Board.{AreCharged, IsSafeSince}
+use Rattle.fdp_drive.specs.fdp_book.Book.{point_in}
+use Rattle.fdp_drive.specs.fdp_core.Loading.{IsLoaded}
+use Rattle.fdp_drive.specs.fdp_core.Seen.{HoldsHistory, IsLegalOver, Seen}
 use Rattle.fdp_drive.specs.Session.{HoldsTraces, IsSession, KeepsOrders, OnlyThese}
 use Rattle.fdp_flash.specs.FlashState.{FlashState}
 use Rattle.fdp_image.specs.Kept.{AreFirm, StandsForBeginning}
-use Rattle.fdp_isolation.specs.Begun.{OpenedApart}
-use Rattle.fdp_isolation.specs.Isolated.{IsIsolatedDrive}
-use Rattle.fdp_ledger.specs.Counted.{CountedSince, counts_of}
-use Rattle.fdp_ledger.specs.Start.{start_of}
+use Rattle.fdp_drive.specs.fdp_isolation.Begun.{OpenedApart}
+use Rattle.fdp_drive.specs.fdp_isolation.Isolated.{IsIsolatedDrive}
+use Rattle.fdp_drive.specs.fdp_ledger.Counted.{CountedSince, counts_of}
+use Rattle.fdp_drive.specs.fdp_ledger.Start.{start_of}
 use Rattle.fdp_rules.specs.History.{Found}
-use Rattle.fdp_workers.specs.declared.ends.End.{End}
-use Rattle.fdp_workers.specs.declared.ends.End.TheVariants as ends
-use Rattle.fdp_workers.specs.declared.receipt.Receipt.{Receipt}
+use Rattle.fdp_drive.specs.fdp_workers.declared.ends.End.{End}
+use Rattle.fdp_drive.specs.fdp_workers.declared.ends.End.TheVariants as ends
+use Rattle.fdp_drive.specs.fdp_workers.declared.receipt.Receipt.{Receipt}
 
 -- what the flash that is given back is to the history of its drive: it counted what the history tells since it was handed in, each media error has the moment
 -- of one of its calls that failed, and none did where it promises that; it holds what the history put into its pages, and data stands apart there. Where

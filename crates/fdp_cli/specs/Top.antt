@@ -5,8 +5,8 @@ use Rattle.fdp_base.specs.declared.command.Command.{Command}
 use Rattle.fdp_base.specs.declared.config.DriveConfig.{DriveConfig}
 use Rattle.fdp_base.specs.declared.entry.Entry.{Entry}
 use Rattle.fdp_base.specs.Placement.{geometry_of}
-use Rattle.fdp_book.specs.Book.{BookSeen}
-use Rattle.fdp_core.specs.Loading.{IsNotLoaded}
+use Rattle.fdp_drive.specs.fdp_book.Book.{BookSeen}
+use Rattle.fdp_drive.specs.fdp_core.Loading.{IsNotLoaded}
 use Rattle.fdp_finding.specs.declared.asked.Form.{Form}
 use Rattle.fdp_finding.specs.declared.asked.Form.TheVariants as forms
 use Rattle.fdp_finding.specs.declared.fault.Fault.{Fault}
@@ -21,10 +21,10 @@ use Rattle.fdp_make.specs.Summary.{summary_text, unrefuted_blocks}
 use Rattle.fdp_output.specs.HistoryText.{record_of}
 use Rattle.fdp_output.specs.RunOutput.{output_of}
 use Rattle.fdp_printing.specs.Printing.{HoldsSome}
-use Rattle.fdp_recovery.specs.declared.opened.OpenFault.{OpenFault}
+use Rattle.fdp_drive.specs.fdp_recovery.declared.opened.OpenFault.{OpenFault}
 use Rattle.fdp_rules.specs.History.{Found}
-use Rattle.fdp_workers.specs.declared.ends.End.{End}
-use Rattle.fdp_workers.specs.declared.ends.End.TheVariants as ends
+use Rattle.fdp_drive.specs.fdp_workers.declared.ends.End.{End}
+use Rattle.fdp_drive.specs.fdp_workers.declared.ends.End.TheVariants as ends
 use Rattle.fdp_cli.specs.Loading.{of_opening}
 use Rattle.fdp_cli.specs.Session.{IsCut, IsRecordOf}
 

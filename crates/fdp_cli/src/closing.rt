@@ -1,13 +1,13 @@
 ghost use Rattle.std.specs.Prelude.{◌≡◌, IfOk, IsTrue, [], if◌then◌else◌, length, map, slice_index_or};
 ghost use Rattle.fdp_base.specs.Config.{IsValidConfig};
 ghost use Rattle.fdp_base.specs.Numbers.{numbers_below};
-ghost use Rattle.fdp_book.specs.Book.{point_in, state_in};
+ghost use Rattle.fdp_drive.specs.fdp_book.Book.{point_in, state_in};
 ghost use Rattle.fdp_printing.specs.Closing.{IsClosing, IsPlacementAt, TellsPlacement};
 ghost use Rattle.fdp_rules.specs.LogPages.{usage_of};
 ghost use Rattle.fdp_rules.specs.Room.{handles_in_force};
 
 use fdp_base::{DriveConfig, Event};
-use fdp_core::Group;
+use fdp_drive::Group;
 use fdp_flash::Flash;
 use fdp_printing::{Closing, Placement};
 use std::alloc::{AllocError, Global};

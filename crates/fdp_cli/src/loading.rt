@@ -1,8 +1,8 @@
 ghost use Rattle.std.specs.Prelude.{◌≡◌};
 ghost use Rattle.fdp_cli.specs.Loading.{of_opening};
 
+use fdp_drive::OpenFault;
 use fdp_finding::{Fault, ImageFault};
-use fdp_recovery::OpenFault;
 
 /// Why a drive was not opened, as a fault of the run.
 pub fn fault_of(cause: OpenFault) -> Fault

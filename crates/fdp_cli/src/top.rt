@@ -12,8 +12,7 @@ ghost use Rattle.fdp_cli.specs.Top.{Answers, EndsRun, PrintsText, Refuses, RunsO
 use crate::closing::closing_of;
 use crate::loading::fault_of;
 use fdp_base::{Command, DriveConfig, Entry};
-use fdp_core::{Group, NotLoaded};
-use fdp_drive::{End, SessionEnd, run_session};
+use fdp_drive::{End, Group, NotLoaded, SessionEnd, run_session};
 use fdp_finding::{Fault, Form, Wanted, find, push_fault};
 use fdp_flash::Flash;
 use fdp_io::{Bench, Gate, NotTaken, Sink, write_all};

@@ -6,12 +6,12 @@ use Rattle.std.proofs.lemmas.Bool.{false≢true}
 use Rattle.fdp_base.specs.declared.entry.Copied.{Copied}
 use Rattle.fdp_base.specs.declared.entry.Entry.{Entry}
 use Rattle.fdp_base.specs.declared.entry.Entry.TheVariants as entries
-use Rattle.fdp_book.specs.Book.{BookSeen, IsLonger, state_in}
-use Rattle.fdp_book.specs.Relocating.{told_by}
+use Rattle.fdp_relocation.specs.fdp_book.Book.{BookSeen, IsLonger, state_in}
+use Rattle.fdp_relocation.specs.fdp_book.Relocating.{told_by}
 use Rattle.fdp_calls.specs.Calls.{fetch_at, program_at}
-use Rattle.fdp_collector.specs.declared.step.Lost.TheVariants as lost
-use Rattle.fdp_collector.specs.declared.step.Step.{Step}
-use Rattle.fdp_collector.specs.declared.step.Step.TheVariants as steps
+use Rattle.fdp_relocation.specs.fdp_collector.declared.step.Lost.TheVariants as lost
+use Rattle.fdp_relocation.specs.fdp_collector.declared.step.Step.{Step}
+use Rattle.fdp_relocation.specs.fdp_collector.declared.step.Step.TheVariants as steps
 use Rattle.fdp_core.specs.Advancing.{Advances, AreCallsOfMove, IsDueIn, TellsMore, move_of, CopiesPage}
 use Rattle.fdp_core.specs.Passes.{Relocates}
 use Rattle.fdp_core.specs.Seen.{Seen, Stands, stage_of}
@@ -20,8 +20,8 @@ use Rattle.fdp_core.proofs.Called.{fails-behind, saving-fails}
 use Rattle.fdp_core.proofs.Passing.{calls_by, fails-by, longer-none, matches-by, matches-joined, prefix-matches, prefix-stands, resting-prefix, saving-prefix, settled-prefix, worn-made}
 use Rattle.fdp_flash.specs.declared.answer.Wrote.TheVariants as wrote
 use Rattle.fdp_flash.specs.FlashState.{Call, FlashState}
-use Rattle.fdp_isolation.specs.Laned.{IsKnown}
-use Rattle.fdp_locations.proofs.Ending.{rests-same}
+use Rattle.fdp_loading.specs.fdp_isolation.Laned.{IsKnown}
+use Rattle.fdp_relocation.proofs.fdp_locations.Ending.{rests-same}
 use Rattle.fdp_passes.specs.declared.due.Due.TheVariants as due
 use Rattle.fdp_relocation.specs.declared.advance.Advance.{Advance}
 use Rattle.fdp_relocation.specs.declared.advance.Advance.TheVariants as advance
@@ -29,16 +29,16 @@ use Rattle.fdp_relocation.specs.Collected.{Collects, Moves, SavesMove, Steps, St
 use Rattle.fdp_relocation.specs.Entries.{IsRelocationIn, AreRelocationIn}
 use Rattle.fdp_relocation.proofs.Keeping.{keeps-longer}
 use Rattle.fdp_relocation.proofs.Telling.{moved-inside, told-inside}
-use Rattle.fdp_saving.specs.declared.saved.Saved.{Saved}
-use Rattle.fdp_saving.specs.declared.saved.Saved.TheVariants as savings
-use Rattle.fdp_survival.specs.Books.{IsSafe}
+use Rattle.fdp_relocation.specs.fdp_saving.declared.saved.Saved.{Saved}
+use Rattle.fdp_relocation.specs.fdp_saving.declared.saved.Saved.TheVariants as savings
+use Rattle.fdp_loading.specs.fdp_survival.Books.{IsSafe}
 use Rattle.fdp_units.specs.UnitTable.{IsGroup}
-use Rattle.fdp_saving.specs.Calls.{FailAtEnd, AreCallsOfRenewal, AreCallsOfCheckpoint}
+use Rattle.fdp_relocation.specs.fdp_saving.Calls.{FailAtEnd, AreCallsOfRenewal, AreCallsOfCheckpoint}
 use Rattle.fdp_snapshot.specs.declared.state.Summary.{Summary}
-use Rattle.fdp_ledger.specs.Ledger.{IsLedger}
-use Rattle.fdp_ledger.specs.WornOut.{IsWornOut}
-use Rattle.fdp_ledger.specs.declared.counts.Counts.{Counts}
-use Rattle.fdp_saving.proofs.Failing.{renewed_failed, renewed_well}
+use Rattle.fdp_loading.specs.fdp_ledger.Ledger.{IsLedger}
+use Rattle.fdp_loading.specs.fdp_ledger.WornOut.{IsWornOut}
+use Rattle.fdp_loading.specs.fdp_ledger.declared.counts.Counts.{Counts}
+use Rattle.fdp_relocation.proofs.fdp_saving.Failing.{renewed_failed, renewed_well}
 
 module _ {F : Type 0} (state : F → FlashState) (old new : Seen F) (rg : ℕ) (stands : Stands (state old.flash) old.book) (safe : IsSafe old.book old.keeper.saver old.keeper.firm (state old.flash)) (low : rg < old.book.config.groups) (group : IsGroup old.book.pages.units rg) (handed : new.handed ≡ old.handed) where
   abbrev doubt : Bool

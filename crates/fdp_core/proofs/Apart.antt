@@ -10,33 +10,33 @@ use Rattle.fdp_base.specs.declared.status.Status.{Status}
 use Rattle.fdp_base.specs.CommandKinds.{is_setting, is_write, write_of}
 use Rattle.fdp_base.specs.Placement.{geometry_of}
 use Rattle.fdp_base.specs.Spare.{data_spare}
-use Rattle.fdp_book.specs.declared.ticket.Done.{Done}
-use Rattle.fdp_book.specs.declared.ticket.Ticket.{Ticket}
-use Rattle.fdp_book.specs.Book.{BookSeen, IsLed, point_in, state_in, written_in, IsLonger}
-use Rattle.fdp_book.specs.Relocating.{MovesPass, Relocates}
-use Rattle.fdp_book.specs.Shutting.{ShutsAndEnds}
-use Rattle.fdp_book.specs.Steps.{Completes, Places, Starts}
-use Rattle.fdp_book.specs.Tickets.{IsNextSpot, IsTicketOf}
-use Rattle.fdp_collector.specs.declared.step.Step.{Step}
+use Rattle.fdp_relocation.specs.fdp_book.declared.ticket.Done.{Done}
+use Rattle.fdp_relocation.specs.fdp_book.declared.ticket.Ticket.{Ticket}
+use Rattle.fdp_relocation.specs.fdp_book.Book.{BookSeen, IsLed, point_in, state_in, written_in, IsLonger}
+use Rattle.fdp_relocation.specs.fdp_book.Relocating.{MovesPass, Relocates}
+use Rattle.fdp_relocation.specs.fdp_book.Shutting.{ShutsAndEnds}
+use Rattle.fdp_relocation.specs.fdp_book.Steps.{Completes, Places, Starts}
+use Rattle.fdp_relocation.specs.fdp_book.Tickets.{IsNextSpot, IsTicketOf}
+use Rattle.fdp_relocation.specs.fdp_collector.declared.step.Step.{Step}
 use Rattle.fdp_core.specs.Seen.{HoldsHistory, KeepsApart}
 use Rattle.fdp_core.proofs.Sound.{IsSameFlash, begun, same-flash}
 use Rattle.fdp_flash.specs.Cells.{ProgramMayLeave}
 use Rattle.fdp_flash.specs.FlashState.{FlashState}
-use Rattle.fdp_isolation.specs.Isolated.{IsIsolatedDrive}
-use Rattle.fdp_isolation.specs.Laned.{AreLaned, IsKnown, StandsOver}
-use Rattle.fdp_isolation.proofs.Answered.{laned-answered, laned-commanded, laned-committed, laned-set}
-use Rattle.fdp_isolation.proofs.Keeping.{FillsNoMore, FillsNone}
-use Rattle.fdp_isolation.proofs.Moved.{laned-moved}
-use Rattle.fdp_isolation.proofs.Placed.{laned-placed, laned-shut}
-use Rattle.fdp_isolation.proofs.Promised.{isolated}
-use Rattle.fdp_isolation.proofs.Relocated.{laned-relocated}
-use Rattle.fdp_isolation.proofs.Started.{laned-started}
-use Rattle.fdp_locations.specs.Stored.{HoldsWritten}
-use Rattle.fdp_locations.specs.Written.{next_spare}
-use Rattle.fdp_pages.specs.Steps.{ChangesOwners}
+use Rattle.fdp_loading.specs.fdp_isolation.Isolated.{IsIsolatedDrive}
+use Rattle.fdp_loading.specs.fdp_isolation.Laned.{AreLaned, IsKnown, StandsOver}
+use Rattle.fdp_loading.proofs.fdp_isolation.Answered.{laned-answered, laned-commanded, laned-committed, laned-set}
+use Rattle.fdp_loading.proofs.fdp_isolation.Keeping.{FillsNoMore, FillsNone}
+use Rattle.fdp_loading.proofs.fdp_isolation.Moved.{laned-moved}
+use Rattle.fdp_loading.proofs.fdp_isolation.Placed.{laned-placed, laned-shut}
+use Rattle.fdp_loading.proofs.fdp_isolation.Promised.{isolated}
+use Rattle.fdp_loading.proofs.fdp_isolation.Relocated.{laned-relocated}
+use Rattle.fdp_loading.proofs.fdp_isolation.Started.{laned-started}
+use Rattle.fdp_relocation.specs.fdp_locations.Stored.{HoldsWritten}
+use Rattle.fdp_relocation.specs.fdp_locations.Written.{next_spare}
+use Rattle.fdp_relocation.specs.fdp_pages.Steps.{ChangesOwners}
 use Rattle.fdp_rules.specs.PlainState.{Going}
 use Rattle.fdp_base.specs.declared.entry.Entry.{Entry}
-use Rattle.fdp_isolation.specs.Begun.{OpenedApart}
+use Rattle.fdp_loading.specs.fdp_isolation.Begun.{OpenedApart}
 use Rattle.fdp_rules.specs.Step.{MaySucceed}
 use Rattle.fdp_rules.specs.Answer.{bare}
 use Rattle.fdp_base.specs.declared.config.DriveConfig.{DriveConfig}

@@ -13,15 +13,15 @@ use Rattle.fdp_base.specs.declared.entry.Reply.{Reply}
 use Rattle.fdp_base.specs.declared.entry.Spot.{Spot}
 use Rattle.fdp_base.specs.declared.status.Status.{Status}
 use Rattle.fdp_base.specs.CommandKinds.{IsWellFormed, is_saved, is_write}
-use Rattle.fdp_book.specs.declared.room.Replies.{Replies}
-use Rattle.fdp_book.specs.declared.ticket.Done.{Done}
-use Rattle.fdp_book.specs.declared.ticket.Ticket.{Ticket}
-use Rattle.fdp_book.specs.Book.{BookSeen, IsLed, point_in, state_in}
-use Rattle.fdp_book.specs.FirstSteps.{is_answered}
-use Rattle.fdp_book.specs.Stages.{IsFree}
-use Rattle.fdp_book.specs.Steps as book
-use Rattle.fdp_book.proofs.Histories.Commanded.{success-follows}
-use Rattle.fdp_book.proofs.Histories.Follows.{accepted-blocks, read-follows, refused-fine, refused-follows, unread-follows}
+use Rattle.fdp_relocation.specs.fdp_book.declared.room.Replies.{Replies}
+use Rattle.fdp_relocation.specs.fdp_book.declared.ticket.Done.{Done}
+use Rattle.fdp_relocation.specs.fdp_book.declared.ticket.Ticket.{Ticket}
+use Rattle.fdp_relocation.specs.fdp_book.Book.{BookSeen, IsLed, point_in, state_in}
+use Rattle.fdp_relocation.specs.fdp_book.FirstSteps.{is_answered}
+use Rattle.fdp_relocation.specs.fdp_book.Stages.{IsFree}
+use Rattle.fdp_relocation.specs.fdp_book.Steps as book
+use Rattle.fdp_relocation.proofs.fdp_book.Histories.Commanded.{success-follows}
+use Rattle.fdp_relocation.proofs.fdp_book.Histories.Follows.{accepted-blocks, read-follows, refused-fine, refused-follows, unread-follows}
 use Rattle.fdp_calls.specs.Calls.{FailedAt, MakesCalls, fetch_at, has_failed}
 use Rattle.fdp_calls.specs.Media.{IsReadFrom}
 use Rattle.fdp_calls.proofs.Made.{counted_more-none, failed-last}
@@ -38,16 +38,16 @@ use Rattle.fdp_core.proofs.Reading.{length-blocks_from}
 use Rattle.fdp_core.proofs.Sound.{IsSameFlash, begun, same-flash, sound-begun, sound-told}
 use Rattle.fdp_flash.specs.FlashState.{Call, FlashState, IsWellFormed as IsFlashFormed}
 use Rattle.fdp_history.specs.OrderlyState.{IsOrderlyState}
-use Rattle.fdp_isolation.specs.Laned.{IsKnown}
-use Rattle.fdp_ledger.specs.declared.counts.Counts.{Counts}
-use Rattle.fdp_ledger.specs.Calls.{MayTell, OnlyFetches, is_fetch}
-use Rattle.fdp_ledger.specs.Ledger.{IsLedger}
-use Rattle.fdp_ledger.proofs.Blank.{emptied-read, erased-none}
-use Rattle.fdp_ledger.specs.Told.{tells_failure}
-use Rattle.fdp_ledger.proofs.Answered.{ledger-answered}
-use Rattle.fdp_ledger.proofs.Moments.{may-tell}
-use Rattle.fdp_ledger.proofs.Started.{ledger-started}
-use Rattle.fdp_pages.specs.Steps.{ChangesOwners}
+use Rattle.fdp_loading.specs.fdp_isolation.Laned.{IsKnown}
+use Rattle.fdp_loading.specs.fdp_ledger.declared.counts.Counts.{Counts}
+use Rattle.fdp_loading.specs.fdp_ledger.Calls.{MayTell, OnlyFetches, is_fetch}
+use Rattle.fdp_loading.specs.fdp_ledger.Ledger.{IsLedger}
+use Rattle.fdp_loading.proofs.fdp_ledger.Blank.{emptied-read, erased-none}
+use Rattle.fdp_loading.specs.fdp_ledger.Told.{tells_failure}
+use Rattle.fdp_loading.proofs.fdp_ledger.Answered.{ledger-answered}
+use Rattle.fdp_loading.proofs.fdp_ledger.Moments.{may-tell}
+use Rattle.fdp_loading.proofs.fdp_ledger.Started.{ledger-started}
+use Rattle.fdp_relocation.specs.fdp_pages.Steps.{ChangesOwners}
 use Rattle.fdp_rules.specs.Answer.{IsSuccess, bare}
 use Rattle.fdp_rules.specs.Change.{is_media_error}
 use Rattle.fdp_rules.specs.Refusal.{refusal_of}

@@ -4,11 +4,11 @@ use Rattle.std.specs.List.{list_any}
 use Rattle.std.proofs.lemmas.List.Folds.{list_any-append}
 use Rattle.fdp_calls.specs.Calls.{has_failed}
 use Rattle.fdp_flash.specs.FlashState.{Call}
-use Rattle.fdp_journal.specs.JournalState.{JournalState}
-use Rattle.fdp_saving.specs.declared.saved.Saved.{Saved}
-use Rattle.fdp_saving.specs.declared.saved.Saved.TheVariants as savings
-use Rattle.fdp_saving.specs.Calls.{AreCallsOfSaving, FailAtEnd}
-use Rattle.fdp_saving.proofs.Failing.{doubtful_failed, unsaved_failed}
+use Rattle.fdp_relocation.specs.fdp_journal.JournalState.{JournalState}
+use Rattle.fdp_relocation.specs.fdp_saving.declared.saved.Saved.{Saved}
+use Rattle.fdp_relocation.specs.fdp_saving.declared.saved.Saved.TheVariants as savings
+use Rattle.fdp_relocation.specs.fdp_saving.Calls.{AreCallsOfSaving, FailAtEnd}
+use Rattle.fdp_relocation.proofs.fdp_saving.Failing.{doubtful_failed, unsaved_failed}
 use Rattle.fdp_snapshot.specs.declared.state.Summary.{Summary}
 
 -- a saving that was not done failed by its last call

@@ -5,14 +5,14 @@ use Rattle.std.proofs.lemmas.Bool.{false≢true}
 use Rattle.std.proofs.lemmas.List.{append-nil}
 use Rattle.std.proofs.lemmas.List.Elements.{All-nil}
 use Rattle.fdp_flash.specs.declared.answer.Wrote.TheVariants as wrote
-use Rattle.fdp_book.specs.Book.{BookSeen}
-use Rattle.fdp_ledger.specs.declared.counts.Counts.{Counts}
+use Rattle.fdp_relocation.specs.fdp_book.Book.{BookSeen}
+use Rattle.fdp_loading.specs.fdp_ledger.declared.counts.Counts.{Counts}
 use Rattle.fdp_core.specs.Answers.{FailsToSave, SavesAll}
 use Rattle.fdp_flash.specs.FlashState.{FlashState}
-use Rattle.fdp_survival.specs.Books.{IsInOrder, IsSafe}
+use Rattle.fdp_loading.specs.fdp_survival.Books.{IsInOrder, IsSafe}
 use Rattle.fdp_core.proofs.Passing.{IsPrefix, prefix-matches, written-prefix}
 use Rattle.fdp_core.specs.Sound.{IsWhole}
-use Rattle.fdp_keeper.specs.Keeper.{KeeperSeen, KeepsDrive}
+use Rattle.fdp_relocation.specs.fdp_keeper.Keeper.{KeeperSeen, KeepsDrive}
 use Rattle.fdp_core.specs.Stops.{OutlastsStops}
 use Rattle.fdp_core.specs.Seen.{Seen}
 use Rattle.fdp_core.proofs.Sound.{begun, sound-begun}
@@ -20,9 +20,9 @@ use Rattle.fdp_image.specs.Kept.{is_owed}
 use Rattle.fdp_core.proofs.Kept.{kept-unwritten, kept-written}
 use Rattle.fdp_core.proofs.Wholes.{low-faults}
 use Rattle.fdp_core.proofs.Outlasting.{outlasts-stops}
-use Rattle.fdp_survival.proofs.Steps.{safe-written, survives-written}
+use Rattle.fdp_loading.proofs.fdp_survival.Steps.{safe-written, survives-written}
 use Rattle.fdp_core.proofs.Relocated.{sound-prefix}
-use Rattle.fdp_saving.proofs.Failing.{written_failed}
+use Rattle.fdp_relocation.proofs.fdp_saving.Failing.{written_failed}
 
 module _ {F : Type 0} (state : F → FlashState) (x y : F) (handed : Counts) (b : BookSeen) (k l : KeeperSeen) (block : List ℕ) (order : IsInOrder b) (whole : IsWhole handed (state x) b k block) where
   abbrev before : Seen F

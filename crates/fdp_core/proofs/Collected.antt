@@ -5,33 +5,33 @@ use Rattle.fdp_base.specs.declared.entry.BlockName.{BlockName}
 use Rattle.fdp_base.specs.declared.entry.Entry.{Entry}
 use Rattle.fdp_base.specs.declared.entry.Entry.TheVariants as entries
 use Rattle.fdp_base.specs.Placement.{geometry_of}
-use Rattle.fdp_book.specs.Book.{BookSeen, point_in}
-use Rattle.fdp_book.specs.Relocating.{told_by}
-use Rattle.fdp_collector.specs.declared.step.Step.{Step}
+use Rattle.fdp_relocation.specs.fdp_book.Book.{BookSeen, point_in}
+use Rattle.fdp_relocation.specs.fdp_book.Relocating.{told_by}
+use Rattle.fdp_relocation.specs.fdp_collector.declared.step.Step.{Step}
 use Rattle.fdp_core.specs.Sound.{IsKept}
 use Rattle.fdp_core.proofs.Kept.{kept-entry, kept-made, kept-over, kept-relocated, kept-settled, kept-unsettled}
-use Rattle.fdp_durability.specs.Saved.{firm_renewed, firm_with}
-use Rattle.fdp_durability.proofs.Beginnings.{stands-less}
+use Rattle.fdp_relocation.specs.fdp_durability.Saved.{firm_renewed, firm_with}
+use Rattle.fdp_relocation.proofs.fdp_durability.Beginnings.{stands-less}
 use Rattle.fdp_flash.specs.declared.answer.Wrote.TheVariants as wrote
 use Rattle.fdp_flash.specs.FlashState.{FlashState}
 use Rattle.fdp_flash.proofs.Runs.{runs_joined, runs_weakened}
 use Rattle.fdp_image.specs.Kept.{StandsForBeginning}
-use Rattle.fdp_keeper.specs.Keeper.{IsKeeperOf, KeeperSeen}
-use Rattle.fdp_ledger.specs.declared.counts.Counts.{Counts}
+use Rattle.fdp_relocation.specs.fdp_keeper.Keeper.{IsKeeperOf, KeeperSeen}
+use Rattle.fdp_loading.specs.fdp_ledger.declared.counts.Counts.{Counts}
 use Rattle.fdp_relocation.specs.Collected.{Collects, FailsToSettle, Moves, Stage, StaysUncalled, Steps, StepsSettled}
 use Rattle.fdp_rules.specs.Sites.{moved_blocks}
-use Rattle.fdp_saving.specs.declared.saved.Saved.{Saved}
-use Rattle.fdp_saving.specs.declared.saved.Saved.TheVariants as savings
-use Rattle.fdp_collector.specs.declared.step.Step.TheVariants as steps
-use Rattle.fdp_collector.specs.declared.step.Lost.TheVariants as lost
+use Rattle.fdp_relocation.specs.fdp_saving.declared.saved.Saved.{Saved}
+use Rattle.fdp_relocation.specs.fdp_saving.declared.saved.Saved.TheVariants as savings
+use Rattle.fdp_relocation.specs.fdp_collector.declared.step.Step.TheVariants as steps
+use Rattle.fdp_relocation.specs.fdp_collector.declared.step.Lost.TheVariants as lost
 use Rattle.fdp_relocation.specs.declared.advance.Advance.TheVariants as advance
 use Rattle.std.proofs.lemmas.List.Elements.{All-weaker}
-use Rattle.fdp_survival.specs.Books.{IsInOrder, IsSafe, Survives}
-use Rattle.fdp_survival.proofs.Steps.{HoldsBook, move-go, safe-fetched, safe-relocated, safe-saved, safe-settled, safe-unmoved, survives-longer, survives-relocated, survives-saved, survives-settled}
+use Rattle.fdp_loading.specs.fdp_survival.Books.{IsInOrder, IsSafe, Survives}
+use Rattle.fdp_loading.proofs.fdp_survival.Steps.{HoldsBook, move-go, safe-fetched, safe-relocated, safe-saved, safe-settled, safe-unmoved, survives-longer, survives-relocated, survives-saved, survives-settled}
 use Rattle.fdp_relocation.specs.declared.advance.Advance.{Advance}
 use Rattle.fdp_relocation.specs.Entries.{AreRelocationIn, IsRelocationIn}
 use Rattle.fdp_base.specs.declared.config.DriveConfig.{DriveConfig}
-use Rattle.fdp_durability.specs.Firm.{completes}
+use Rattle.fdp_relocation.specs.fdp_durability.Firm.{completes}
 use Rattle.fdp_core.proofs.Passing.{prefix-stands, settled-prefix}
 use Rattle.fdp_relocation.proofs.Resting.{uncalled-run}
 

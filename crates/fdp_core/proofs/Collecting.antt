@@ -3,8 +3,8 @@ use Rattle.std.proofs.Common.{◌≡◌, ℕ, ◌+◌, ◌-◌, ◌≤◌, ◌<�
 use Rattle.std.specs.Prelude.{IsTrue, ◌==◌}
 use Rattle.std.proofs.lemmas.Bool.Decides.{nat_tests}
 use Rattle.fdp_base.specs.declared.entry.Entry.{Entry}
-use Rattle.fdp_book.specs.Book.{BookSeen, IsLonger, state_in}
-use Rattle.fdp_collector.specs.Step.{IsUncalled}
+use Rattle.fdp_relocation.specs.fdp_book.Book.{BookSeen, IsLonger, state_in}
+use Rattle.fdp_relocation.specs.fdp_collector.Step.{IsUncalled}
 use Rattle.fdp_core.specs.Answers as answers
 use Rattle.fdp_core.specs.Answers.{CollectsStep}
 use Rattle.fdp_core.specs.Seen.{Seen, stage_of}
@@ -12,19 +12,19 @@ use Rattle.fdp_core.specs.Sound.{IsSound}
 use Rattle.fdp_core.specs.Steps.{IsGrown, Matches, steps_of}
 use Rattle.fdp_core.proofs.Sound.{begun}
 use Rattle.fdp_flash.specs.FlashState.{Call, FlashState}
-use Rattle.fdp_ledger.specs.WornOut.{IsWornOut}
-use Rattle.fdp_isolation.proofs.Alike.{laned-alike}
-use Rattle.fdp_ledger.specs.declared.counts.Counts.{Counts}
-use Rattle.fdp_ledger.proofs.Alike.{ledger-alike}
+use Rattle.fdp_loading.specs.fdp_ledger.WornOut.{IsWornOut}
+use Rattle.fdp_loading.proofs.fdp_isolation.Alike.{laned-alike}
+use Rattle.fdp_loading.specs.fdp_ledger.declared.counts.Counts.{Counts}
+use Rattle.fdp_loading.proofs.fdp_ledger.Alike.{ledger-alike}
 use Rattle.fdp_relocation.specs.declared.advance.Advance.{Advance}
 use Rattle.fdp_relocation.specs.declared.advance.Advance.TheVariants as advance
-use Rattle.fdp_saving.specs.declared.saved.Saved.TheVariants as savings
+use Rattle.fdp_relocation.specs.fdp_saving.declared.saved.Saved.TheVariants as savings
 use Rattle.fdp_relocation.specs.Collected.{Collects}
 use Rattle.fdp_core.specs.Advancing.{Advances, ComesTo, MovesCopies, TellsMore}
-use Rattle.fdp_survival.specs.Books.{IsSafe}
+use Rattle.fdp_loading.specs.fdp_survival.Books.{IsSafe}
 use Rattle.fdp_core.specs.Stops.{Outlasts, OutlastsStops}
 use Rattle.fdp_rules.specs.PlainState.{PlainState}
-use Rattle.fdp_saving.specs.declared.saved.Saved.{Saved}
+use Rattle.fdp_relocation.specs.fdp_saving.declared.saved.Saved.{Saved}
 use Rattle.fdp_core.proofs.Rooms.{begun_seen}
 use Rattle.fdp_core.proofs.Outlasting.{outlasts-all}
 use Rattle.fdp_core.proofs.Wholes.{unbegun}

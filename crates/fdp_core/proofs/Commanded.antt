@@ -13,12 +13,12 @@ use Rattle.fdp_base.specs.declared.entry.Spot.{Spot}
 use Rattle.fdp_base.specs.declared.status.TheConstants.Status as statuses
 use Rattle.fdp_base.specs.CommandKinds.{is_setting, is_write}
 use Rattle.fdp_base.specs.Placement.{classes_of}
-use Rattle.fdp_book.specs.declared.ticket.Done.{Done}
-use Rattle.fdp_book.specs.Book.{BookSeen, IsLed, point_in, state_in, written_in}
-use Rattle.fdp_book.specs.Commanded.{AppliesTo, MayTakeEffect, applied_reply}
-use Rattle.fdp_book.specs.Steps as book
-use Rattle.fdp_book.proofs.Histories.Commanded.{effect-follows, unmade-follows, unsure-follows}
-use Rattle.fdp_book.proofs.Longer.{written-one}
+use Rattle.fdp_relocation.specs.fdp_book.declared.ticket.Done.{Done}
+use Rattle.fdp_relocation.specs.fdp_book.Book.{BookSeen, IsLed, point_in, state_in, written_in}
+use Rattle.fdp_relocation.specs.fdp_book.Commanded.{AppliesTo, MayTakeEffect, applied_reply}
+use Rattle.fdp_relocation.specs.fdp_book.Steps as book
+use Rattle.fdp_relocation.proofs.fdp_book.Histories.Commanded.{effect-follows, unmade-follows, unsure-follows}
+use Rattle.fdp_relocation.proofs.fdp_book.Longer.{written-one}
 use Rattle.fdp_calls.specs.Calls.{counted_more}
 use Rattle.fdp_core.specs.Seen.{HasMoments, HoldsHistory, KeepsApart}
 use Rattle.fdp_core.specs.Sound.{IsSound, IsWhole}
@@ -33,26 +33,26 @@ use Rattle.fdp_core.proofs.Refusals.{uncompleted}
 use Rattle.fdp_core.proofs.Sound.{begun, same-flash, sound-entry, sound-told}
 use Rattle.fdp_flash.specs.declared.cell.Cell.{Cell}
 use Rattle.fdp_flash.specs.FlashState.{FlashState}
-use Rattle.fdp_isolation.specs.Laned.{IsKnown}
-use Rattle.fdp_isolation.proofs.Keeping.{FillsNoMore, FillsNone, left-fill, owners-fill, set-none}
-use Rattle.fdp_keeper.specs.Keeper.{KeeperSeen, KeepsEntry}
-use Rattle.fdp_ledger.specs.declared.counts.Counts.{Counts}
-use Rattle.fdp_ledger.specs.Told.{is_media_reply}
-use Rattle.fdp_ledger.proofs.Answered.{left-keep, ledger-answered, ledger-commanded, owners-keep}
-use Rattle.fdp_ledger.proofs.Ledgers.{KeepsFree}
-use Rattle.fdp_locations.specs.Stored.{HoldsWritten}
-use Rattle.fdp_locations.specs.Written.{Written}
-use Rattle.fdp_locations.proofs.Left.{holds-left, left-none}
-use Rattle.fdp_pages.specs.PageTables.{PageTables}
-use Rattle.fdp_pages.specs.Steps.{ChangesOwners, LeavesUnits}
+use Rattle.fdp_loading.specs.fdp_isolation.Laned.{IsKnown}
+use Rattle.fdp_loading.proofs.fdp_isolation.Keeping.{FillsNoMore, FillsNone, left-fill, owners-fill, set-none}
+use Rattle.fdp_relocation.specs.fdp_keeper.Keeper.{KeeperSeen, KeepsEntry}
+use Rattle.fdp_loading.specs.fdp_ledger.declared.counts.Counts.{Counts}
+use Rattle.fdp_loading.specs.fdp_ledger.Told.{is_media_reply}
+use Rattle.fdp_loading.proofs.fdp_ledger.Answered.{left-keep, ledger-answered, ledger-commanded, owners-keep}
+use Rattle.fdp_loading.proofs.fdp_ledger.Ledgers.{KeepsFree}
+use Rattle.fdp_relocation.specs.fdp_locations.Stored.{HoldsWritten}
+use Rattle.fdp_relocation.specs.fdp_locations.Written.{Written}
+use Rattle.fdp_relocation.proofs.fdp_locations.Left.{holds-left, left-none}
+use Rattle.fdp_relocation.specs.fdp_pages.PageTables.{PageTables}
+use Rattle.fdp_relocation.specs.fdp_pages.Steps.{ChangesOwners, LeavesUnits}
 use Rattle.fdp_relocation.proofs.Moving.{blank-recounted}
 use Rattle.fdp_rules.specs.Answer.{bare}
 use Rattle.fdp_rules.specs.Change.{is_media_error}
 use Rattle.fdp_rules.specs.Step.{Follows}
-use Rattle.fdp_saving.specs.declared.saved.Saved.TheVariants as savings
-use Rattle.fdp_saving.proofs.Failing.{doubtful_failed, saved_well}
-use Rattle.fdp_survival.specs.Books.{IsInOrder}
-use Rattle.fdp_survival.proofs.Units.{GoOn, left-go, recounted-go}
+use Rattle.fdp_relocation.specs.fdp_saving.declared.saved.Saved.TheVariants as savings
+use Rattle.fdp_relocation.proofs.fdp_saving.Failing.{doubtful_failed, saved_well}
+use Rattle.fdp_loading.specs.fdp_survival.Books.{IsInOrder}
+use Rattle.fdp_loading.proofs.fdp_survival.Units.{GoOn, left-go, recounted-go}
 
 -- ---- what a change does to the pages
 

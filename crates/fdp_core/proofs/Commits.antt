@@ -3,12 +3,12 @@ use Rattle.std.proofs.Common.{◌≡◌, true, false, ap, sym, ◌∙◌, subst,
 use Rattle.std.proofs.lemmas.Bool.{false≢true}
 use Rattle.fdp_base.specs.declared.status.Status.{Status}
 use Rattle.fdp_base.specs.declared.status.TheConstants.Status as statuses
-use Rattle.fdp_book.specs.declared.ticket.Done.{Done}
-use Rattle.fdp_book.specs.declared.ticket.Ticket.{Ticket}
-use Rattle.fdp_book.specs.Book.{BookSeen, point_in, state_in}
-use Rattle.fdp_book.specs.Steps as book
-use Rattle.fdp_book.specs.Tickets.{IsTicketOf}
-use Rattle.fdp_book.proofs.Histories.Follows.{write-succeeds}
+use Rattle.fdp_relocation.specs.fdp_book.declared.ticket.Done.{Done}
+use Rattle.fdp_relocation.specs.fdp_book.declared.ticket.Ticket.{Ticket}
+use Rattle.fdp_relocation.specs.fdp_book.Book.{BookSeen, point_in, state_in}
+use Rattle.fdp_relocation.specs.fdp_book.Steps as book
+use Rattle.fdp_relocation.specs.fdp_book.Tickets.{IsTicketOf}
+use Rattle.fdp_relocation.proofs.fdp_book.Histories.Follows.{write-succeeds}
 use Rattle.fdp_core.specs.Answers.{Commits, EndsAlone}
 use Rattle.fdp_core.specs.Ending.{MayEnd}
 use Rattle.fdp_core.specs.Seen.{Seen}

@@ -4,12 +4,12 @@ use Rattle.std.specs.Prelude.{IsTrue, count_by}
 use Rattle.std.specs.List.{list_any}
 use Rattle.std.proofs.lemmas.Bool.{false≢true}
 use Rattle.fdp_base.specs.declared.entry.Reply.{Reply}
-use Rattle.fdp_book.specs.declared.ticket.Done.{Done}
-use Rattle.fdp_book.specs.declared.ticket.Ticket.{Ticket}
-use Rattle.fdp_book.specs.Book.{BookSeen, IsLed, point_in, state_in}
-use Rattle.fdp_book.specs.Steps as book
-use Rattle.fdp_book.specs.Tickets.{IsTicketOf}
-use Rattle.fdp_book.proofs.Histories.Follows.{end-follows}
+use Rattle.fdp_relocation.specs.fdp_book.declared.ticket.Done.{Done}
+use Rattle.fdp_relocation.specs.fdp_book.declared.ticket.Ticket.{Ticket}
+use Rattle.fdp_relocation.specs.fdp_book.Book.{BookSeen, IsLed, point_in, state_in}
+use Rattle.fdp_relocation.specs.fdp_book.Steps as book
+use Rattle.fdp_relocation.specs.fdp_book.Tickets.{IsTicketOf}
+use Rattle.fdp_relocation.proofs.fdp_book.Histories.Follows.{end-follows}
 use Rattle.fdp_calls.specs.Calls.{counted_more}
 use Rattle.fdp_calls.proofs.Made.{calls-none}
 use Rattle.fdp_core.specs.Answers.{EndsAlone}
@@ -20,12 +20,12 @@ use Rattle.fdp_core.proofs.Grown.{completes, host, matches-none}
 use Rattle.fdp_core.proofs.Sound.{begun, same-flash, sound-told}
 use Rattle.fdp_flash.specs.FlashState.{FlashState}
 use Rattle.fdp_history.specs.Orderly.{IsOrderly}
-use Rattle.fdp_isolation.specs.Laned.{IsKnown}
-use Rattle.fdp_ledger.specs.declared.counts.Counts.{Counts}
-use Rattle.fdp_ledger.specs.Told.{is_media_reply, tells_failure}
-use Rattle.fdp_ledger.proofs.Answered.{ledger-answered}
-use Rattle.fdp_ledger.proofs.Flash.{OnlyFetches}
-use Rattle.fdp_pages.specs.Steps.{ChangesOwners}
+use Rattle.fdp_loading.specs.fdp_isolation.Laned.{IsKnown}
+use Rattle.fdp_loading.specs.fdp_ledger.declared.counts.Counts.{Counts}
+use Rattle.fdp_loading.specs.fdp_ledger.Told.{is_media_reply, tells_failure}
+use Rattle.fdp_loading.proofs.fdp_ledger.Answered.{ledger-answered}
+use Rattle.fdp_loading.proofs.fdp_ledger.Flash.{OnlyFetches}
+use Rattle.fdp_relocation.specs.fdp_pages.Steps.{ChangesOwners}
 use Rattle.fdp_rules.specs.Change.{is_media_error}
 use Rattle.fdp_rules.specs.PlainState.{Going}
 use Rattle.fdp_rules.specs.Step.{Follows, IsEnd}

@@ -7,15 +7,15 @@ use Rattle.fdp_base.specs.declared.command.Command.{Command}
 use Rattle.fdp_base.specs.declared.entry.Entry.{Entry}
 use Rattle.fdp_base.specs.declared.entry.Entry.TheVariants as entries
 use Rattle.fdp_base.specs.declared.entry.Reply.{Reply}
-use Rattle.fdp_book.specs.declared.ticket.Done.{Done}
-use Rattle.fdp_book.specs.Book.{BookSeen, IsLonger, position_in}
+use Rattle.fdp_relocation.specs.fdp_book.declared.ticket.Done.{Done}
+use Rattle.fdp_relocation.specs.fdp_book.Book.{BookSeen, IsLonger, position_in}
 use Rattle.fdp_calls.specs.Calls.{FailedAt, counted_more, has_failed}
 use Rattle.fdp_calls.proofs.Made.{calls-same, counted_more-none}
 use Rattle.fdp_core.specs.Seen.{Seen}
 use Rattle.fdp_core.specs.Steps.{Adds, Completes, IsGrown, Matches, steps_of}
-use Rattle.fdp_ledger.proofs.Blank.{ErasesNoUnit, erased-none}
-use Rattle.fdp_ledger.proofs.Emptied.{emptied-none, same-emptied}
-use Rattle.fdp_ledger.specs.Told.{tells_failure}
+use Rattle.fdp_loading.proofs.fdp_ledger.Blank.{ErasesNoUnit, erased-none}
+use Rattle.fdp_loading.proofs.fdp_ledger.Emptied.{emptied-none, same-emptied}
+use Rattle.fdp_loading.specs.fdp_ledger.Told.{tells_failure}
 use Rattle.fdp_core.proofs.Sound.{begun}
 use Rattle.fdp_flash.specs.FlashState.{Call, FlashState}
 use Rattle.fdp_rules.specs.Change.{is_media_error}

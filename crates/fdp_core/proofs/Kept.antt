@@ -10,17 +10,17 @@ use Rattle.fdp_base.specs.declared.entry.Totals.{Totals}
 use Rattle.fdp_base.specs.declared.status.Status.{Status}
 use Rattle.fdp_base.specs.Counts.{Rose}
 use Rattle.fdp_base.specs.Placement.{geometry_of}
-use Rattle.fdp_book.specs.declared.ticket.Done.{Done}
-use Rattle.fdp_book.specs.declared.ticket.Ticket.{Ticket}
-use Rattle.fdp_book.specs.Book.{BookSeen, IsLonger, point_in}
-use Rattle.fdp_book.specs.Relocating.{MayFollow, told_by}
-use Rattle.fdp_book.specs.Shutting.{ShutsAndEnds}
-use Rattle.fdp_collector.specs.declared.step.Lost.TheVariants as lost
-use Rattle.fdp_collector.specs.declared.step.Step.{Step}
-use Rattle.fdp_collector.specs.declared.step.Step.TheVariants as steps
+use Rattle.fdp_relocation.specs.fdp_book.declared.ticket.Done.{Done}
+use Rattle.fdp_relocation.specs.fdp_book.declared.ticket.Ticket.{Ticket}
+use Rattle.fdp_relocation.specs.fdp_book.Book.{BookSeen, IsLonger, point_in}
+use Rattle.fdp_relocation.specs.fdp_book.Relocating.{MayFollow, told_by}
+use Rattle.fdp_relocation.specs.fdp_book.Shutting.{ShutsAndEnds}
+use Rattle.fdp_relocation.specs.fdp_collector.declared.step.Lost.TheVariants as lost
+use Rattle.fdp_relocation.specs.fdp_collector.declared.step.Step.{Step}
+use Rattle.fdp_relocation.specs.fdp_collector.declared.step.Step.TheVariants as steps
 use Rattle.fdp_core.specs.Sound.{IsKept}
 use Rattle.fdp_core.proofs.Sound.{begun}
-use Rattle.fdp_durability.specs.Saved.{SavesDrive, SavesEntry, SettlesDrive}
+use Rattle.fdp_relocation.specs.fdp_durability.Saved.{SavesDrive, SavesEntry, SettlesDrive}
 use Rattle.fdp_flash.specs.declared.answer.Wrote.{Wrote}
 use Rattle.fdp_flash.specs.declared.answer.Wrote.TheVariants as wrote
 use Rattle.fdp_flash.specs.FlashState.{FlashState}
@@ -29,15 +29,15 @@ use Rattle.fdp_history.specs.Standing.{IsStanding}
 use Rattle.fdp_history.proofs.Points.{orderly-next}
 use Rattle.fdp_history.proofs.Standing.{standing-next}
 use Rattle.fdp_image.specs.Reading.{Reading}
-use Rattle.fdp_journal.specs.JournalState.{JournalState}
-use Rattle.fdp_keeper.specs.Keeper.{IsKeeperOf, KeepsEntry, KeepsMade, KeeperSeen}
-use Rattle.fdp_ledger.specs.declared.counts.Counts.{Counts}
-use Rattle.fdp_outline.specs.Outline.{IsOutlineOf}
-use Rattle.fdp_pages.specs.PageTables.{PageTables}
+use Rattle.fdp_relocation.specs.fdp_journal.JournalState.{JournalState}
+use Rattle.fdp_relocation.specs.fdp_keeper.Keeper.{IsKeeperOf, KeepsEntry, KeepsMade, KeeperSeen}
+use Rattle.fdp_loading.specs.fdp_ledger.declared.counts.Counts.{Counts}
+use Rattle.fdp_relocation.specs.fdp_outline.Outline.{IsOutlineOf}
+use Rattle.fdp_relocation.specs.fdp_pages.PageTables.{PageTables}
 use Rattle.fdp_pointers.specs.Contents.{leaves_pages}
-use Rattle.fdp_readings.specs.Drawn.{drawn}
-use Rattle.fdp_readings.specs.Lasting.{leaves_nothing}
-use Rattle.fdp_readings.proofs.Staying.{drawn-still}
+use Rattle.fdp_relocation.specs.fdp_readings.Drawn.{drawn}
+use Rattle.fdp_relocation.specs.fdp_readings.Lasting.{leaves_nothing}
+use Rattle.fdp_relocation.proofs.fdp_readings.Staying.{drawn-still}
 use Rattle.fdp_rules.specs.Answer.{bare}
 use Rattle.fdp_rules.specs.History.{Found, point_of, totals_of}
 use Rattle.fdp_rules.specs.Next.{next}
@@ -45,14 +45,14 @@ use Rattle.fdp_rules.specs.PlainState.{Going}
 use Rattle.fdp_rules.specs.Point.{Point}
 use Rattle.fdp_rules.specs.Step.{Follows}
 use Rattle.fdp_rules.proofs.Pushes.{point_of-push}
-use Rattle.fdp_saving.specs.declared.saved.Saved.{Saved}
-use Rattle.fdp_saving.specs.declared.saved.Saved.TheVariants as answers
-use Rattle.fdp_saving.specs.Saver.{after_checkpoint, after_saving, needs_checkpoint, renewed}
-use Rattle.fdp_saving.specs.Saving.{EndsCheckpoint, EndsSaving}
-use Rattle.fdp_saving.proofs.Joined.{ready_sure}
+use Rattle.fdp_relocation.specs.fdp_saving.declared.saved.Saved.{Saved}
+use Rattle.fdp_relocation.specs.fdp_saving.declared.saved.Saved.TheVariants as answers
+use Rattle.fdp_relocation.specs.fdp_saving.Saver.{after_checkpoint, after_saving, needs_checkpoint, renewed}
+use Rattle.fdp_relocation.specs.fdp_saving.Saving.{EndsCheckpoint, EndsSaving}
+use Rattle.fdp_relocation.proofs.fdp_saving.Joined.{ready_sure}
 use Rattle.fdp_snapshot.specs.declared.state.Summary.{Summary}
-use Rattle.fdp_survival.specs.Books.{IsInOrder, IsSafe}
-use Rattle.fdp_survival.specs.Safe.{IsSafeAt}
+use Rattle.fdp_loading.specs.fdp_survival.Books.{IsInOrder, IsSafe}
+use Rattle.fdp_loading.specs.fdp_survival.Safe.{IsSafeAt}
 
 no : true ≡ false → ⊥
 no e = cc

@@ -1,3 +1,6 @@
+-- passed on to the crates above
+pub use Rattle.fdp_loading.proofs.fdp_durability as fdp_durability
+pub use Rattle.fdp_loading.proofs.fdp_outline as fdp_outline
 pub mod Advancing
 pub mod Apart
 pub mod Begins

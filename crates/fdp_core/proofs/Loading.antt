@@ -1,11 +1,11 @@
 -- A group that was opened over a flash.
 use Rattle.std.proofs.Common.{◌≡◌, ℕ, true, false, List, length, refl, sym, ◌∙◌, ap, subst, arith}
 use Rattle.fdp_base.specs.declared.config.DriveConfig.{DriveConfig}
-use Rattle.fdp_book.specs.Book.{BookSeen}
+use Rattle.fdp_relocation.specs.fdp_book.Book.{BookSeen}
 use Rattle.fdp_core.specs.Sound.{IsWhole}
 use Rattle.fdp_flash.specs.FlashState.{FlashState}
-use Rattle.fdp_keeper.specs.Keeper.{KeeperSeen}
-use Rattle.fdp_ledger.specs.Counted.{counts_of}
+use Rattle.fdp_relocation.specs.fdp_keeper.Keeper.{KeeperSeen}
+use Rattle.fdp_loading.specs.fdp_ledger.Counted.{counts_of}
 use Rattle.fdp_loading.specs.Loaded as loaded
 use Rattle.fdp_core.specs.Loading.{IsLoaded}
 use Rattle.fdp_core.specs.Seen.{Seen}
@@ -13,7 +13,7 @@ use Rattle.fdp_flash.specs.Runs.{Runs}
 use Rattle.fdp_image.specs.Kept.{StandsForBeginning}
 use Rattle.fdp_loading.specs.Refused.{IsNotLoaded}
 use Rattle.fdp_loading.proofs.Looked.{looks-none}
-use Rattle.fdp_recovery.specs.declared.opened.OpenFault.TheVariants as faults
+use Rattle.fdp_relocation.specs.fdp_recovery.declared.opened.OpenFault.TheVariants as faults
 
 -- what was loaded stands for its history, with a buffer for a block
 pub whole-loaded : (c : DriveConfig) (old new : FlashState) (b : BookSeen) (k : KeeperSeen) (block : List ℕ) → loaded.IsLoaded c old new b k → length block ≡ c.block → IsWhole (counts_of old) new b k block

@@ -7,40 +7,40 @@ use Rattle.std.proofs.lemmas.Bool.{false≢true}
 use Rattle.fdp_base.specs.declared.config.DriveConfig.{DriveConfig}
 use Rattle.fdp_base.specs.declared.entry.Entry.{Entry}
 use Rattle.fdp_base.specs.declared.entry.Entry.TheVariants as entries
-use Rattle.fdp_book.specs.Book.{BookSeen, state_in}
+use Rattle.fdp_relocation.specs.fdp_book.Book.{BookSeen, state_in}
 use Rattle.fdp_calls.specs.Calls.{erase_at, has_failed}
 use Rattle.fdp_base.specs.Config.{IsValidConfig}
 use Rattle.fdp_core.specs.declared.group.pass.PassEnd.{PassEnd}
 use Rattle.fdp_core.specs.declared.group.pass.PassEnd.TheVariants as ends
-use Rattle.fdp_collector.specs.declared.step.Step.TheVariants as steps
+use Rattle.fdp_relocation.specs.fdp_collector.declared.step.Step.TheVariants as steps
 use Rattle.fdp_core.proofs.Relocated.{one-at-most}
 use Rattle.fdp_core.specs.Passes.{EndsPass, EndsRest, FailsInPass, MakesNone, MakesPass, MakesRest, MayBeginPass, MayEndPass, Relocates, Starves, left_in}
-use Rattle.fdp_isolation.specs.Laned.{IsKnown}
+use Rattle.fdp_loading.specs.fdp_isolation.Laned.{IsKnown}
 use Rattle.fdp_core.specs.Seen.{Seen, Stands, stage_of}
 use Rattle.fdp_core.proofs.Passing.{erases-none, relocates-joined, relocates-none}
 use Rattle.fdp_flash.specs.FlashState.{Call, FlashState}
-use Rattle.fdp_ledger.proofs.Blank.{ErasesNoUnit}
-use Rattle.fdp_locations.proofs.Others.{is-group}
-use Rattle.fdp_pages.specs.PageTables.{copies_at, passes_at}
+use Rattle.fdp_loading.proofs.fdp_ledger.Blank.{ErasesNoUnit}
+use Rattle.fdp_relocation.proofs.fdp_locations.Others.{is-group}
+use Rattle.fdp_relocation.specs.fdp_pages.PageTables.{copies_at, passes_at}
 use Rattle.fdp_passes.specs.declared.due.Due.TheVariants as due
 use Rattle.fdp_passes.specs.Due.{IsDue, copies_in}
 use Rattle.fdp_passes.specs.GroupPasses.{GroupPasses, Pass}
 use Rattle.fdp_relocation.specs.declared.advance.Advance.TheVariants as advance
-use Rattle.fdp_saving.specs.declared.saved.Saved.TheVariants as savings
+use Rattle.fdp_relocation.specs.fdp_saving.declared.saved.Saved.TheVariants as savings
 use Rattle.fdp_flash.specs.declared.answer.Wrote.TheVariants as wrote
 use Rattle.fdp_relocation.specs.Collected.{Collects, StepsErase}
 use Rattle.fdp_relocation.specs.Toil.{wanted_at, work}
 use Rattle.fdp_relocation.proofs.Toil.Steps.{CopiesOn, MovesOn, copies-on, erases-on, moves-on, wanted-few, ErasesOn}
 use Rattle.fdp_units.specs.DataUnits.{is_free}
 use Rattle.fdp_units.specs.UnitTable.{Cut, HasNoVictim, IsGroup, count_in, toil_of}
-use Rattle.fdp_saving.specs.Calls.{FailAtEnd}
+use Rattle.fdp_relocation.specs.fdp_saving.Calls.{FailAtEnd}
 use Rattle.fdp_core.specs.Advancing.{Advances, ComesTo, AreCallsOfMove, ErasesVictim, AreCallsOfSettling}
-use Rattle.fdp_pages.specs.Joined.{AreJoined}
-use Rattle.fdp_ledger.specs.WornOut.{IsWornOut}
-use Rattle.fdp_journal.specs.JournalState.{JournalState}
+use Rattle.fdp_relocation.specs.fdp_pages.Joined.{AreJoined}
+use Rattle.fdp_loading.specs.fdp_ledger.WornOut.{IsWornOut}
+use Rattle.fdp_relocation.specs.fdp_journal.JournalState.{JournalState}
 use Rattle.fdp_core.proofs.Called.{well-joined, fails-behind}
-use Rattle.fdp_collector.specs.Step.{IsUncalled}
-use Rattle.fdp_saving.proofs.Failing.{saved_well, written_well}
+use Rattle.fdp_relocation.specs.fdp_collector.Step.{IsUncalled}
+use Rattle.fdp_relocation.proofs.fdp_saving.Failing.{saved_well, written_well}
 
 -- ---- what is known
 

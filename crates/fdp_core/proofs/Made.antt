@@ -7,9 +7,9 @@ use Rattle.fdp_base.specs.declared.command.Command.{Command}
 use Rattle.fdp_base.specs.declared.entry.Entry.{Entry}
 use Rattle.fdp_base.specs.declared.entry.Reply.{Reply}
 use Rattle.fdp_base.specs.declared.status.TheConstants.Status as statuses
-use Rattle.fdp_book.specs.declared.ticket.Done.{Done}
-use Rattle.fdp_book.specs.Book.{BookSeen, state_in}
-use Rattle.fdp_book.specs.Steps as book
+use Rattle.fdp_relocation.specs.fdp_book.declared.ticket.Done.{Done}
+use Rattle.fdp_relocation.specs.fdp_book.Book.{BookSeen, state_in}
+use Rattle.fdp_relocation.specs.fdp_book.Steps as book
 use Rattle.fdp_calls.specs.Calls.{FailedAt, counted_more, has_failed}
 use Rattle.fdp_core.specs.Seen.{HasMoments, Seen}
 use Rattle.fdp_core.specs.Sound.{IsKept, IsSound, IsWhole}
@@ -26,27 +26,27 @@ use Rattle.fdp_core.proofs.Refusals.{uncompleted}
 use Rattle.fdp_core.proofs.Relocated.{sound-prefix}
 use Rattle.fdp_core.proofs.Sound.{begun, sound-begun}
 use Rattle.fdp_core.proofs.Wholes.{answered-kept, entry-stops, low-faults, order-begun}
-use Rattle.fdp_durability.specs.Firm as durable
-use Rattle.fdp_durability.specs.Saved.{firm_with}
-use Rattle.fdp_durability.proofs.Owed.{unowed-late}
+use Rattle.fdp_relocation.specs.fdp_durability.Firm as durable
+use Rattle.fdp_relocation.specs.fdp_durability.Saved.{firm_with}
+use Rattle.fdp_relocation.proofs.fdp_durability.Owed.{unowed-late}
 use Rattle.fdp_flash.specs.Failing.{FailsLast}
 use Rattle.fdp_flash.specs.FlashState.{FlashState}
 use Rattle.fdp_image.specs.Kept.{is_owed}
-use Rattle.fdp_keeper.specs.Keeper.{KeeperSeen, KeepsEntry}
-use Rattle.fdp_ledger.specs.declared.counts.Counts.{Counts}
-use Rattle.fdp_ledger.specs.Ledger.{IsLedger}
-use Rattle.fdp_ledger.specs.Told.{is_media_reply, tells_failure}
-use Rattle.fdp_ledger.proofs.Moments.{may-tell}
-use Rattle.fdp_pages.specs.Steps.{ChangesOwners}
+use Rattle.fdp_relocation.specs.fdp_keeper.Keeper.{KeeperSeen, KeepsEntry}
+use Rattle.fdp_loading.specs.fdp_ledger.declared.counts.Counts.{Counts}
+use Rattle.fdp_loading.specs.fdp_ledger.Ledger.{IsLedger}
+use Rattle.fdp_loading.specs.fdp_ledger.Told.{is_media_reply, tells_failure}
+use Rattle.fdp_loading.proofs.fdp_ledger.Moments.{may-tell}
+use Rattle.fdp_relocation.specs.fdp_pages.Steps.{ChangesOwners}
 use Rattle.fdp_rules.specs.Answer.{bare}
 use Rattle.fdp_rules.specs.Change.{is_media_error}
 use Rattle.fdp_rules.specs.Step.{IsNewMoment}
-use Rattle.fdp_saving.specs.declared.saved.Saved.{Saved}
-use Rattle.fdp_saving.specs.declared.saved.Saved.TheVariants as savings
-use Rattle.fdp_saving.proofs.Failing.{unsaved_failed}
-use Rattle.fdp_survival.specs.Books.{IsInOrder, IsSafe}
-use Rattle.fdp_survival.proofs.Steps.{safe-not-saved, safe-saved, survives-not-saved, survives-saved}
-use Rattle.fdp_survival.proofs.Units.{GoOn}
+use Rattle.fdp_relocation.specs.fdp_saving.declared.saved.Saved.{Saved}
+use Rattle.fdp_relocation.specs.fdp_saving.declared.saved.Saved.TheVariants as savings
+use Rattle.fdp_relocation.proofs.fdp_saving.Failing.{unsaved_failed}
+use Rattle.fdp_loading.specs.fdp_survival.Books.{IsInOrder, IsSafe}
+use Rattle.fdp_loading.proofs.fdp_survival.Steps.{safe-not-saved, safe-saved, survives-not-saved, survives-saved}
+use Rattle.fdp_loading.proofs.fdp_survival.Units.{GoOn}
 
 -- ---- calls that failed at last
 

@@ -4,12 +4,12 @@ use Rattle.std.specs.Prelude.{nat_le}
 use Rattle.std.proofs.lemmas.Bool.{false≢true, lt-leb}
 use Rattle.fdp_base.specs.Geometry.{area_pages}
 use Rattle.fdp_flash.specs.FlashState.{Call}
-use Rattle.fdp_journal.specs.Journal.{record_call}
-use Rattle.fdp_journal.specs.JournalState.{JournalState, next_in}
-use Rattle.fdp_saving.specs.declared.saved.Saved.{Saved}
-use Rattle.fdp_saving.specs.declared.saved.Saved.TheVariants as savings
-use Rattle.fdp_saving.specs.Calls.{AreCallsOfSaving, calls_of_renewal}
-use Rattle.fdp_saving.specs.Saver.{needs_checkpoint, renewed}
+use Rattle.fdp_relocation.specs.fdp_journal.Journal.{record_call}
+use Rattle.fdp_relocation.specs.fdp_journal.JournalState.{JournalState, next_in}
+use Rattle.fdp_relocation.specs.fdp_saving.declared.saved.Saved.{Saved}
+use Rattle.fdp_relocation.specs.fdp_saving.declared.saved.Saved.TheVariants as savings
+use Rattle.fdp_relocation.specs.fdp_saving.Calls.{AreCallsOfSaving, calls_of_renewal}
+use Rattle.fdp_relocation.specs.fdp_saving.Saver.{needs_checkpoint, renewed}
 use Rattle.fdp_snapshot.specs.declared.state.Summary.{Summary}
 
 none-needed : (s : JournalState) → s.in_doubt ≡ false → next_in s < area_pages s.geometry → needs_checkpoint s ≡ false

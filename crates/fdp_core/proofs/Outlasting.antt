@@ -4,22 +4,22 @@ use Rattle.std.specs.Prelude.{All, IsFalse}
 use Rattle.std.proofs.lemmas.List.Elements.{All-append, All-nil, All-weaker}
 use Rattle.fdp_base.specs.declared.config.DriveConfig.{DriveConfig}
 use Rattle.fdp_base.specs.declared.entry.Entry.{Entry}
-use Rattle.fdp_book.specs.Book.{IsLonger}
+use Rattle.fdp_relocation.specs.fdp_book.Book.{IsLonger}
 use Rattle.fdp_core.specs.Seen.{Seen}
 use Rattle.fdp_core.specs.Stops.{Outlasts, OutlastsStops}
 use Rattle.fdp_core.proofs.Looping.{IsPassing}
 use Rattle.fdp_core.proofs.Passing.{longer-joined, longer-none}
-use Rattle.fdp_durability.specs.Firm.{completes}
-use Rattle.fdp_durability.proofs.Beginnings.{stands-grown, stands-less}
-use Rattle.fdp_durability.proofs.Owed.{unowed}
+use Rattle.fdp_relocation.specs.fdp_durability.Firm.{completes}
+use Rattle.fdp_relocation.proofs.fdp_durability.Beginnings.{stands-grown, stands-less}
+use Rattle.fdp_relocation.proofs.fdp_durability.Owed.{unowed}
 use Rattle.fdp_flash.specs.declared.cell.Cell.{Cell}
 use Rattle.fdp_flash.specs.FlashState.{FlashState}
 use Rattle.fdp_flash.specs.Runs.{Runs}
 use Rattle.fdp_flash.proofs.Runs.{no_run, runs_joined, runs_weakened}
 use Rattle.fdp_image.specs.Kept.{AreFirm, IsStopSafe, StandsForBeginning, is_owed}
 use Rattle.fdp_rules.specs.History.{Found}
-use Rattle.fdp_survival.specs.Books.{IsSafe, Survives}
-use Rattle.fdp_survival.proofs.Steps.{safe-of-stops}
+use Rattle.fdp_loading.specs.fdp_survival.Books.{IsSafe, Survives}
+use Rattle.fdp_loading.proofs.fdp_survival.Steps.{safe-of-stops}
 
 -- a pass goes on, and outlasts stops
 pub record GoesOn {F : Type 0} (state : F → FlashState) (start now : Seen F) (rg : ℕ) : Type 0 where

@@ -6,43 +6,43 @@ use Rattle.std.proofs.lemmas.Bool.{false≢true}
 use Rattle.std.proofs.lemmas.List.Elements.{All-cons, All-nil}
 use Rattle.fdp_base.specs.declared.entry.Entry.TheVariants as entries
 use Rattle.fdp_base.specs.declared.status.TheConstants.Status as statuses
-use Rattle.fdp_book.specs.Steps as book
+use Rattle.fdp_relocation.specs.fdp_book.Steps as book
 use Rattle.fdp_flash.specs.declared.cell.Cell.TheVariants.{Whole}
-use Rattle.fdp_saving.specs.declared.saved.Saved.TheVariants as savings
-use Rattle.fdp_book.specs.Book.{BookSeen, point_in}
+use Rattle.fdp_relocation.specs.fdp_saving.declared.saved.Saved.TheVariants as savings
+use Rattle.fdp_relocation.specs.fdp_book.Book.{BookSeen, point_in}
 use Rattle.fdp_flash.specs.FlashState.{Call, FlashState, IsWellFormed as IsFlashFormed}
-use Rattle.fdp_durability.specs.Beginnings.{CanBeSaved}
-use Rattle.fdp_ledger.specs.declared.counts.Counts.{Counts}
+use Rattle.fdp_relocation.specs.fdp_durability.Beginnings.{CanBeSaved}
+use Rattle.fdp_loading.specs.fdp_ledger.declared.counts.Counts.{Counts}
 use Rattle.fdp_base.specs.declared.config.DriveConfig.{DriveConfig}
 use Rattle.fdp_base.specs.declared.entry.Entry.{Entry}
 use Rattle.fdp_calls.specs.Calls.{FailedAt, MakesCalls, program_at}
 use Rattle.fdp_core.specs.Answers.{FailsToPlace}
-use Rattle.fdp_ledger.specs.Calls.{FailsToProgram}
+use Rattle.fdp_loading.specs.fdp_ledger.Calls.{FailsToProgram}
 use Rattle.fdp_rules.specs.PlainState.{Going}
-use Rattle.fdp_survival.specs.Books.{IsInOrder, IsSafe, Survives}
+use Rattle.fdp_loading.specs.fdp_survival.Books.{IsInOrder, IsSafe, Survives}
 use Rattle.fdp_core.specs.Sound.{IsKept, IsSound, IsWhole}
-use Rattle.fdp_isolation.specs.Laned.{IsKnown}
-use Rattle.fdp_book.specs.Tickets.{IsNextSpot}
+use Rattle.fdp_loading.specs.fdp_isolation.Laned.{IsKnown}
+use Rattle.fdp_relocation.specs.fdp_book.Tickets.{IsNextSpot}
 use Rattle.fdp_core.proofs.Passing.{IsPrefix, matches-joined, prefix-matches, saving-prefix}
 use Rattle.fdp_calls.specs.Media.{IsProgrammedTo}
-use Rattle.fdp_keeper.specs.Keeper.{KeeperSeen, KeepsMade}
-use Rattle.fdp_ledger.specs.Emptied.{OnlyErasesEmpty}
+use Rattle.fdp_relocation.specs.fdp_keeper.Keeper.{KeeperSeen, KeepsMade}
+use Rattle.fdp_loading.specs.fdp_ledger.Emptied.{OnlyErasesEmpty}
 use Rattle.fdp_core.specs.Stops.{OutlastsStops}
 use Rattle.fdp_flash.specs.Cells.{ProgramMayLeave}
 use Rattle.fdp_flash.specs.Runs.{Runs}
 use Rattle.fdp_image.specs.Saving.{SameDataPages}
-use Rattle.fdp_saving.specs.declared.saved.Saved.{Saved}
-use Rattle.fdp_book.specs.Shutting.{ShutsAndEnds}
+use Rattle.fdp_relocation.specs.fdp_saving.declared.saved.Saved.{Saved}
+use Rattle.fdp_relocation.specs.fdp_book.Shutting.{ShutsAndEnds}
 use Rattle.fdp_base.specs.declared.entry.Spot.{Spot}
 use Rattle.fdp_image.specs.Kept.{StandsForBeginning, is_completed, is_owed}
-use Rattle.fdp_book.specs.declared.ticket.Ticket.{Ticket}
+use Rattle.fdp_relocation.specs.fdp_book.declared.ticket.Ticket.{Ticket}
 use Rattle.fdp_rules.specs.Answer.{bare}
 use Rattle.fdp_core.proofs.Sound.{begun}
-use Rattle.fdp_survival.proofs.Steps.{can-failed, safe-page, safe-placed, safe-shut, safe-unplaced, survives-longer, survives-page, survives-shut}
+use Rattle.fdp_loading.proofs.fdp_survival.Steps.{can-failed, safe-page, safe-placed, safe-shut, safe-unplaced, survives-longer, survives-page, survives-shut}
 use Rattle.fdp_calls.proofs.Made.{counted_more-none, failed-last}
 use Rattle.fdp_core.proofs.Wholes.{entry-stops, low-faults, order-begun}
-use Rattle.fdp_ledger.proofs.Blank.{erased-none}
-use Rattle.fdp_durability.specs.Saved.{firm_with}
+use Rattle.fdp_loading.proofs.fdp_ledger.Blank.{erased-none}
+use Rattle.fdp_relocation.specs.fdp_durability.Saved.{firm_with}
 use Rattle.fdp_base.specs.Placement.{geometry_of}
 use Rattle.fdp_core.proofs.Grown.{completes, host}
 use Rattle.fdp_core.proofs.Kept.{kept-begun, kept-entry, kept-over, kept-shut}
@@ -53,8 +53,8 @@ use Rattle.fdp_flash.proofs.Lists.{slice_get-append}
 use Rattle.fdp_core.proofs.Relocated.{sound-prefix}
 use Rattle.fdp_core.proofs.Placing.{spot-begun}
 use Rattle.fdp_core.proofs.Refusals.{uncompleted}
-use Rattle.fdp_durability.proofs.Owed.{unowed}
-use Rattle.fdp_book.specs.declared.ticket.Done.{Done}
+use Rattle.fdp_relocation.proofs.fdp_durability.Owed.{unowed}
+use Rattle.fdp_relocation.specs.fdp_book.declared.ticket.Done.{Done}
 
 -- ---- it was programmed
 

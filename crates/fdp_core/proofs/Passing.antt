@@ -10,52 +10,52 @@ use Rattle.std.proofs.lemmas.List.Sums.{sum_by-append}
 use Rattle.fdp_base.specs.declared.config.DriveConfig.{DriveConfig}
 use Rattle.fdp_base.specs.declared.config.Geometry.{Geometry}
 use Rattle.fdp_base.specs.declared.entry.Entry.{Entry}
-use Rattle.fdp_book.specs.Book.{BookSeen, IsLonger, state_in, written_in}
-use Rattle.fdp_book.specs.Relocating.{told_by}
-use Rattle.fdp_book.specs.Relocating as book
+use Rattle.fdp_relocation.specs.fdp_book.Book.{BookSeen, IsLonger, state_in, written_in}
+use Rattle.fdp_relocation.specs.fdp_book.Relocating.{told_by}
+use Rattle.fdp_relocation.specs.fdp_book.Relocating as book
 use Rattle.fdp_calls.specs.Calls.{MakesCalls, counted_more, erase_at, fetch_at, has_failed, program_at}
 use Rattle.fdp_calls.proofs.Made.{calls-joined, calls-none, counted_more-add, counted_more-none, counted_more-one}
-use Rattle.fdp_collector.specs.declared.step.Lost.TheVariants as lost
-use Rattle.fdp_collector.specs.declared.step.Step.{Step}
-use Rattle.fdp_collector.specs.declared.step.Step.TheVariants as steps
-use Rattle.fdp_collector.specs.Step.{IsUncalled}
+use Rattle.fdp_relocation.specs.fdp_collector.declared.step.Lost.TheVariants as lost
+use Rattle.fdp_relocation.specs.fdp_collector.declared.step.Step.{Step}
+use Rattle.fdp_relocation.specs.fdp_collector.declared.step.Step.TheVariants as steps
+use Rattle.fdp_relocation.specs.fdp_collector.Step.{IsUncalled}
 use Rattle.fdp_core.specs.Passes.{Relocates}
 use Rattle.fdp_core.specs.Seen.{Seen, Stands}
 use Rattle.fdp_core.specs.Steps.{Matches}
 use Rattle.fdp_flash.specs.declared.cell.Cell.{Cell}
 use Rattle.fdp_flash.specs.FlashState.{Call, FlashState}
 use Rattle.fdp_flash.specs.Runs.{Runs}
-use Rattle.fdp_isolation.specs.Laned.{IsKnown}
-use Rattle.fdp_ledger.specs.declared.counts.Counts.{Counts}
-use Rattle.fdp_ledger.specs.Emptied.{ErasedAreBlank, OnlyErasesEmpty}
-use Rattle.fdp_ledger.specs.Ledger.{IsLedger}
-use Rattle.fdp_ledger.specs.Told.{tells_failure}
-use Rattle.fdp_ledger.specs.WornOut.{IsWornOut}
-use Rattle.fdp_ledger.proofs.Promised.{worn-out}
+use Rattle.fdp_loading.specs.fdp_isolation.Laned.{IsKnown}
+use Rattle.fdp_loading.specs.fdp_ledger.declared.counts.Counts.{Counts}
+use Rattle.fdp_loading.specs.fdp_ledger.Emptied.{ErasedAreBlank, OnlyErasesEmpty}
+use Rattle.fdp_loading.specs.fdp_ledger.Ledger.{IsLedger}
+use Rattle.fdp_loading.specs.fdp_ledger.Told.{tells_failure}
+use Rattle.fdp_loading.specs.fdp_ledger.WornOut.{IsWornOut}
+use Rattle.fdp_loading.proofs.fdp_ledger.Promised.{worn-out}
 use Rattle.fdp_rules.specs.History.{Found, point_of, state_of}
 use Rattle.fdp_base.specs.Placement.{geometry_of}
 use Rattle.fdp_base.specs.EntryKinds.{empties}
-use Rattle.fdp_ledger.proofs.Blank.{none-free_starved, ErasesNoUnit, erased-behind, erased-none, erased-relocated}
-use Rattle.fdp_ledger.proofs.Emptied.{emptied-joined, emptied-none, same-emptied}
-use Rattle.fdp_ledger.proofs.Relocated.{emptied-relocated}
+use Rattle.fdp_loading.proofs.fdp_ledger.Blank.{none-free_starved, ErasesNoUnit, erased-behind, erased-none, erased-relocated}
+use Rattle.fdp_loading.proofs.fdp_ledger.Emptied.{emptied-joined, emptied-none, same-emptied}
+use Rattle.fdp_loading.proofs.fdp_ledger.Relocated.{emptied-relocated}
 use Rattle.fdp_relocation.specs.Collected.{StaysUncalled}
 use Rattle.fdp_relocation.specs.Entries.{AreRelocationIn, IsRelocationIn}
 use Rattle.fdp_relocation.proofs.Keeping.{keeps-self, keeps-then}
 use Rattle.fdp_rules.specs.Totals.{media_blocks, media_blocks_of}
-use Rattle.fdp_saving.specs.Calls.{FailAtEnd}
-use Rattle.fdp_ledger.proofs.System.{AreBehindData, emptied-system}
-use Rattle.fdp_locations.specs.Stored.{HoldsWritten}
-use Rattle.fdp_collector.specs.declared.step.Lost.{Lost}
-use Rattle.fdp_durability.specs.Saved.{SavesDrive, SavesEntry, SettlesDrive}
-use Rattle.fdp_journal.specs.JournalState.{JournalState}
-use Rattle.fdp_survival.specs.Books.{IsSafe}
+use Rattle.fdp_relocation.specs.fdp_saving.Calls.{FailAtEnd}
+use Rattle.fdp_loading.proofs.fdp_ledger.System.{AreBehindData, emptied-system}
+use Rattle.fdp_relocation.specs.fdp_locations.Stored.{HoldsWritten}
+use Rattle.fdp_relocation.specs.fdp_collector.declared.step.Lost.{Lost}
+use Rattle.fdp_relocation.specs.fdp_durability.Saved.{SavesDrive, SavesEntry, SettlesDrive}
+use Rattle.fdp_relocation.specs.fdp_journal.JournalState.{JournalState}
+use Rattle.fdp_loading.specs.fdp_survival.Books.{IsSafe}
 use Rattle.fdp_image.specs.Saving.{SameDataPages}
-use Rattle.fdp_survival.proofs.Savings.{checkpoint-same, saving-same, settling-same}
-use Rattle.fdp_saving.specs.declared.saved.Saved.{Saved}
+use Rattle.fdp_loading.proofs.fdp_survival.Savings.{checkpoint-same, saving-same, settling-same}
+use Rattle.fdp_relocation.specs.fdp_saving.declared.saved.Saved.{Saved}
 use Rattle.fdp_flash.specs.declared.answer.Wrote.{Wrote}
 use Rattle.fdp_relocation.proofs.Resting.{uncalled-calls, uncalled-same}
 use Rattle.fdp_base.specs.Geometry.{data_units}
-use Rattle.fdp_isolation.proofs.Saved.{holds-saved}
+use Rattle.fdp_loading.proofs.fdp_isolation.Saved.{holds-saved}
 
 -- ---- no call
 

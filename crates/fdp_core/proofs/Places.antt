@@ -9,11 +9,11 @@ use Rattle.fdp_base.specs.declared.entry.Entry.TheVariants as entries
 use Rattle.fdp_base.specs.declared.entry.Spot.{Spot}
 use Rattle.fdp_base.specs.declared.status.TheConstants.Status as statuses
 use Rattle.fdp_base.specs.CommandKinds.{blocks_written}
-use Rattle.fdp_book.specs.declared.ticket.Ticket.{Ticket}
-use Rattle.fdp_book.specs.Book.{BookSeen, point_in, state_in}
-use Rattle.fdp_book.specs.Steps as book
-use Rattle.fdp_book.specs.Tickets.{IsNextSpot, IsTicketOf}
-use Rattle.fdp_book.proofs.Histories.Follows.{end-follows}
+use Rattle.fdp_relocation.specs.fdp_book.declared.ticket.Ticket.{Ticket}
+use Rattle.fdp_relocation.specs.fdp_book.Book.{BookSeen, point_in, state_in}
+use Rattle.fdp_relocation.specs.fdp_book.Steps as book
+use Rattle.fdp_relocation.specs.fdp_book.Tickets.{IsNextSpot, IsTicketOf}
+use Rattle.fdp_relocation.proofs.fdp_book.Histories.Follows.{end-follows}
 use Rattle.fdp_calls.specs.Calls.{FailedAt, MakesCalls, program_at}
 use Rattle.fdp_calls.specs.Media.{IsProgrammedTo}
 use Rattle.fdp_calls.proofs.Made.{counted_more-one}
@@ -27,12 +27,12 @@ use Rattle.fdp_flash.specs.declared.cell.Cell.{Cell}
 use Rattle.fdp_flash.specs.FlashState.{FlashState}
 use Rattle.fdp_history.specs.Orderly.{IsOrderly}
 use Rattle.fdp_history.proofs.Points.{orderly-next}
-use Rattle.fdp_isolation.specs.Laned.{IsKnown}
-use Rattle.fdp_ledger.specs.declared.counts.Counts.{Counts}
-use Rattle.fdp_ledger.specs.Emptied.{OnlyErasesEmpty}
-use Rattle.fdp_ledger.specs.Ledger.{IsLedger}
-use Rattle.fdp_ledger.proofs.Blank.{erased-none}
-use Rattle.fdp_ledger.proofs.Moments.{new-moment}
+use Rattle.fdp_loading.specs.fdp_isolation.Laned.{IsKnown}
+use Rattle.fdp_loading.specs.fdp_ledger.declared.counts.Counts.{Counts}
+use Rattle.fdp_loading.specs.fdp_ledger.Emptied.{OnlyErasesEmpty}
+use Rattle.fdp_loading.specs.fdp_ledger.Ledger.{IsLedger}
+use Rattle.fdp_loading.proofs.fdp_ledger.Blank.{erased-none}
+use Rattle.fdp_loading.proofs.fdp_ledger.Moments.{new-moment}
 use Rattle.fdp_rules.specs.Answer.{bare}
 use Rattle.fdp_rules.specs.Change.{after, changed_by, is_media_error}
 use Rattle.fdp_rules.specs.Next.{next}

@@ -19,17 +19,17 @@ use Rattle.fdp_base.specs.Geometry.{data_units}
 use Rattle.fdp_base.specs.Pattern.{HasBlock, payload_block}
 use Rattle.fdp_base.specs.Placement.{geometry_of}
 use Rattle.fdp_base.specs.Spare.{data_spare}
-use Rattle.fdp_book.specs.declared.ticket.Done.{Done}
-use Rattle.fdp_book.specs.declared.ticket.Ticket.{Ticket}
-use Rattle.fdp_book.specs.Book.{BookSeen, IsLed, point_in, state_in, written_in}
-use Rattle.fdp_book.specs.Shutting.{ShutsAndEnds}
-use Rattle.fdp_book.specs.Steps as book
-use Rattle.fdp_book.specs.Tickets.{IsNextSpot, IsTicketOf}
+use Rattle.fdp_relocation.specs.fdp_book.declared.ticket.Done.{Done}
+use Rattle.fdp_relocation.specs.fdp_book.declared.ticket.Ticket.{Ticket}
+use Rattle.fdp_relocation.specs.fdp_book.Book.{BookSeen, IsLed, point_in, state_in, written_in}
+use Rattle.fdp_relocation.specs.fdp_book.Shutting.{ShutsAndEnds}
+use Rattle.fdp_relocation.specs.fdp_book.Steps as book
+use Rattle.fdp_relocation.specs.fdp_book.Tickets.{IsNextSpot, IsTicketOf}
 use Rattle.fdp_calls.specs.Calls.{MakesCalls, program_at}
 use Rattle.fdp_calls.proofs.Made.{kept-made}
 use Rattle.fdp_calls.specs.Media.{IsProgrammedTo}
-use Rattle.fdp_collector.specs.Copying.{IsDataPage}
-use Rattle.fdp_collector.specs.Ready.{IsBlankBehind}
+use Rattle.fdp_relocation.specs.fdp_collector.Copying.{IsDataPage}
+use Rattle.fdp_relocation.specs.fdp_collector.Ready.{IsBlankBehind}
 use Rattle.fdp_core.specs.Seen.{HasMoments, HoldsHistory}
 use Rattle.fdp_core.specs.Sound.{IsSound}
 use Rattle.fdp_core.proofs.Pushed.{legal-one, legal-two}
@@ -43,20 +43,20 @@ use Rattle.fdp_flash.specs.Layout.{IsIn, page_number}
 use Rattle.fdp_flash.proofs.Pages.{programmed_may_leave}
 use Rattle.fdp_history.specs.Orderly.{IsOrderly}
 use Rattle.fdp_history.proofs.Placing.{going_with-is}
-use Rattle.fdp_isolation.specs.Laned.{IsKnown}
-use Rattle.fdp_ledger.specs.declared.counts.Counts.{Counts}
-use Rattle.fdp_ledger.proofs.Alike.{ledger-alike}
-use Rattle.fdp_ledger.proofs.Placed.{ledger-placed}
-use Rattle.fdp_ledger.proofs.Shutting.{FailsToProgram, ledger-shut}
-use Rattle.fdp_locations.specs.Stored.{HoldsWritten}
-use Rattle.fdp_locations.specs.Written.{Written, next_page, next_spare, page_of_ticket, with_written}
+use Rattle.fdp_loading.specs.fdp_isolation.Laned.{IsKnown}
+use Rattle.fdp_loading.specs.fdp_ledger.declared.counts.Counts.{Counts}
+use Rattle.fdp_loading.proofs.fdp_ledger.Alike.{ledger-alike}
+use Rattle.fdp_loading.proofs.fdp_ledger.Placed.{ledger-placed}
+use Rattle.fdp_loading.proofs.fdp_ledger.Shutting.{FailsToProgram, ledger-shut}
+use Rattle.fdp_relocation.specs.fdp_locations.Stored.{HoldsWritten}
+use Rattle.fdp_relocation.specs.fdp_locations.Written.{Written, next_page, next_spare, page_of_ticket, with_written}
 use Rattle.fdp_relocation.proofs.Moving.{blank-recounted}
 use Rattle.fdp_rules.specs.Answer.{bare}
 use Rattle.fdp_rules.specs.Change.{is_media_error}
 use Rattle.fdp_rules.specs.Next.{next}
 use Rattle.fdp_rules.specs.PlainState.{Going, PlainState}
 use Rattle.fdp_rules.specs.Step.{Follows, IsPlaced}
-use Rattle.fdp_book.proofs.Longer.{written-one, written-two}
+use Rattle.fdp_relocation.proofs.fdp_book.Longer.{written-one, written-two}
 
 -- ---- the place
 

@@ -5,10 +5,10 @@ use Rattle.std.proofs.lemmas.Bool.{false≢true}
 use Rattle.std.proofs.lemmas.List.Folds.{list_any-append}
 use Rattle.fdp_base.specs.declared.config.DriveConfig.{DriveConfig}
 use Rattle.fdp_base.specs.declared.entry.Entry.{Entry}
-use Rattle.fdp_book.specs.Book.{BookSeen, IsLonger, point_in}
+use Rattle.fdp_relocation.specs.fdp_book.Book.{BookSeen, IsLonger, point_in}
 use Rattle.fdp_core.specs.Seen.{HasMoments, IsLegalOver}
 use Rattle.fdp_flash.specs.FlashState.{FlashState}
-use Rattle.fdp_ledger.specs.Told.{is_media_reply}
+use Rattle.fdp_loading.specs.fdp_ledger.Told.{is_media_reply}
 use Rattle.fdp_rules.specs.History.{Found}
 use Rattle.fdp_rules.specs.Legal.{IsLegal}
 use Rattle.fdp_rules.specs.Next.{next}

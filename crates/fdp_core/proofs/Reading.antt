@@ -14,16 +14,16 @@ use Rattle.fdp_rules.specs.Answer.{read_block}
 use Rattle.fdp_rules.specs.LogPages.{zeros}
 use Rattle.fdp_base.specs.Numbers.{numbers_from}
 use Rattle.fdp_rules.specs.PlainState.{Block, PlainState}
-use Rattle.fdp_collector.specs.Copying.{Holds}
+use Rattle.fdp_relocation.specs.fdp_collector.Copying.{Holds}
 use Rattle.fdp_flash.specs.FlashState.{Call, FlashState}
 use Rattle.fdp_history.specs.OrderlyState.{IsOrderlyState}
-use Rattle.fdp_book.specs.declared.book.reading.Page.{Page}
+use Rattle.fdp_relocation.specs.fdp_book.declared.book.reading.Page.{Page}
 use Rattle.fdp_base.specs.declared.command.Read.{Read}
-use Rattle.fdp_book.specs.Book.{BookSeen, point_in, state_in}
+use Rattle.fdp_relocation.specs.fdp_book.Book.{BookSeen, point_in, state_in}
 use Rattle.fdp_calls.specs.Calls.{IsKept, IsWholeAt, MakesCalls, fetch_at}
 use Rattle.fdp_core.specs.Fetches.{FailsToFetch, MakesFetches, fetches_of, page_of, pages_of}
 use Rattle.fdp_calls.specs.Media.{IsReadFrom}
-use Rattle.fdp_book.specs.Reading.{IsPageOf, StandsAt}
+use Rattle.fdp_relocation.specs.fdp_book.Reading.{IsPageOf, StandsAt}
 use Rattle.fdp_core.specs.ReadSteps.{blocks_from}
 use Rattle.fdp_core.specs.Seen.{HoldsHistory}
 use Rattle.fdp_calls.proofs.Made.{calls-joined, calls-none}

@@ -4,11 +4,11 @@ use Rattle.std.specs.Prelude.{IsTrue}
 use Rattle.fdp_base.specs.declared.config.DriveConfig.{DriveConfig}
 use Rattle.fdp_base.specs.declared.entry.Entry.{Entry}
 use Rattle.fdp_base.specs.Placement.{geometry_of}
-use Rattle.fdp_book.specs.Book.{BookSeen, IsLonger, written_in}
-use Rattle.fdp_book.specs.Relocating.{MayFollow, MovesPass, Relocates, told_by}
-use Rattle.fdp_collector.specs.declared.step.Lost.TheVariants as lost
-use Rattle.fdp_collector.specs.declared.step.Step.{Step}
-use Rattle.fdp_collector.specs.declared.step.Step.TheVariants as steps
+use Rattle.fdp_relocation.specs.fdp_book.Book.{BookSeen, IsLonger, written_in}
+use Rattle.fdp_relocation.specs.fdp_book.Relocating.{MayFollow, MovesPass, Relocates, told_by}
+use Rattle.fdp_relocation.specs.fdp_collector.declared.step.Lost.TheVariants as lost
+use Rattle.fdp_relocation.specs.fdp_collector.declared.step.Step.{Step}
+use Rattle.fdp_relocation.specs.fdp_collector.declared.step.Step.TheVariants as steps
 use Rattle.fdp_core.specs.Seen.{IsLegalOver}
 use Rattle.fdp_core.specs.Sound.{IsSound}
 use Rattle.fdp_core.proofs.Apart.{apart-relocated, apart-moved}
@@ -16,23 +16,23 @@ use Rattle.fdp_core.proofs.Pushed.{legal-none, legal-one}
 use Rattle.fdp_flash.specs.declared.cell.Cell.{Cell}
 use Rattle.fdp_flash.specs.FlashState.{Call, FlashState}
 use Rattle.fdp_flash.specs.Runs.{Runs}
-use Rattle.fdp_isolation.specs.Laned.{IsKnown}
-use Rattle.fdp_ledger.specs.declared.counts.Counts.{Counts}
-use Rattle.fdp_ledger.proofs.Moved.{ledger-moved}
-use Rattle.fdp_ledger.proofs.Relocated.{ledger-relocated}
-use Rattle.fdp_locations.specs.Stored.{HoldsWritten}
+use Rattle.fdp_loading.specs.fdp_isolation.Laned.{IsKnown}
+use Rattle.fdp_loading.specs.fdp_ledger.declared.counts.Counts.{Counts}
+use Rattle.fdp_loading.proofs.fdp_ledger.Moved.{ledger-moved}
+use Rattle.fdp_loading.proofs.fdp_ledger.Relocated.{ledger-relocated}
+use Rattle.fdp_relocation.specs.fdp_locations.Stored.{HoldsWritten}
 use Rattle.fdp_relocation.specs.declared.advance.Advance.{Advance}
 use Rattle.fdp_relocation.specs.declared.advance.Advance.TheVariants as advance
 use Rattle.fdp_relocation.specs.Collected.{Collects, Moves, SavesMove, Stage, Steps, StepsSettled}
 use Rattle.fdp_core.proofs.Passing.{longer-none, IsPrefix, resting-prefix, saving-prefix, settled-prefix, prefix-stands}
 use Rattle.fdp_flash.proofs.Runs.{no_run}
-use Rattle.fdp_saving.specs.declared.saved.Saved.{Saved}
-use Rattle.fdp_saving.specs.declared.saved.Saved.TheVariants as savings
+use Rattle.fdp_relocation.specs.fdp_saving.declared.saved.Saved.{Saved}
+use Rattle.fdp_relocation.specs.fdp_saving.declared.saved.Saved.TheVariants as savings
 use Rattle.fdp_flash.specs.declared.answer.Wrote.TheVariants as wrote
-use Rattle.fdp_survival.specs.Books.{IsSafe}
-use Rattle.fdp_isolation.proofs.Saved.{laned-saved}
-use Rattle.fdp_ledger.proofs.System.{ledger-system}
-use Rattle.fdp_ledger.proofs.Called.{after-made}
+use Rattle.fdp_loading.specs.fdp_survival.Books.{IsSafe}
+use Rattle.fdp_loading.proofs.fdp_isolation.Saved.{laned-saved}
+use Rattle.fdp_loading.proofs.fdp_ledger.System.{ledger-system}
+use Rattle.fdp_loading.proofs.fdp_ledger.Called.{after-made}
 
 -- the same entries may follow, one at most
 legal-told : (f n : FlashState) (b d : BookSeen) (es : List Entry) → length es ≤ 1 → IsLonger b d es → n.told ≡ f.told → f.moment ≤ n.moment → IsLegalOver f b → MayFollow b es → IsLegalOver n d

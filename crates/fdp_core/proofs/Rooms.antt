@@ -19,13 +19,13 @@ use Rattle.fdp_base.specs.CommandKinds.{blocks_written, write_of}
 use Rattle.fdp_base.specs.Numbers.{count_below, is_among}
 use Rattle.fdp_base.specs.Placement.{budget_of}
 use Rattle.fdp_base.specs.EntryKinds.{empties}
-use Rattle.fdp_book.specs.declared.ticket.Done.{Done}
-use Rattle.fdp_book.specs.declared.ticket.Ticket.{Ticket}
-use Rattle.fdp_book.specs.Book.{BookSeen, IsLonger, point_in, state_in}
-use Rattle.fdp_book.specs.Tickets.{IsTicketOf, WantsUnit}
+use Rattle.fdp_relocation.specs.fdp_book.declared.ticket.Done.{Done}
+use Rattle.fdp_relocation.specs.fdp_book.declared.ticket.Ticket.{Ticket}
+use Rattle.fdp_relocation.specs.fdp_book.Book.{BookSeen, IsLonger, point_in, state_in}
+use Rattle.fdp_relocation.specs.fdp_book.Tickets.{IsTicketOf, WantsUnit}
 use Rattle.fdp_calls.specs.Calls.{FailedAt, MakesCalls, counted_more, has_failed}
 use Rattle.fdp_calls.proofs.Made.{failed-last}
-use Rattle.fdp_collector.specs.Step.{IsUncalled}
+use Rattle.fdp_relocation.specs.fdp_collector.Step.{IsUncalled}
 use Rattle.fdp_core.specs.Answers.{EndsCrowded, EndsInPass, EndsStarved, MakesRoom}
 use Rattle.fdp_core.specs.Ending.{Ends, MayEnd}
 use Rattle.fdp_core.specs.Passes.{FailsInPass, MakesNone, MakesPass, Relocates, Starves}
@@ -37,12 +37,12 @@ use Rattle.fdp_core.proofs.Placing.{as-write}
 use Rattle.fdp_core.proofs.Sound.{begun}
 use Rattle.fdp_flash.specs.FlashState.{Call, FlashState, IsWellFormed as IsFlashFormed}
 use Rattle.fdp_history.specs.Orderly.{IsOrderly}
-use Rattle.fdp_ledger.specs.declared.counts.Counts.{Counts}
-use Rattle.fdp_ledger.specs.Ledger.{IsLedger}
-use Rattle.fdp_ledger.proofs.Emptied.{emptied-joined, emptied-none, same-emptied}
-use Rattle.fdp_ledger.specs.WornOut.{IsWornOut}
-use Rattle.fdp_ledger.specs.Told.{is_media_reply, tells_failure}
-use Rattle.fdp_ledger.proofs.Moments.{may-tell, new-moment}
+use Rattle.fdp_loading.specs.fdp_ledger.declared.counts.Counts.{Counts}
+use Rattle.fdp_loading.specs.fdp_ledger.Ledger.{IsLedger}
+use Rattle.fdp_loading.proofs.fdp_ledger.Emptied.{emptied-joined, emptied-none, same-emptied}
+use Rattle.fdp_loading.specs.fdp_ledger.WornOut.{IsWornOut}
+use Rattle.fdp_loading.specs.fdp_ledger.Told.{is_media_reply, tells_failure}
+use Rattle.fdp_loading.proofs.fdp_ledger.Moments.{may-tell, new-moment}
 use Rattle.fdp_relocation.specs.Entries.{AreRelocationIn, IsRelocationIn}
 use Rattle.fdp_relocation.proofs.Keeping.{keeps-there, keeps-ticket}
 use Rattle.fdp_rules.specs.Answer.{bare}
@@ -54,10 +54,10 @@ use Rattle.fdp_rules.specs.Sites.{is_there}
 use Rattle.fdp_rules.specs.Step.{exceeds_budget}
 use Rattle.fdp_rules.specs.Totals.{media_blocks, media_blocks_of}
 use Rattle.fdp_rules.proofs.Pushes.{state_of-push}
-use Rattle.fdp_trails.specs.Crowded.{IsCrowded}
-use Rattle.fdp_trails.proofs.Crowding.{crowded-exceeds}
-use Rattle.fdp_book.proofs.Longer.{state-as, state-self}
-use Rattle.fdp_saving.specs.Calls.{FailAtEnd}
+use Rattle.fdp_relocation.specs.fdp_trails.Crowded.{IsCrowded}
+use Rattle.fdp_relocation.proofs.fdp_trails.Crowding.{crowded-exceeds}
+use Rattle.fdp_relocation.proofs.fdp_book.Longer.{state-as, state-self}
+use Rattle.fdp_relocation.specs.fdp_saving.Calls.{FailAtEnd}
 
 -- ---- a worn group has no budget
 

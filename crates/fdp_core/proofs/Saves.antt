@@ -4,12 +4,12 @@ use Rattle.std.specs.Prelude.{IsFalse, IsTrue}
 use Rattle.std.specs.List.{count_by, list_any}
 use Rattle.std.proofs.lemmas.Bool.{false≢true}
 use Rattle.fdp_base.specs.declared.status.TheConstants.Status as statuses
-use Rattle.fdp_book.specs.Steps as book
-use Rattle.fdp_durability.specs.Firm as durable
-use Rattle.fdp_saving.specs.declared.saved.Saved.TheVariants as savings
-use Rattle.fdp_book.specs.Book.{BookSeen, IsLed, point_in, state_in}
-use Rattle.fdp_pages.specs.Steps.{ChangesOwners}
-use Rattle.fdp_ledger.specs.declared.counts.Counts.{Counts}
+use Rattle.fdp_relocation.specs.fdp_book.Steps as book
+use Rattle.fdp_relocation.specs.fdp_durability.Firm as durable
+use Rattle.fdp_relocation.specs.fdp_saving.declared.saved.Saved.TheVariants as savings
+use Rattle.fdp_relocation.specs.fdp_book.Book.{BookSeen, IsLed, point_in, state_in}
+use Rattle.fdp_relocation.specs.fdp_pages.Steps.{ChangesOwners}
+use Rattle.fdp_loading.specs.fdp_ledger.declared.counts.Counts.{Counts}
 use Rattle.fdp_core.specs.Answers.{EndsSaved}
 use Rattle.fdp_base.specs.declared.entry.Entry.{Entry}
 use Rattle.fdp_calls.specs.Calls.{FailedAt, counted_more, has_failed}
@@ -17,30 +17,30 @@ use Rattle.fdp_flash.specs.FlashState.{FlashState}
 use Rattle.fdp_rules.specs.PlainState.{Going}
 use Rattle.fdp_core.specs.Seen.{HasMoments}
 use Rattle.fdp_rules.specs.Step.{IsEnd, MaySucceed}
-use Rattle.fdp_survival.specs.Books.{IsInOrder}
+use Rattle.fdp_loading.specs.fdp_survival.Books.{IsInOrder}
 use Rattle.fdp_core.specs.Sound.{IsSound, IsWhole}
-use Rattle.fdp_isolation.specs.Laned.{IsKnown}
-use Rattle.fdp_book.specs.Tickets.{IsTicketOf}
-use Rattle.fdp_keeper.specs.Keeper.{KeeperSeen, KeepsEntry}
+use Rattle.fdp_loading.specs.fdp_isolation.Laned.{IsKnown}
+use Rattle.fdp_relocation.specs.fdp_book.Tickets.{IsTicketOf}
+use Rattle.fdp_relocation.specs.fdp_keeper.Keeper.{KeeperSeen, KeepsEntry}
 use Rattle.fdp_core.specs.Stops.{OutlastsStops}
-use Rattle.fdp_saving.specs.declared.saved.Saved.{Saved}
+use Rattle.fdp_relocation.specs.fdp_saving.declared.saved.Saved.{Saved}
 use Rattle.fdp_base.specs.declared.status.Status.{Status}
-use Rattle.fdp_book.specs.declared.ticket.Ticket.{Ticket}
+use Rattle.fdp_relocation.specs.fdp_book.declared.ticket.Ticket.{Ticket}
 use Rattle.fdp_core.proofs.Apart.{apart-committed, known-begun}
 use Rattle.fdp_rules.specs.Answer.{bare}
 use Rattle.fdp_core.proofs.Sound.{begun, same-flash, sound-told}
 use Rattle.fdp_core.proofs.Made.{MayFault, made-completes, made-whole, may-fault, saving-failed, sound-behind, unmade-completes, unmade-whole}
-use Rattle.fdp_saving.proofs.Failing.{doubtful_failed, saved_well}
+use Rattle.fdp_relocation.proofs.fdp_saving.Failing.{doubtful_failed, saved_well}
 use Rattle.fdp_core.proofs.Grown.{host}
 use Rattle.fdp_rules.specs.Change.{is_media_error}
-use Rattle.fdp_ledger.specs.Told.{is_media_reply}
+use Rattle.fdp_loading.specs.fdp_ledger.Told.{is_media_reply}
 use Rattle.fdp_core.proofs.Called.{last-failed}
-use Rattle.fdp_ledger.proofs.Answered.{ledger-answered}
+use Rattle.fdp_loading.proofs.fdp_ledger.Answered.{ledger-answered}
 use Rattle.fdp_core.proofs.Ends.{may-follow, no-fetches, sound-ended}
 use Rattle.fdp_core.proofs.Commits.{may-succeed}
-use Rattle.fdp_survival.proofs.Steps.{owners-go}
+use Rattle.fdp_loading.proofs.fdp_survival.Steps.{owners-go}
 use Rattle.fdp_core.proofs.Refusals.{uncompleted}
-use Rattle.fdp_book.specs.declared.ticket.Done.{Done}
+use Rattle.fdp_relocation.specs.fdp_book.declared.ticket.Done.{Done}
 
 -- ---- the change was made
 

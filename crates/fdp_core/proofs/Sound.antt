@@ -6,23 +6,23 @@ use Rattle.fdp_base.specs.declared.config.Geometry.{Geometry}
 use Rattle.fdp_base.specs.declared.entry.Entry.{Entry}
 use Rattle.fdp_base.specs.declared.entry.Spot.{Spot}
 use Rattle.fdp_base.specs.Placement.{geometry_of}
-use Rattle.fdp_book.specs.Book.{BookSeen, IsLonger, point_in, state_in, written_in}
+use Rattle.fdp_relocation.specs.fdp_book.Book.{BookSeen, IsLonger, point_in, state_in, written_in}
 use Rattle.fdp_core.specs.Seen.{HasMoments, HoldsHistory, KeepsApart}
 use Rattle.fdp_core.specs.Sound.{IsSound}
 use Rattle.fdp_core.proofs.Pushed.{legal-one}
 use Rattle.fdp_flash.specs.declared.cell.Cell.{Cell}
 use Rattle.fdp_flash.specs.FlashState.{FlashState}
-use Rattle.fdp_isolation.proofs.Alike.{laned-alike}
-use Rattle.fdp_ledger.specs.declared.counts.Counts.{Counts}
-use Rattle.fdp_ledger.specs.Ledger.{IsLedger}
-use Rattle.fdp_ledger.specs.Told.{is_media_reply}
-use Rattle.fdp_ledger.proofs.Alike.{ledger-alike}
-use Rattle.fdp_locations.specs.Stored.{HoldsWritten}
-use Rattle.fdp_locations.specs.Written.{Written, written_after}
-use Rattle.fdp_pages.specs.Steps.{ChangesOwners}
+use Rattle.fdp_loading.proofs.fdp_isolation.Alike.{laned-alike}
+use Rattle.fdp_loading.specs.fdp_ledger.declared.counts.Counts.{Counts}
+use Rattle.fdp_loading.specs.fdp_ledger.Ledger.{IsLedger}
+use Rattle.fdp_loading.specs.fdp_ledger.Told.{is_media_reply}
+use Rattle.fdp_loading.proofs.fdp_ledger.Alike.{ledger-alike}
+use Rattle.fdp_relocation.specs.fdp_locations.Stored.{HoldsWritten}
+use Rattle.fdp_relocation.specs.fdp_locations.Written.{Written, written_after}
+use Rattle.fdp_relocation.specs.fdp_pages.Steps.{ChangesOwners}
 use Rattle.fdp_relocation.proofs.Moving.{blank-recounted}
 use Rattle.fdp_rules.specs.Step.{Follows}
-use Rattle.fdp_book.proofs.Longer.{written-one}
+use Rattle.fdp_relocation.proofs.fdp_book.Longer.{written-one}
 
 -- a step that has begun: it may add 300 entries, one of them that of a move
 abbrev pub begun : BookSeen → BookSeen

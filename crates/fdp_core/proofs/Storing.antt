@@ -6,17 +6,17 @@ use Rattle.std.proofs.lemmas.Option.{slice_get_within}
 use Rattle.fdp_base.specs.declared.config.Geometry.{Geometry}
 use Rattle.fdp_base.specs.declared.entry.Spot.{Spot}
 use Rattle.fdp_base.specs.Spare.{data_spare}
-use Rattle.fdp_collector.specs.Copying.{Holds, IsDataPage}
-use Rattle.fdp_collector.specs.Ready.{IsBlankBehind}
-use Rattle.fdp_collector.proofs.Kept.{changed-here, changed-other, unit-was}
+use Rattle.fdp_relocation.specs.fdp_collector.Copying.{Holds, IsDataPage}
+use Rattle.fdp_relocation.specs.fdp_collector.Ready.{IsBlankBehind}
+use Rattle.fdp_relocation.proofs.fdp_collector.Kept.{changed-here, changed-other, unit-was}
 use Rattle.fdp_flash.specs.declared.cell.Cell.{Cell}
 use Rattle.fdp_flash.specs.declared.cell.Cell.TheVariants.{Blank, Whole}
 use Rattle.fdp_flash.specs.Cells.{IsBlankFrom, ProgramMayLeave}
 use Rattle.fdp_flash.specs.Layout.{page_number}
 use Rattle.fdp_flash.proofs.Lists.{slice_get-set_other, slice_get-set_same}
 use Rattle.fdp_flash.proofs.Pages.{program_behind, program_other, program_other_unit}
-use Rattle.fdp_locations.specs.Stored.{HoldsWritten}
-use Rattle.fdp_locations.specs.Written.{Written, with_written}
+use Rattle.fdp_relocation.specs.fdp_locations.Stored.{HoldsWritten}
+use Rattle.fdp_relocation.specs.fdp_locations.Written.{Written, with_written}
 use Rattle.fdp_pointers.proofs.Copies.{same-spot}
 use Rattle.fdp_rules.specs.Sites.{is_spot}
 use Rattle.fdp_units.specs.declared.data_unit.DataUnit.{DataUnit}

@@ -12,15 +12,15 @@ use Rattle.fdp_base.specs.declared.status.TheConstants.Status as statuses
 use Rattle.fdp_base.specs.Config.{IsValidConfig}
 use Rattle.fdp_base.specs.declared.config.DriveConfig.{DriveConfig}
 use Rattle.fdp_base.specs.declared.entry.Totals.{Totals}
-use Rattle.fdp_book.specs.Book.{BookSeen, point_in}
-use Rattle.fdp_book.specs.Room.{RoomSeen, most_bytes, room_for}
+use Rattle.fdp_relocation.specs.fdp_book.Book.{BookSeen, point_in}
+use Rattle.fdp_relocation.specs.fdp_book.Room.{RoomSeen, most_bytes, room_for}
 use Rattle.fdp_history.specs.Orderly.{IsOrderly}
 use Rattle.fdp_image.specs.Checkpoint.{reading_of_state}
 use Rattle.fdp_image.specs.Reading.{Reading}
-use Rattle.fdp_keeper.specs.Keeper.{IsKeeperOf, KeeperSeen}
+use Rattle.fdp_relocation.specs.fdp_keeper.Keeper.{IsKeeperOf, KeeperSeen}
 use Rattle.fdp_log_pages.specs.Told.{CanTell, Tells, Told}
-use Rattle.fdp_outline.specs.Outline.{IsOutlineOf, IsWritable}
-use Rattle.fdp_readings.specs.Drawn.{drawn}
+use Rattle.fdp_relocation.specs.fdp_outline.Outline.{IsOutlineOf, IsWritable}
+use Rattle.fdp_relocation.specs.fdp_readings.Drawn.{drawn}
 use Rattle.fdp_rules.specs.History.{point_of, totals_of}
 use Rattle.fdp_rules.specs.LogPages.{log_page}
 use Rattle.fdp_rules.specs.Point.{Point}

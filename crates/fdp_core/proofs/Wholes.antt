@@ -5,10 +5,10 @@ use Rattle.std.specs.List.{count_by}
 use Rattle.fdp_base.specs.declared.command.Command.{Command}
 use Rattle.fdp_base.specs.declared.entry.Entry.{Entry}
 use Rattle.fdp_base.specs.declared.entry.Reply.{Reply}
-use Rattle.fdp_book.specs.declared.ticket.Done.{Done}
-use Rattle.fdp_book.specs.declared.ticket.Ticket.{Ticket}
-use Rattle.fdp_book.specs.Book.{BookSeen, IsLonger}
-use Rattle.fdp_book.specs.Steps as book
+use Rattle.fdp_relocation.specs.fdp_book.declared.ticket.Done.{Done}
+use Rattle.fdp_relocation.specs.fdp_book.declared.ticket.Ticket.{Ticket}
+use Rattle.fdp_relocation.specs.fdp_book.Book.{BookSeen, IsLonger}
+use Rattle.fdp_relocation.specs.fdp_book.Steps as book
 use Rattle.fdp_calls.specs.Media.{IsReadFrom}
 use Rattle.fdp_core.specs.Seen.{Seen}
 use Rattle.fdp_core.specs.Sound.{IsKept, IsWhole}
@@ -19,20 +19,20 @@ use Rattle.fdp_core.proofs.Kept.{kept-begun, kept-entry}
 use Rattle.fdp_core.proofs.Outlasting.{outlasts-all, outlasts-part}
 use Rattle.fdp_core.proofs.Rooms.{begun_seen}
 use Rattle.fdp_core.proofs.Sound.{begun, sound-begun}
-use Rattle.fdp_durability.specs.Firm.{completes}
+use Rattle.fdp_relocation.specs.fdp_durability.Firm.{completes}
 use Rattle.fdp_flash.specs.FlashState.{FlashState}
 use Rattle.fdp_flash.proofs.Runs.{no_run}
 use Rattle.fdp_image.specs.Kept.{StandsForBeginning, is_completed}
-use Rattle.fdp_keeper.specs.Keeper.{KeeperSeen}
-use Rattle.fdp_ledger.specs.declared.counts.Counts.{Counts}
-use Rattle.fdp_pages.specs.Steps.{ChangesOwners}
-use Rattle.fdp_survival.specs.Books.{IsInOrder, IsSafe, Survives}
-use Rattle.fdp_survival.proofs.Safe.{one-none}
-use Rattle.fdp_survival.proofs.Steps.{safe-answered, safe-fetched, safe-started, survives-fetched, survives-longer}
-use Rattle.fdp_ledger.specs.Ledger.{IsLedger}
+use Rattle.fdp_relocation.specs.fdp_keeper.Keeper.{KeeperSeen}
+use Rattle.fdp_loading.specs.fdp_ledger.declared.counts.Counts.{Counts}
+use Rattle.fdp_relocation.specs.fdp_pages.Steps.{ChangesOwners}
+use Rattle.fdp_loading.specs.fdp_survival.Books.{IsInOrder, IsSafe, Survives}
+use Rattle.fdp_loading.proofs.fdp_survival.Safe.{one-none}
+use Rattle.fdp_loading.proofs.fdp_survival.Steps.{safe-answered, safe-fetched, safe-started, survives-fetched, survives-longer}
+use Rattle.fdp_loading.specs.fdp_ledger.Ledger.{IsLedger}
 use Rattle.fdp_calls.proofs.Made.{counted_more-none}
-use Rattle.fdp_ledger.specs.Told.{is_media_reply}
-use Rattle.fdp_ledger.proofs.Counting.{more-mono}
+use Rattle.fdp_loading.specs.fdp_ledger.Told.{is_media_reply}
+use Rattle.fdp_loading.proofs.fdp_ledger.Counting.{more-mono}
 
 -- ---- a step that has begun
 

@@ -4,30 +4,30 @@ use Rattle.fdp_base.specs.declared.entry.Copied.{Copied}
 use Rattle.fdp_base.specs.declared.entry.Entry.{Entry}
 use Rattle.fdp_base.specs.declared.entry.Entry.TheVariants as entries
 use Rattle.fdp_base.specs.declared.entry.Spot.{Spot}
-use Rattle.fdp_book.specs.Book.{BookSeen, point_in, state_in}
-use Rattle.fdp_book.specs.Relocating.{told_by}
+use Rattle.fdp_relocation.specs.fdp_book.Book.{BookSeen, point_in, state_in}
+use Rattle.fdp_relocation.specs.fdp_book.Relocating.{told_by}
 use Rattle.fdp_calls.specs.Calls.{erase_at, fetch_at, program_at}
-use Rattle.fdp_collector.specs.declared.step.Lost.{Lost}
-use Rattle.fdp_collector.specs.declared.step.Step.TheVariants as steps
+use Rattle.fdp_relocation.specs.fdp_collector.declared.step.Lost.{Lost}
+use Rattle.fdp_relocation.specs.fdp_collector.declared.step.Step.TheVariants as steps
 use Rattle.fdp_core.specs.Passes.{Relocates}
 use Rattle.fdp_core.specs.Seen.{Seen}
 use Rattle.fdp_flash.specs.declared.answer.Wrote.{Wrote}
 use Rattle.fdp_flash.specs.declared.answer.Wrote.TheVariants as wrote
 use Rattle.fdp_flash.specs.FlashState.{Call, FlashState}
-use Rattle.fdp_journal.specs.JournalState.{JournalState}
-use Rattle.fdp_pages.specs.PageTables.{passes_at}
+use Rattle.fdp_relocation.specs.fdp_journal.JournalState.{JournalState}
+use Rattle.fdp_relocation.specs.fdp_pages.PageTables.{passes_at}
 use Rattle.fdp_passes.specs.declared.due.Due.{Due}
 use Rattle.fdp_passes.specs.declared.due.Due.TheVariants as due
 use Rattle.fdp_passes.specs.Due.{IsDue}
 use Rattle.fdp_relocation.specs.declared.advance.Advance.{Advance}
 use Rattle.fdp_relocation.specs.declared.advance.Advance.TheVariants as advance
 use Rattle.fdp_rules.specs.Sites.{moved_blocks}
-use Rattle.fdp_saving.specs.declared.saved.Saved.{Saved}
-use Rattle.fdp_saving.specs.declared.saved.Saved.TheVariants as savings
-use Rattle.fdp_saving.specs.Calls.{AreCallsOfCheckpoint, AreCallsOfSaving, FailAtEnd}
+use Rattle.fdp_relocation.specs.fdp_saving.declared.saved.Saved.{Saved}
+use Rattle.fdp_relocation.specs.fdp_saving.declared.saved.Saved.TheVariants as savings
+use Rattle.fdp_relocation.specs.fdp_saving.Calls.{AreCallsOfCheckpoint, AreCallsOfSaving, FailAtEnd}
 use Rattle.fdp_snapshot.specs.declared.state.Summary.{Summary}
-use Rattle.fdp_collector.specs.Step.{IsUncalled}
-use Rattle.fdp_ledger.specs.WornOut.{IsWornOut}
+use Rattle.fdp_relocation.specs.fdp_collector.Step.{IsUncalled}
+use Rattle.fdp_loading.specs.fdp_ledger.WornOut.{IsWornOut}
 use Rattle.fdp_units.specs.UnitTable.{HasNoFree}
 
 -- what is due in a group

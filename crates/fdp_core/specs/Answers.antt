@@ -11,13 +11,13 @@ use Rattle.fdp_base.specs.declared.entry.Spot.{Spot}
 use Rattle.fdp_base.specs.declared.status.Status.{Status}
 use Rattle.fdp_base.specs.declared.status.TheConstants.Status as statuses
 use Rattle.fdp_base.specs.CommandKinds.{blocks_written, is_saved, write_of}
-use Rattle.fdp_book.specs.declared.ticket.Done.{Done}
-use Rattle.fdp_book.specs.declared.ticket.Ticket.{Ticket}
-use Rattle.fdp_book.specs.Book.{point_in, position_in, state_in}
-use Rattle.fdp_book.specs.Commanded.{applied_reply}
-use Rattle.fdp_book.specs.Tickets.{IsNextSpot, IsTicketOf, WantsUnit}
+use Rattle.fdp_relocation.specs.fdp_book.declared.ticket.Done.{Done}
+use Rattle.fdp_relocation.specs.fdp_book.declared.ticket.Ticket.{Ticket}
+use Rattle.fdp_relocation.specs.fdp_book.Book.{point_in, position_in, state_in}
+use Rattle.fdp_relocation.specs.fdp_book.Commanded.{applied_reply}
+use Rattle.fdp_relocation.specs.fdp_book.Tickets.{IsNextSpot, IsTicketOf, WantsUnit}
 use Rattle.fdp_calls.specs.Calls.{has_failed, program_at}
-use Rattle.fdp_collector.specs.Step.{IsUncalled}
+use Rattle.fdp_relocation.specs.fdp_collector.Step.{IsUncalled}
 use Rattle.fdp_core.specs.declared.answer.Begun.{Begun}
 use Rattle.fdp_core.specs.declared.answer.Begun.TheVariants as begun
 use Rattle.fdp_core.specs.declared.answer.Placed.{Placed}
@@ -29,7 +29,7 @@ use Rattle.fdp_core.specs.Steps.{Adds, Completes, Matches}
 use Rattle.fdp_flash.specs.declared.answer.Wrote.{Wrote}
 use Rattle.fdp_flash.specs.declared.answer.Wrote.TheVariants as wrote
 use Rattle.fdp_flash.specs.FlashState.{Call, FlashState}
-use Rattle.fdp_ledger.specs.WornOut.{IsWornOut}
+use Rattle.fdp_loading.specs.fdp_ledger.WornOut.{IsWornOut}
 use Rattle.fdp_relocation.specs.declared.advance.Advance.{Advance}
 use Rattle.fdp_relocation.specs.declared.advance.Advance.TheVariants as advance
 use Rattle.fdp_relocation.specs.Entries.{AreRelocationIn}
@@ -42,9 +42,9 @@ use Rattle.fdp_rules.specs.Room.{roomiest}
 use Rattle.fdp_rules.specs.Sites.{is_there}
 use Rattle.fdp_rules.specs.Step.{MaySucceed, exceeds_budget, goes_to}
 use Rattle.fdp_rules.specs.Target.{Target}
-use Rattle.fdp_saving.specs.declared.saved.Saved.{Saved}
-use Rattle.fdp_saving.specs.declared.saved.Saved.TheVariants as savings
-use Rattle.fdp_saving.specs.Calls.{AreCallsOfCheckpoint, AreCallsOfSaving, FailAtEnd}
+use Rattle.fdp_relocation.specs.fdp_saving.declared.saved.Saved.{Saved}
+use Rattle.fdp_relocation.specs.fdp_saving.declared.saved.Saved.TheVariants as savings
+use Rattle.fdp_relocation.specs.fdp_saving.Calls.{AreCallsOfCheckpoint, AreCallsOfSaving, FailAtEnd}
 use Rattle.fdp_snapshot.specs.declared.state.Summary.{Summary}
 use Rattle.fdp_units.specs.UnitTable.{toil_of}
 use Rattle.fdp_core.specs.Advancing.{ComesTo}

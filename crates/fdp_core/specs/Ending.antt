@@ -1,15 +1,15 @@
 -- A going write that ends within a step.
 use Rattle.std.specs.Prelude.{◌≡◌, ◌+◌, ◌≤◌, false, IsTrue, [], count_by}
 use Rattle.fdp_base.specs.declared.status.Status.{Status}
-use Rattle.fdp_book.specs.declared.ticket.Done.{Done}
-use Rattle.fdp_book.specs.declared.ticket.Ticket.{Ticket}
-use Rattle.fdp_book.specs.Book.{point_in}
-use Rattle.fdp_book.specs.Steps as book
+use Rattle.fdp_relocation.specs.fdp_book.declared.ticket.Done.{Done}
+use Rattle.fdp_relocation.specs.fdp_book.declared.ticket.Ticket.{Ticket}
+use Rattle.fdp_relocation.specs.fdp_book.Book.{point_in}
+use Rattle.fdp_relocation.specs.fdp_book.Steps as book
 use Rattle.fdp_calls.specs.Calls.{counted_more}
 use Rattle.fdp_core.specs.Seen.{HasMoments, Seen}
 use Rattle.fdp_flash.specs.FlashState.{FlashState}
-use Rattle.fdp_ledger.specs.Told.{is_media_reply}
-use Rattle.fdp_pages.specs.Steps.{ChangesOwners}
+use Rattle.fdp_loading.specs.fdp_ledger.Told.{is_media_reply}
+use Rattle.fdp_relocation.specs.fdp_pages.Steps.{ChangesOwners}
 use Rattle.fdp_rules.specs.Answer.{bare}
 use Rattle.fdp_rules.specs.Change.{is_media_error}
 use Rattle.fdp_rules.specs.PlainState.{Going}

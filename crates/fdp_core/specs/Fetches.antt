@@ -6,7 +6,7 @@ use Rattle.fdp_base.specs.Numbers.{numbers_from}
 use Rattle.fdp_rules.specs.PlainState.{Block}
 use Rattle.fdp_flash.specs.FlashState.{Call, FlashState}
 use Rattle.fdp_base.specs.declared.command.Read.{Read}
-use Rattle.fdp_book.specs.Book.{BookSeen, point_in, state_in}
+use Rattle.fdp_relocation.specs.fdp_book.Book.{BookSeen, point_in, state_in}
 use Rattle.fdp_calls.specs.Calls.{MakesCalls, fetch_at}
 
 -- the page at which a block stands, if it is there

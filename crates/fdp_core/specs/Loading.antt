@@ -8,7 +8,7 @@ use Rattle.fdp_flash.specs.FlashState.{FlashState}
 use Rattle.fdp_flash.specs.Runs.{Runs}
 use Rattle.fdp_image.specs.Kept.{StandsForBeginning}
 use Rattle.fdp_image.specs.StandsFor.{StandsFor}
-use Rattle.fdp_ledger.specs.Counted.{counts_of}
+use Rattle.fdp_loading.specs.fdp_ledger.Counted.{counts_of}
 use Rattle.fdp_loading.specs.Refused as refused
 
 -- a drive was opened on a flash, or made there: its history goes on from what the image stood for, and nothing failed

@@ -3,20 +3,20 @@ use Rattle.std.specs.Prelude.{◌≡◌, ◌⊎◌, ℕ, ◌+◌, ◌-◌, ◌�
 use Rattle.std.specs.List.{list_any}
 use Rattle.fdp_base.specs.declared.entry.Entry.{Entry}
 use Rattle.fdp_base.specs.declared.entry.Entry.TheVariants as entries
-use Rattle.fdp_book.specs.Book.{BookSeen, state_in}
+use Rattle.fdp_relocation.specs.fdp_book.Book.{BookSeen, state_in}
 use Rattle.fdp_calls.specs.Calls.{has_failed}
-use Rattle.fdp_collector.specs.Step.{IsUncalled}
+use Rattle.fdp_relocation.specs.fdp_collector.Step.{IsUncalled}
 use Rattle.fdp_core.specs.declared.group.pass.PassEnd.{PassEnd}
 use Rattle.fdp_core.specs.declared.group.pass.PassEnd.TheVariants as ends
 use Rattle.fdp_core.specs.Seen.{Seen}
 use Rattle.fdp_core.specs.Steps.{Extends}
 use Rattle.fdp_flash.specs.FlashState.{Call, FlashState}
-use Rattle.fdp_ledger.specs.WornOut.{IsWornOut}
-use Rattle.fdp_pages.specs.PageTables.{copies_at, is_under_way, passes_at}
+use Rattle.fdp_loading.specs.fdp_ledger.WornOut.{IsWornOut}
+use Rattle.fdp_relocation.specs.fdp_pages.PageTables.{copies_at, is_under_way, passes_at}
 use Rattle.fdp_passes.specs.Due.{next_in}
 use Rattle.fdp_relocation.specs.Entries.{AreRelocationIn, KeepsState}
 use Rattle.fdp_relocation.specs.Toil.{wanted_at, work}
-use Rattle.fdp_saving.specs.Calls.{FailAtEnd}
+use Rattle.fdp_relocation.specs.fdp_saving.Calls.{FailAtEnd}
 use Rattle.fdp_units.specs.DataUnits.{is_free}
 use Rattle.fdp_units.specs.UnitTable.{HasNoVictim, count_in, toil_of}
 

@@ -5,9 +5,9 @@ use Rattle.fdp_rules.specs.Answer.{bare, read_block}
 use Rattle.fdp_base.specs.Numbers.{numbers_from}
 use Rattle.fdp_flash.specs.FlashState.{FlashState}
 use Rattle.fdp_base.specs.declared.command.Read.{Read}
-use Rattle.fdp_book.specs.declared.room.Replies.{Replies}
-use Rattle.fdp_book.specs.Book.{BookSeen, state_in}
-use Rattle.fdp_book.specs.Room.{IsTwice, read_reply}
+use Rattle.fdp_relocation.specs.fdp_book.declared.room.Replies.{Replies}
+use Rattle.fdp_relocation.specs.fdp_book.Book.{BookSeen, state_in}
+use Rattle.fdp_relocation.specs.fdp_book.Room.{IsTwice, read_reply}
 use Rattle.fdp_calls.specs.Media.{IsReadFrom}
 use Rattle.fdp_core.specs.Fetches.{MakesFetches}
 

@@ -2,14 +2,14 @@
 use Rattle.std.specs.Prelude.{◌≡◌, ◌+◌, ◌^◌, ◌<◌, IsTrue}
 use Rattle.std.specs.List.{list_any}
 use Rattle.fdp_base.specs.Placement.{geometry_of}
-use Rattle.fdp_book.specs.Book.{BookSeen, written_in}
+use Rattle.fdp_relocation.specs.fdp_book.Book.{BookSeen, written_in}
 use Rattle.fdp_flash.specs.FlashState.{FlashState}
-use Rattle.fdp_isolation.specs.Begun.{OpenedApart}
-use Rattle.fdp_keeper.specs.Keeper.{KeeperSeen}
-use Rattle.fdp_isolation.specs.Laned.{AreLaned, IsKnown}
-use Rattle.fdp_ledger.specs.declared.counts.Counts.{Counts}
-use Rattle.fdp_ledger.specs.Told.{is_media_reply}
-use Rattle.fdp_locations.specs.Stored.{HoldsWritten}
+use Rattle.fdp_loading.specs.fdp_isolation.Begun.{OpenedApart}
+use Rattle.fdp_relocation.specs.fdp_keeper.Keeper.{KeeperSeen}
+use Rattle.fdp_loading.specs.fdp_isolation.Laned.{AreLaned, IsKnown}
+use Rattle.fdp_loading.specs.fdp_ledger.declared.counts.Counts.{Counts}
+use Rattle.fdp_loading.specs.fdp_ledger.Told.{is_media_reply}
+use Rattle.fdp_relocation.specs.fdp_locations.Stored.{HoldsWritten}
 use Rattle.fdp_relocation.specs.Collected.{Stage}
 use Rattle.fdp_rules.specs.Legal.{IsLegal}
 

@@ -2,13 +2,13 @@
 use Rattle.std.specs.Prelude.{◌≡◌, ℕ, ◌+◌, ◌^◌, ◌≤◌, true, List, length}
 use Rattle.fdp_base.specs.Counts.{Rose}
 use Rattle.fdp_base.specs.Placement.{geometry_of}
-use Rattle.fdp_book.specs.Book.{BookSeen}
+use Rattle.fdp_relocation.specs.fdp_book.Book.{BookSeen}
 use Rattle.fdp_core.specs.Seen.{HoldsHistory, IsLegalOver, KeepsApart}
 use Rattle.fdp_flash.specs.FlashState.{FlashState}
-use Rattle.fdp_keeper.specs.Keeper.{IsKeeperOf, KeeperSeen}
-use Rattle.fdp_ledger.specs.declared.counts.Counts.{Counts}
-use Rattle.fdp_ledger.specs.Ledger.{IsLedger}
-use Rattle.fdp_survival.specs.Books.{IsSafe}
+use Rattle.fdp_relocation.specs.fdp_keeper.Keeper.{IsKeeperOf, KeeperSeen}
+use Rattle.fdp_loading.specs.fdp_ledger.declared.counts.Counts.{Counts}
+use Rattle.fdp_loading.specs.fdp_ledger.Ledger.{IsLedger}
+use Rattle.fdp_loading.specs.fdp_survival.Books.{IsSafe}
 
 -- the flash is cut as configured; the history is legal, and the flash holds it, keeps data apart, and has counted what it tells; there is a buffer for a block
 pub record IsSound (handed : Counts) (flash : FlashState) (b : BookSeen) (block : List ℕ) : Type 0 where

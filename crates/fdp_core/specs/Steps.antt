@@ -5,15 +5,15 @@ use Rattle.fdp_base.specs.declared.command.Command.{Command}
 use Rattle.fdp_base.specs.declared.entry.Entry.{Entry}
 use Rattle.fdp_base.specs.declared.entry.Entry.TheVariants as entries
 use Rattle.fdp_base.specs.CommandKinds.{IsWellFormed}
-use Rattle.fdp_book.specs.declared.ticket.Done.{Done}
-use Rattle.fdp_book.specs.Book.{BookSeen, IsLonger, position_in, state_in}
-use Rattle.fdp_book.specs.Room.{RoomSeen, room_for}
-use Rattle.fdp_book.specs.Stages.{IsFree}
+use Rattle.fdp_relocation.specs.fdp_book.declared.ticket.Done.{Done}
+use Rattle.fdp_relocation.specs.fdp_book.Book.{BookSeen, IsLonger, position_in, state_in}
+use Rattle.fdp_relocation.specs.fdp_book.Room.{RoomSeen, room_for}
+use Rattle.fdp_relocation.specs.fdp_book.Stages.{IsFree}
 use Rattle.fdp_calls.specs.Calls.{FailedAt, MakesCalls, counted_more, has_failed}
 use Rattle.fdp_core.specs.Seen.{Seen}
 use Rattle.fdp_flash.specs.FlashState.{Call, FlashState}
-use Rattle.fdp_ledger.specs.Emptied.{ErasedAreBlank, OnlyErasesEmpty}
-use Rattle.fdp_ledger.specs.Told.{tells_failure}
+use Rattle.fdp_loading.specs.fdp_ledger.Emptied.{ErasedAreBlank, OnlyErasesEmpty}
+use Rattle.fdp_loading.specs.fdp_ledger.Told.{tells_failure}
 use Rattle.fdp_rules.specs.Change.{is_media_error}
 use Rattle.fdp_rules.specs.Step.{IsQueue}
 use Rattle.fdp_rules.specs.Totals.{media_blocks}

@@ -1,9 +1,9 @@
 -- What a stop may leave of a group.
 use Rattle.std.specs.Prelude.{◌≤◌, All, IsFalse, List}
 use Rattle.fdp_base.specs.declared.entry.Entry.{Entry}
-use Rattle.fdp_book.specs.Book.{IsLonger}
+use Rattle.fdp_relocation.specs.fdp_book.Book.{IsLonger}
 use Rattle.fdp_core.specs.Seen.{Seen}
-use Rattle.fdp_durability.specs.Firm.{completes}
+use Rattle.fdp_relocation.specs.fdp_durability.Firm.{completes}
 use Rattle.fdp_flash.specs.FlashState.{FlashState}
 use Rattle.fdp_flash.specs.Runs.{Runs}
 use Rattle.fdp_image.specs.Kept.{AreFirm, IsStopSafe, StandsForBeginning}

@@ -1,4 +1,4 @@
-use fdp_book::{Done, Ticket};
+use fdp_relocation::{Done, Ticket};
 
 /// What the first step of a command came to.
 #[derive(Debug, PartialEq, Eq)]

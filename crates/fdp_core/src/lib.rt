@@ -8,6 +8,7 @@ mod laws;
 mod loaded;
 
 pub use answer::{Begun, Placed};
+pub use fdp_loading::{Done, OpenFault, Room, Stage, Ticket};
 pub use fdp_relocation::Advance;
 pub use group::Group;
 pub use laws::a_saving_is_one_call;

@@ -1,4 +1,4 @@
-use fdp_recovery::OpenFault;
+use fdp_relocation::OpenFault;
 
 /// A flash on which no drive was opened, and why.
 #[derive(Debug, Drop)]

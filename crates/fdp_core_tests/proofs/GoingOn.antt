@@ -4,14 +4,14 @@ use Rattle.fdp_rules.specs.PlainState.{Going}
 use Rattle.fdp_flash.specs.FlashState.{FlashState}
 use Rattle.fdp_core.specs.declared.answer.Placed.{Placed}
 use Rattle.fdp_core.specs.declared.answer.Placed.TheVariants as placed
-use Rattle.fdp_book.specs.declared.stage.Stage.{Stage}
-use Rattle.fdp_book.specs.declared.stage.Stage.TheVariants as stages
-use Rattle.fdp_book.specs.declared.ticket.Done.{Done}
-use Rattle.fdp_book.specs.declared.ticket.Ticket.{Ticket}
+use Rattle.fdp_core.specs.fdp_book.declared.stage.Stage.{Stage}
+use Rattle.fdp_core.specs.fdp_book.declared.stage.Stage.TheVariants as stages
+use Rattle.fdp_core.specs.fdp_book.declared.ticket.Done.{Done}
+use Rattle.fdp_core.specs.fdp_book.declared.ticket.Ticket.{Ticket}
 use Rattle.fdp_core.specs.Answers.{MakesRoom, Places, PlacesPage}
-use Rattle.fdp_book.specs.Book.{state_in}
+use Rattle.fdp_core.specs.fdp_book.Book.{state_in}
 use Rattle.fdp_core.specs.Seen.{Seen}
-use Rattle.fdp_book.specs.Tickets.{IsTicketOf}
+use Rattle.fdp_core.specs.fdp_book.Tickets.{IsTicketOf}
 use Rattle.fdp_core_tests.specs.Played.{CameToPlace, MayGoOn, Played, ended}
 
 ticket-same : (x y : Ticket) → Some x ≡ Some y → x ≡ y

@@ -8,15 +8,15 @@ use Rattle.fdp_rules.specs.Step.{IsQueue}
 use Rattle.fdp_flash.specs.FlashState.{FlashState}
 use Rattle.fdp_core.specs.declared.answer.Placed.{Placed}
 use Rattle.fdp_core.specs.declared.answer.Placed.TheVariants as placed
-use Rattle.fdp_book.specs.declared.stage.Stage.{Stage}
-use Rattle.fdp_book.specs.declared.ticket.Done.{Done}
-use Rattle.fdp_book.specs.declared.ticket.Ticket.{Ticket}
+use Rattle.fdp_core.specs.fdp_book.declared.stage.Stage.{Stage}
+use Rattle.fdp_core.specs.fdp_book.declared.ticket.Done.{Done}
+use Rattle.fdp_core.specs.fdp_book.declared.ticket.Ticket.{Ticket}
 use Rattle.fdp_core.specs.Answers.{Collects, Commits, EndsAtOnce, EndsInPlacing, MakesRoom, PlacesPage, Starts}
-use Rattle.fdp_book.specs.Book.{state_in}
+use Rattle.fdp_core.specs.fdp_book.Book.{state_in}
 use Rattle.fdp_core.specs.Seen.{Seen}
-use Rattle.fdp_book.specs.Stages.{IsStage}
-use Rattle.fdp_book.specs.Stages.{IsFree}
-use Rattle.fdp_relocation.specs.declared.advance.Advance.{Advance}
+use Rattle.fdp_core.specs.fdp_book.Stages.{IsStage}
+use Rattle.fdp_core.specs.fdp_book.Stages.{IsFree}
+use Rattle.fdp_core.specs.fdp_relocation.declared.advance.Advance.{Advance}
 use Rattle.fdp_core_tests.specs.declared.noted.Noted.{Noted}
 
 -- a drive, by queue the write that was started last, and the number of the next command

@@ -1,6 +1,6 @@
 ghost use Rattle.std.specs.Prelude.{◌≡◌};
 
-use fdp_book::Ticket;
+use fdp_core::Ticket;
 
 /// The number and the position of a write that was started. A ticket cannot be let go of, and these can, so that a player may be
 /// dropped at any time.

@@ -1,17 +1,16 @@
 ghost use Rattle.std.specs.Prelude.{◌≡◌, ◌<◌, ◌≤◌, None, IfOk, Ok, OnErr, OnOk};
 ghost use Rattle.fdp_rules.specs.PlainState.{Going};
-ghost use Rattle.fdp_book.specs.Book.{state_in};
+ghost use Rattle.fdp_core.specs.fdp_book.Book.{state_in};
 ghost use Rattle.fdp_core.specs.Steps.{MayBegin};
-ghost use Rattle.fdp_book.specs.Tickets.{IsTicketOf};
-ghost use Rattle.fdp_book.specs.declared.stage.Stage.TheVariants as stages;
-ghost use Rattle.fdp_book.specs.declared.ticket.Ticket.{Ticket as ATicket};
+ghost use Rattle.fdp_core.specs.fdp_book.Tickets.{IsTicketOf};
+ghost use Rattle.fdp_core.specs.fdp_book.declared.stage.Stage.TheVariants as stages;
+ghost use Rattle.fdp_core.specs.fdp_book.declared.ticket.Ticket.{Ticket as ATicket};
 ghost use Rattle.fdp_core_tests.specs.Played.{CameToBegin, CameToCollect, CameToCommit, CameToPlace, IsTicketFor, MayCollect, MayGoOn, MayPlay, ended, ticket_in, with_spare};
 
 use crate::formed::{has_spare, may_play};
 use crate::noted::Noted;
 use fdp_base::{Command, Entry, MOST_STEPS};
-use fdp_book::{Done, Room, Stage, Ticket};
-use fdp_core::{Advance, Begun, Group, Placed};
+use fdp_core::{Advance, Begun, Done, Group, Placed, Room, Stage, Ticket};
 use fdp_flash::Flash;
 use std::alloc::{AllocError, Global};
 use std::marker::Model;

@@ -32,7 +32,7 @@ use Rattle.fdp_crews.specs.declared.worker.Worker.{Worker}
 use Rattle.fdp_crews.proofs.Lists.{all-both, found-at, number-in}
 use Rattle.fdp_crews.specs.Crews.{HasServedFor, HasSwept, LeavesSome, trace_of}
 use Rattle.fdp_crews.specs.Leaving.{IsSomeNotWhole}
-use Rattle.fdp_crews.specs.Shifts.{EndsAs, HasTrace, IsShift}
+use Rattle.fdp_crews.specs.Shifts.{EndsAs, HasLeft, HasTrace, IsShift}
 
 -- ---- a queue of which the record has nothing
 
@@ -92,6 +92,14 @@ record HasDone (run : Run) (traces : List (List Command)) (es : List Entry) (que
   pub serves : Serves run queue (trace_of traces queue) receipts es
   pub whole : end ≡ ends.Whole → ServesWhole run queue (trace_of traces queue) es
   pub left : end ≢ ends.Whole → LeavesSome queue (trace_of traces queue) es
+
+-- ---- ends that are not whole
+
+turns-open : ends.Turns ≢ ends.Whole
+turns-open same = absurd cc
+
+memory-open : ends.NoMemory ≢ ends.Whole
+memory-open same = absurd cc
 
 -- ---- seats that came back
 
@@ -190,7 +198,8 @@ module _ {S O I : Type 0} {g : _} (origin : S → O) (entries : S → List I) (r
     pub whole : hosts ≡ ends.Whole → All (λ w. w.end ≡ ends.Whole) ws
     pub left : hosts ≢ ends.Whole → IsSomeNotWhole (map (λ w. w.end) ws)
     pub end_whole : end ≡ ends.Whole → hosts ≡ ends.Whole
-    pub end_spent : end ≡ ends.Turns → (hosts ≢ ends.Whole) × (spent ≡ 2 ^ 30)
+    pub end_left : end ≢ ends.Whole → hosts ≢ ends.Whole
+    pub end_spent : end ≡ ends.Turns → spent ≡ 2 ^ 30
 
   pub shift-made : (traces : List (List Command)) (head : Seat S O I g) (ws : List (Worker S O I g)) (ss : List (Sweeper S O I g)) (value : S) (hosts end : End) (spent : ℕ) → AreBack traces head ws ss value → Ended ws hosts end spent →
       IsShift (run_of origin run lock) traces (map (λ w. w.receipts.items) ws) (map entry (entries value)) spent end
@@ -224,19 +233,21 @@ module _ {S O I : Type 0} {g : _} (origin : S → O) (entries : S → List I) (r
     once queue number low (inl high) = (nothing-there r entry mark queue [] (entries value) (others-carry traces head ws ss value b queue high) b.history).once number
     once queue number low (inr most) = (done queue (record { least = omega (arith, low); most = most })).serves.once number
 
-    ended : (x : End) → end ≡ x → EndsAs r traces (map (λ w. w.receipts.items) ws) es spent x
-    ended ends.Whole is =
-        ((λ queue has. (done queue has).whole (sym (host-of traces head ws ss value b queue has).end_is ∙ whole-at ws (queue - 1) (e.whole (e.end_whole is)))), length-map ws (λ w. w.receipts.items) ∙ b.sized)
-    ended ends.Turns is =
-        let s = e.end_spent is in
-        let one = e.left s.0 in
+    has-left : end ≢ ends.Whole → HasLeft traces es
+    has-left unfinished =
+        let one = e.left (e.end_left unfinished) in
         let n : one.at < length traces = omega (arith, one.low, length-map ws (λ (w : Worker S O I g). w.end), b.sized) in
         let has : HasTrace traces (one.at + 1) = record { least = omega arith; most = omega (arith, n) } in
         let h = host-of traces head ws ss value b (one.at + 1) has in
         let place : one.at + 1 - 1 ≡ one.at = omega arith in
         let not : h.host.end ≢ ends.Whole = λ same. one.not_whole ends.Whole (end-at ws one.at ends.Whole one.low ∙ ap (λ (k : ℕ). get_or (map (λ w. w.end) ws) k ends.Whole) (sym place) ∙ h.end_is ∙ same) in
-        (record { queue = one.at + 1; is_queue = has; left = (done (one.at + 1) has).left not }, s.1)
-    ended ends.NoMemory is = tt
+        record { queue = one.at + 1; is_queue = has; left = (done (one.at + 1) has).left not }
+
+    ended : (x : End) → end ≡ x → EndsAs r traces (map (λ w. w.receipts.items) ws) es spent x
+    ended ends.Whole is =
+        ((λ queue has. (done queue has).whole (sym (host-of traces head ws ss value b queue has).end_is ∙ whole-at ws (queue - 1) (e.whole (e.end_whole is)))), length-map ws (λ w. w.receipts.items) ∙ b.sized)
+    ended ends.Turns is = (has-left (λ whole. turns-open (sym is ∙ whole)), e.end_spent is)
+    ended ends.NoMemory is = inl (has-left (λ whole. memory-open (sym is ∙ whole)))
 
 -- ---- a session that did not begin
 
@@ -246,7 +257,7 @@ shift-rest run entry mark traces items spent unmarked history = record {
   once = λ queue number low. (served queue low).once number;
   others = λ queue high. let low : queue ≢ 0 = λ zero. absurd (omega (arith, zero, high)) in nothing-silent run queue (trace_of traces queue) (map entry items) low (there queue low);
   receipts_are = record { count = inr refl; each = λ i low. absurd (omega (arith, low)) };
-  ended = tt;
+  ended = inr (record { no_receipts = refl; silent = λ queue low. nothing-silent run queue (trace_of traces queue) (map entry items) low (there queue low) });
 } where
   there : (queue : ℕ) → queue ≢ 0 → Has run queue (so_far (trace_of traces queue) 0 []) (map entry items)
   there queue low = nothing-there run entry mark queue (trace_of traces queue) items (carrying-none mark queue items unmarked low) history

@@ -1,5 +1,5 @@
 -- What the crews of a drive have done once its lock has ended.
-use Rattle.std.specs.Prelude.{◌≡◌, ◌≢◌, ◌⊎◌, ℕ, ◌+◌, ◌^◌, ◌<◌, ◌≤◌, List, [], get_or, length, ⊤}
+use Rattle.std.specs.Prelude.{◌≡◌, ◌≢◌, ◌⊎◌, ℕ, ◌+◌, ◌^◌, ◌<◌, ◌≤◌, List, [], get_or, length}
 use Rattle.fdp_base.specs.declared.command.Command.{Command}
 use Rattle.fdp_base.specs.declared.entry.Entry.{Entry}
 use Rattle.fdp_rules.specs.History.{Found}
@@ -27,11 +27,16 @@ pub record AreReceipts (f : Found) (traces : List (List Command)) (receipts : Li
   pub count : (length receipts ≡ length traces) ⊎ (receipts ≡ [])
   pub each : (i : ℕ) → i < length receipts → get_or receipts i [] ≡ receipts_of f (i + 1) es
 
--- each trace is whole, and its receipts are there; or one is not whole, and the drive has made all the steps that it may make; of want of memory nothing more is said
+-- no queue has begun a command, and there are no receipts
+pub record IsUnserved (receipts : List (List Receipt)) (es : List Entry) : Type 0 where
+  pub no_receipts : receipts ≡ []
+  pub silent : (queue : ℕ) → queue ≢ 0 → IsSilent queue es
+
+-- each trace is whole, and its receipts are there; or one is not whole, and the drive has made all the steps that it may make; or one is not whole for want of memory, or memory was wanting before any was begun
 abbrev pub EndsAs : Run → List (List Command) → List (List Receipt) → List Entry → ℕ → End → Type 0
 EndsAs run traces receipts es spent ends.Whole = ((queue : ℕ) → HasTrace traces queue → ServesWhole run queue (trace_of traces queue) es) × (length receipts ≡ length traces)
 EndsAs run traces receipts es spent ends.Turns = HasLeft traces es × (spent ≡ 2 ^ 30)
-EndsAs run traces receipts es spent ends.NoMemory = ⊤
+EndsAs run traces receipts es spent ends.NoMemory = HasLeft traces es ⊎ IsUnserved receipts es
 
 -- A history in which crews served these traces: each queue has completed a beginning of its trace, in order, each command once, and started none
 -- twice; every other queue is silent.

@@ -9,4 +9,5 @@ mod shift;
 mod sweeper;
 mod worker;
 
+pub use fdp_workers::{End, Group, Receipt};
 pub use shift::{Shift, serve_traces};

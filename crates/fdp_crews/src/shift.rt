@@ -157,7 +157,8 @@ fn serve_on<V: Steps + Send, G: Gate + Sync, R: Threads + Wait + Sync>(
 /// How a session ends whose hosts ended so: for want of steps only where the drive has made all that it may make.
 fn end_of<V: Steps>(value: &V, hosts: End) -> End
     ensures whole { result ≡ ends.Whole → hosts ≡ ends.Whole }
-    ensures spent { result ≡ ends.Turns → (hosts ≢ ends.Whole) × (V.spent value.now ≡ 2 ^ 30) }
+    ensures left { result ≢ ends.Whole → hosts ≢ ends.Whole }
+    ensures spent { result ≡ ends.Turns → V.spent value.now ≡ 2 ^ 30 }
 {
     match hosts {
         End::Whole => End::Whole,

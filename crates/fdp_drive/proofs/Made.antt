@@ -15,20 +15,20 @@ use Rattle.fdp_board.specs.Board.{AreCharged, Began, BoardSeen, IsJustOpened, Is
 use Rattle.fdp_board.proofs.Charging.{first-charged}
 use Rattle.fdp_board.proofs.Items.{entries-marked}
 use Rattle.fdp_crews.specs.Crews.{trace_of}
-use Rattle.fdp_crews.specs.Shifts.{HasTrace, IsShift}
-use Rattle.fdp_core.specs.Seen.{Seen}
+use Rattle.fdp_crews.specs.Shifts.{HasLeft as LeavesOne, HasTrace, IsShift}
+use Rattle.fdp_crews.specs.fdp_core.Seen.{Seen}
 use Rattle.fdp_flash.specs.FlashState.{FlashState}
 use Rattle.fdp_rules.specs.History.{Found}
 use Rattle.fdp_rules.specs.Seats.{mark_of}
 use Rattle.fdp_rules.specs.Queue.{HoldsWhole, IsSilent, KeepsQueueOrder, numbered, starting_queue}
 use Rattle.fdp_rules.specs.Step.{IsQueue}
-use Rattle.fdp_workers.specs.declared.ends.End.{End}
-use Rattle.fdp_workers.specs.declared.ends.End.TheVariants as ends
-use Rattle.fdp_workers.specs.declared.receipt.Receipt.{Receipt}
-use Rattle.fdp_workers.specs.Marks.{entry_in, mark_in, marked_after}
-use Rattle.fdp_workers.specs.Queues.{receipts_of, times_started}
-use Rattle.fdp_workers.specs.Run.{Run}
-use Rattle.fdp_drive.specs.Session.{EndsAs, IsSameDrive, IsSession}
+use Rattle.fdp_crews.specs.fdp_workers.declared.ends.End.{End}
+use Rattle.fdp_crews.specs.fdp_workers.declared.ends.End.TheVariants as ends
+use Rattle.fdp_crews.specs.fdp_workers.declared.receipt.Receipt.{Receipt}
+use Rattle.fdp_crews.specs.fdp_workers.Marks.{entry_in, mark_in, marked_after}
+use Rattle.fdp_crews.specs.fdp_workers.Queues.{receipts_of, times_started}
+use Rattle.fdp_crews.specs.fdp_workers.Run.{Run}
+use Rattle.fdp_drive.specs.Session.{EndsAs, HasLeft, IsSameDrive, IsSession}
 
 -- ---- queues without a trace
 
@@ -72,13 +72,17 @@ module _ (run : Run) (traces : List (List Command)) (receipts : List (List Recei
     | inr most ↦ whole queue (record { least = is.0; most = most })
   ]
 
+left-in : {F : Type 0} (s : Seen F) (traces : List (List Command)) → length traces ≤ s.book.config.queues → LeavesOne traces s.book.entries → HasLeft s.book.config traces s.book.entries
+left-in s traces few l = record { queue = l.queue; is_queue = (l.is_queue.least, omega (arith, l.is_queue.most, few)); left = l.left }
+
 ended-as : {F : Type 0} (s : Seen F) (run : Run) (traces : List (List Command)) (receipts : List (List Receipt)) (end : End) → length traces ≤ s.book.config.queues → IsShift run traces receipts s.book.entries s.book.spent end → EndsAs s.book traces receipts end
 ended-as s run traces receipts ends.Whole few shift =
     ((λ queue is. queue-whole run traces receipts s.book.entries s.book.spent ends.Whole shift s.book.config queue is (λ q has. (shift.ended.0 q has).whole)), shift.ended.1)
-ended-as s run traces receipts ends.Turns few shift =
-    let l = shift.ended.0 in
-    (record { queue = l.queue; is_queue = (l.is_queue.least, omega (arith, l.is_queue.most, few)); left = l.left }, shift.ended.1)
-ended-as s run traces receipts ends.NoMemory few shift = tt
+ended-as s run traces receipts ends.Turns few shift = (left-in s traces few shift.ended.0, shift.ended.1)
+ended-as s run traces receipts ends.NoMemory few shift = elim shift.ended [
+  | inl left ↦ inl (left-in s traces few left)
+  | inr none ↦ inr none
+]
 
 pub session-made : {F : Type 0} (state : F → FlashState) (old new : BoardSeen F) (traces : List (List Command)) (receipts : List (List Receipt)) (end : End) → length traces ≤ old.group.book.config.queues → began_with state new ≡ began_with state old → IsPrefix (items_of old.group) (items_of new.group) →
     IsShift (began_with state old).run traces receipts (map entry_in (items_of new.group)) new.group.book.spent end → IsSafeSince new.group.handed.moment (state new.group.flash) new.group.book.config new.group.book.found new.group.book.entries →
@@ -119,7 +123,7 @@ session-unserved state s traces opened = record {
   once = λ queue number low. first-once queue number s.book.entries opened.entries_are;
   others = λ queue high. silent queue (λ zero. absurd (omega (arith, zero, high)));
   receipts_are = record { count = inr refl; each = λ i low. absurd (omega (arith, low)) };
-  ended = tt;
+  ended = inr (record { no_receipts = refl; silent = silent });
   safe = opened.safe;
   charged = first-charged (state s.flash) s.handed.moment s.book.entries opened.entries_are;
   unfailing = opened.unfailing;

@@ -1,21 +1,21 @@
 -- What a session of several traces does to the history of a drive.
-use Rattle.std.specs.Prelude.{◌≡◌, ◌≢◌, ℕ, ◌^◌, ◌<◌, ◌≤◌, List, length, ⊤}
+use Rattle.std.specs.Prelude.{◌≡◌, ◌≢◌, ℕ, ◌^◌, ◌<◌, ◌≤◌, ◌⊎◌, List, length}
 use mathlib.Core.List.{IsPrefix}
 use Rattle.fdp_base.specs.declared.command.Command.{Command}
 use Rattle.fdp_base.specs.declared.config.DriveConfig.{DriveConfig}
 use Rattle.fdp_base.specs.declared.entry.Entry.{Entry}
 use Rattle.fdp_board.specs.Board.{AreCharged, IsSafeSince, IsUnfailing}
-use Rattle.fdp_book.specs.Book.{BookSeen}
-use Rattle.fdp_core.specs.Seen.{Seen}
+use Rattle.fdp_crews.specs.fdp_book.Book.{BookSeen}
+use Rattle.fdp_crews.specs.fdp_core.Seen.{Seen}
 use Rattle.fdp_crews.specs.Crews.{trace_of}
-use Rattle.fdp_crews.specs.Shifts.{AreReceipts}
+use Rattle.fdp_crews.specs.Shifts.{AreReceipts, IsUnserved}
 use Rattle.fdp_flash.specs.FlashState.{FlashState}
 use Rattle.fdp_rules.specs.Queue.{HoldsWhole, IsSilent, KeepsQueueOrder}
 use Rattle.fdp_rules.specs.Step.{IsQueue}
-use Rattle.fdp_workers.specs.declared.ends.End.{End}
-use Rattle.fdp_workers.specs.declared.ends.End.TheVariants as ends
-use Rattle.fdp_workers.specs.declared.receipt.Receipt.{Receipt}
-use Rattle.fdp_workers.specs.Queues.{times_started}
+use Rattle.fdp_crews.specs.fdp_workers.declared.ends.End.{End}
+use Rattle.fdp_crews.specs.fdp_workers.declared.ends.End.TheVariants as ends
+use Rattle.fdp_crews.specs.fdp_workers.declared.receipt.Receipt.{Receipt}
+use Rattle.fdp_crews.specs.fdp_workers.Queues.{times_started}
 
 -- ---- what each queue gets
 
@@ -43,11 +43,11 @@ pub record HasLeft (c : DriveConfig) (traces : List (List Command)) (es : List E
 
 -- ---- the end
 
--- each trace is whole, and its receipts are there; or one is not, since no further step may be made. Of want of memory nothing more is said
+-- each trace is whole, and its receipts are there; or one is not, since no further step may be made; or one is not for want of memory, or memory was wanting before any was begun
 abbrev pub EndsAs : BookSeen → List (List Command) → List (List Receipt) → End → Type 0
 EndsAs b traces receipts ends.Whole = HoldsTraces b.config traces b.entries × (length receipts ≡ length traces)
 EndsAs b traces receipts ends.Turns = HasLeft b.config traces b.entries × (b.spent ≡ 2 ^ 30)
-EndsAs b traces receipts ends.NoMemory = ⊤
+EndsAs b traces receipts ends.NoMemory = HasLeft b.config traces b.entries ⊎ IsUnserved receipts b.entries
 
 -- the drive is the same one, over the same flash, and began with the same
 pub record IsSameDrive {F : Type 0} (state : F → FlashState) (old new : Seen F) : Type 0 where

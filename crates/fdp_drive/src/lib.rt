@@ -3,5 +3,6 @@
 
 mod session;
 
-pub use fdp_workers::{End, Receipt};
+pub use fdp_board::{Group, NotLoaded, OpenFault};
+pub use fdp_crews::{End, Receipt};
 pub use session::{SessionEnd, run_session};

@@ -3,16 +3,14 @@ ghost use Rattle.fdp_board.specs.Board.{IsJustOpened};
 ghost use Rattle.fdp_crews.specs.Crews.{IsTrace};
 ghost use Rattle.fdp_drive.specs.Session.{IsSession};
 ghost use Rattle.fdp_gauge.specs.Passes.{IsPassOf, IsTellerOf};
-ghost use Rattle.fdp_workers.specs.declared.ends.End.TheVariants as ends;
+ghost use Rattle.fdp_crews.specs.fdp_workers.declared.ends.End.TheVariants as ends;
 
 use fdp_base::Command;
 use fdp_board::Board;
-use fdp_core::Group;
-use fdp_crews::{Shift, serve_traces};
+use fdp_crews::{End, Group, Receipt, Shift, serve_traces};
 use fdp_flash::Flash;
 use fdp_gauge::{Gauge, Pass, Teller};
 use fdp_io::Gate;
-use fdp_workers::{End, Receipt};
 use std::alloc::Global;
 use std::sync::Wait;
 use std::thread::Threads;

@@ -7,7 +7,7 @@ use Rattle.fdp_base.specs.declared.entry.Entry.{Entry}
 use Rattle.fdp_base.specs.declared.entry.Spot.{Spot}
 use Rattle.fdp_base.specs.Geometry.{data_units}
 use Rattle.fdp_base.specs.Placement.{geometry_of}
-use Rattle.fdp_collector.specs.Copying.{IsDataPage}
+use Rattle.fdp_readings.specs.fdp_collector.Copying.{IsDataPage}
 use Rattle.fdp_durability.specs.Beginnings.{NamesUsed}
 use Rattle.fdp_durability.specs.Durable.{IsDurable, KeepsUsed, UnitsMoveOn}
 use Rattle.fdp_durability.proofs.Beginnings.{says-grown, says-in, says-less, says-stands}
@@ -20,7 +20,7 @@ use Rattle.fdp_history.specs.Standing.{IsStanding}
 use Rattle.fdp_image.specs.Areas.{data_pages}
 use Rattle.fdp_image.specs.Kept.{StandsForBeginning}
 use Rattle.fdp_image.specs.Reading.{Reading}
-use Rattle.fdp_journal.specs.JournalState.{JournalState}
+use Rattle.fdp_saving.specs.fdp_journal.JournalState.{JournalState}
 use Rattle.fdp_pointers.specs.Contents.{leaves_pages}
 use Rattle.fdp_readings.specs.Drawn.{drawn}
 use Rattle.fdp_readings.specs.Lasting.{leaves_nothing}

@@ -15,7 +15,7 @@ use Rattle.fdp_image.specs.Applied.{applied}
 use Rattle.fdp_image.specs.Checkpoint.{reading_of_state}
 use Rattle.fdp_image.specs.Reading.{Reading}
 use Rattle.fdp_image.specs.Saving.{SameDataPages}
-use Rattle.fdp_journal.specs.JournalState.{JournalState}
+use Rattle.fdp_saving.specs.fdp_journal.JournalState.{JournalState}
 use Rattle.fdp_readings.specs.Changes.{Saves}
 use Rattle.fdp_readings.specs.Drawn.{drawn}
 use Rattle.fdp_readings.proofs.Saving.{forgets}

@@ -19,7 +19,7 @@ use Rattle.fdp_flash.proofs.Held.{holds_weakened}
 use Rattle.fdp_image.specs.Checkpoint.{reading_of_state}
 use Rattle.fdp_image.specs.Kept.{AreFirm, IsStopSafe, StandsForBeginning, is_owed}
 use Rattle.fdp_image.specs.Reading.{Reading}
-use Rattle.fdp_journal.specs.JournalState.{JournalState}
+use Rattle.fdp_saving.specs.fdp_journal.JournalState.{JournalState}
 use Rattle.fdp_readings.specs.Drawn.{drawn}
 use Rattle.fdp_rules.specs.History.{Found, point_of}
 use Rattle.fdp_rules.specs.Next.{totals_with}

@@ -4,11 +4,11 @@ use Rattle.fdp_base.specs.declared.config.DriveConfig.{DriveConfig}
 use Rattle.fdp_base.specs.declared.entry.Entry.{Entry}
 use Rattle.fdp_base.specs.Geometry.{data_units}
 use Rattle.fdp_base.specs.Placement.{geometry_of}
-use Rattle.fdp_collector.specs.Leaving.{StepMayLeave}
+use Rattle.fdp_readings.specs.fdp_collector.Leaving.{StepMayLeave}
 use Rattle.fdp_durability.specs.Durable.{IsDurable}
 use Rattle.fdp_durability.proofs.Durable.{durable-erase, durable-program}
 use Rattle.fdp_flash.specs.declared.cell.Cell.{Cell}
-use Rattle.fdp_journal.specs.JournalState.{JournalState}
+use Rattle.fdp_saving.specs.fdp_journal.JournalState.{JournalState}
 use Rattle.fdp_owners.specs.OwnerTable.{OwnerTable}
 use Rattle.fdp_passes.specs.Due.{HasNoLive}
 use Rattle.fdp_readings.specs.Drawn.{drawn}

@@ -6,7 +6,7 @@ use Rattle.fdp_base.specs.Placement.{geometry_of}
 use Rattle.fdp_flash.specs.declared.cell.Cell.{Cell}
 use Rattle.fdp_image.specs.Areas.{data_pages}
 use Rattle.fdp_image.specs.Reading.{Reading}
-use Rattle.fdp_journal.specs.JournalState.{JournalState}
+use Rattle.fdp_saving.specs.fdp_journal.JournalState.{JournalState}
 use Rattle.fdp_readings.specs.Drawn.{drawn}
 use Rattle.fdp_readings.specs.Named.{NamesNone}
 use Rattle.fdp_rules.specs.History.{Found, point_of}

@@ -9,7 +9,7 @@ ghost use Rattle.fdp_flash.specs.declared.cell.Cell.{Cell};
 ghost use Rattle.fdp_image.specs.Checkpoint.{reading_of_state};
 ghost use Rattle.fdp_image.specs.Kept.{StandsForBeginning};
 ghost use Rattle.fdp_image.specs.Saving.{SameDataPages};
-ghost use Rattle.fdp_journal.specs.JournalState.{JournalState};
+ghost use Rattle.fdp_saving.specs.fdp_journal.JournalState.{JournalState};
 ghost use Rattle.fdp_readings.specs.Changes.{Saves};
 ghost use Rattle.fdp_readings.specs.Drawn.{drawn};
 ghost use Rattle.fdp_records.specs.declared.change.Change.{Change};

@@ -4,7 +4,7 @@ ghost use Rattle.fdp_base.specs.declared.entry.Entry.{Entry};
 ghost use Rattle.fdp_durability.specs.Durable.{IsDurable};
 ghost use Rattle.fdp_flash.specs.declared.cell.Cell.{Cell};
 ghost use Rattle.fdp_image.specs.Kept.{StandsForBeginning};
-ghost use Rattle.fdp_journal.specs.JournalState.{JournalState};
+ghost use Rattle.fdp_saving.specs.fdp_journal.JournalState.{JournalState};
 ghost use Rattle.fdp_rules.specs.History.{Found};
 ghost use Rattle.fdp_units.specs.UnitTable.{UnitTable};
 

@@ -13,6 +13,3 @@ pub use fault::{Fault, push_fault};
 pub use image::ImageFault;
 pub use no_trace::NoTrace;
 pub use reading::{Wanted, find};
-
-#[cfg(test)]
-mod tests;

@@ -10,7 +10,7 @@ use Rattle.fdp_base.specs.declared.spare.DataSpare.{DataSpare}
 use Rattle.fdp_base.specs.Config.{IsValidConfig}
 use Rattle.fdp_base.specs.Placement.{geometry_of}
 use Rattle.fdp_base.specs.Spare.{data_spare}
-use Rattle.fdp_collector.specs.Copying.{IsDataPage}
+use Rattle.fdp_locations.specs.fdp_collector.Copying.{IsDataPage}
 use Rattle.fdp_flash.specs.declared.cell.Cell.{Cell}
 use Rattle.fdp_flash.specs.declared.cell.Cell.TheVariants.{Blank, Torn, Whole}
 use Rattle.fdp_flash.specs.FlashState.{FlashState}
@@ -30,15 +30,15 @@ use Rattle.fdp_opening.specs.Found.{AreFound, IsFoundIn, said_at, said_in}
 use Rattle.fdp_owners.specs.declared.owner.Holder.TheVariants.{Block}
 use Rattle.fdp_owners.specs.declared.owner.Owner.{Owner}
 use Rattle.fdp_owners.specs.OwnerTable.{owner_at}
-use Rattle.fdp_pages.specs.Joined.{AreJoined}
-use Rattle.fdp_pages.specs.PageTables.{PageTables, no_passes, no_targets}
+use Rattle.fdp_locations.specs.fdp_pages.Joined.{AreJoined}
+use Rattle.fdp_locations.specs.fdp_pages.PageTables.{PageTables, no_passes, no_targets}
 use Rattle.fdp_passes.specs.declared.lane.Lane.{Lane}
 use Rattle.fdp_passes.specs.GroupPasses.{GroupPasses, slot_of, target_at}
 use Rattle.fdp_records.specs.Spares.{said_by_data}
-use Rattle.fdp_recovery.proofs.Valid.{valid-of}
-use Rattle.fdp_recovery.specs.Blocks.{AreKept, StandApart, holds, names_block}
+use Rattle.fdp_opening.proofs.fdp_recovery.Valid.{valid-of}
+use Rattle.fdp_opening.specs.fdp_recovery.Blocks.{AreKept, StandApart, holds, names_block}
 use Rattle.fdp_rules.specs.Step.{IsDataUnit}
-use Rattle.fdp_state.specs.Good.{IsGood}
+use Rattle.fdp_opening.specs.fdp_state.Good.{IsGood}
 use Rattle.fdp_units.specs.declared.state.UnitState.TheVariants.{Closed, Free}
 use Rattle.fdp_units.specs.UnitTable.{Cut, UnitTable, state_at, unit_at}
 

@@ -1,3 +1,10 @@
+-- passed on to the crates above
+pub use Rattle.fdp_opening.proofs.fdp_collector as fdp_collector
+pub use Rattle.fdp_locations.proofs as fdp_locations
+pub use Rattle.fdp_opening.proofs as fdp_opening
+pub use Rattle.fdp_opening.proofs.fdp_pages as fdp_pages
+pub use Rattle.fdp_opening.proofs.fdp_state as fdp_state
+pub use Rattle.fdp_locations.proofs.fdp_trails as fdp_trails
 pub mod Listing
 pub mod Lists
 pub mod Blocks

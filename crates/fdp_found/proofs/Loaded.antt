@@ -21,7 +21,7 @@ use Rattle.fdp_image.specs.Reading.{Reading}
 use Rattle.fdp_image.specs.Reads.{fresh_reading, is_blank, is_spent, reads_as, said_by_current}
 use Rattle.fdp_image.specs.StandsFor.{IsFoundIn, Says}
 use Rattle.fdp_image.specs.Valid.{IsValid, state_in}
-use Rattle.fdp_recovery.specs.Opened.{CanGoOn}
+use Rattle.fdp_opening.specs.fdp_recovery.Opened.{CanGoOn}
 use Rattle.fdp_rules.specs.Events.{kept_from}
 use Rattle.fdp_rules.specs.History.{controller_events_of, events_of, first_state, fresh, host_events_of, point_of, state_of, totals_of}
 use Rattle.fdp_snapshot.specs.declared.state.State.{State}

@@ -24,7 +24,7 @@ use Rattle.fdp_locations.specs.Stored.{HoldsWritten}
 use Rattle.fdp_locations.specs.Written.{IsWritten, Written}
 use Rattle.fdp_owners.specs.declared.owner.Owner.{Owner}
 use Rattle.fdp_owners.specs.Owned.{AreOwners}
-use Rattle.fdp_pages.specs.PageTables.{PageTables, passes_at}
+use Rattle.fdp_locations.specs.fdp_pages.PageTables.{PageTables, passes_at}
 use Rattle.fdp_passes.specs.Due.{copies_in}
 use Rattle.fdp_passes.specs.GroupPasses.{GroupPasses, Pass}
 use Rattle.fdp_pointers.specs.Contents.{content_at}
@@ -35,7 +35,7 @@ use Rattle.fdp_records.proofs.SpareTold.{said_is_spelled}
 use Rattle.fdp_rules.specs.History.{first_state, point_of, state_of}
 use Rattle.fdp_rules.specs.PlainState.{PlainState}
 use Rattle.fdp_rules.specs.Step.{IsDataUnit}
-use Rattle.fdp_trails.proofs.Following.{pass-ended}
+use Rattle.fdp_locations.proofs.fdp_trails.Following.{pass-ended}
 use Rattle.fdp_units.specs.DataUnits.{is_lost}
 use Rattle.fdp_units.specs.UnitTable.{Cut, IsUnit}
 

@@ -16,7 +16,7 @@ use Rattle.fdp_locations.specs.Located.{AreLed, AreUnitsOf}
 use Rattle.fdp_locations.specs.Written.{Written, written_by, written_from}
 use Rattle.fdp_owners.specs.Owned.{AreOwners}
 use Rattle.fdp_owners.specs.OwnerTable.{owner_at}
-use Rattle.fdp_pages.specs.PageTables.{PageTables, passes_at}
+use Rattle.fdp_locations.specs.fdp_pages.PageTables.{PageTables, passes_at}
 use Rattle.fdp_pointers.specs.Facts.{Page}
 use Rattle.fdp_pointers.specs.Pointers.{Behind, Pointer, Pointer.of_block, Pointer.of_flight, is_block, only, renamed}
 use Rattle.fdp_rules.proofs.Pushes.{point_of-push}
@@ -27,7 +27,7 @@ use Rattle.fdp_rules.specs.Next.{next}
 use Rattle.fdp_rules.specs.PlainState.{Going}
 use Rattle.fdp_rules.specs.Point.{Point}
 use Rattle.fdp_rules.specs.Step.{Follows}
-use Rattle.fdp_trails.proofs.Following.{pass-renamed}
+use Rattle.fdp_locations.proofs.fdp_trails.Following.{pass-renamed}
 
 module _ (c : DriveConfig) (f : Found) where
   abbrev begin : Point

@@ -13,7 +13,7 @@ use Rattle.fdp_base.specs.Geometry.{all_pages}
 use Rattle.fdp_base.specs.Numbers.{numbers_below, numbers_from}
 use Rattle.fdp_base.specs.Placement.{geometry_of}
 use Rattle.fdp_base.specs.Spare.{data_spare}
-use Rattle.fdp_collector.specs.Copying.{IsDataPage}
+use Rattle.fdp_locations.specs.fdp_collector.Copying.{IsDataPage}
 use Rattle.fdp_flash.specs.declared.cell.Cell.{Cell}
 use Rattle.fdp_flash.specs.declared.cell.Cell.TheVariants.{Blank, Whole}
 use Rattle.fdp_flash.specs.Cells.{AreCells}
@@ -29,9 +29,9 @@ use Rattle.fdp_locations.specs.Held.{pages_held}
 use Rattle.fdp_locations.specs.Written.{Written}
 use Rattle.fdp_owners.specs.declared.owner.Holder.TheVariants.{Block}
 use Rattle.fdp_owners.specs.declared.owner.Owner.{Owner}
-use Rattle.fdp_recovery.proofs.Valid.{valid-of}
-use Rattle.fdp_recovery.specs.Blocks.{AreKept, holds, names_block}
-use Rattle.fdp_state.specs.Good.{IsGood}
+use Rattle.fdp_opening.proofs.fdp_recovery.Valid.{valid-of}
+use Rattle.fdp_opening.specs.fdp_recovery.Blocks.{AreKept, holds, names_block}
+use Rattle.fdp_opening.specs.fdp_state.Good.{IsGood}
 
 -- ---- numbers in a row
 

@@ -16,7 +16,7 @@ use Rattle.fdp_locations.specs.Written.{Written}
 use Rattle.fdp_owners.specs.declared.owner.Holder.TheVariants.{Block}
 use Rattle.fdp_owners.specs.declared.owner.Owner.{Owner}
 use Rattle.fdp_owners.specs.OwnerTable.{owner_at}
-use Rattle.fdp_pages.specs.PageTables.{PageTables, passes_at}
+use Rattle.fdp_locations.specs.fdp_pages.PageTables.{PageTables, passes_at}
 use Rattle.fdp_passes.specs.declared.lane.Lane.{Lane}
 use Rattle.fdp_passes.specs.GroupPasses.{target_at}
 use Rattle.fdp_pointers.specs.Facts.{Page, found_at}

@@ -7,7 +7,7 @@ use Rattle.fdp_base.specs.Geometry.{all_pages}
 use Rattle.fdp_base.specs.Numbers.{numbers_below}
 use Rattle.fdp_base.specs.Placement.{geometry_of}
 use Rattle.fdp_base.specs.Spare.{data_spare}
-use Rattle.fdp_collector.specs.Copying.{IsDataPage}
+use Rattle.fdp_locations.specs.fdp_collector.Copying.{IsDataPage}
 use Rattle.fdp_flash.specs.declared.cell.Cell.{Cell}
 use Rattle.fdp_flash.specs.declared.cell.Cell.TheVariants.{Blank, Whole}
 use Rattle.fdp_flash.specs.Layout.{page_number}
@@ -15,7 +15,7 @@ use Rattle.fdp_image.specs.Reading.{Reading, spot_of}
 use Rattle.fdp_owners.specs.declared.owner.Holder.TheVariants.{Block}
 use Rattle.fdp_owners.specs.declared.owner.Owner.{Owner}
 use Rattle.fdp_records.specs.Spares.{said_by_data}
-use Rattle.fdp_recovery.specs.Blocks.{names_block}
+use Rattle.fdp_opening.specs.fdp_recovery.Blocks.{names_block}
 
 -- a page as its owner tells it: whole with the spare that the owner knows, and zeros; blank where it has no owner
 abbrev pub cell_of_owner : ℕ → Option Owner → Cell

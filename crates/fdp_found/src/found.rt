@@ -12,7 +12,7 @@ ghost use Rattle.fdp_image.specs.Reading.{Reading};
 ghost use Rattle.fdp_image.specs.Reads.{is_blank, reads_as};
 ghost use Rattle.fdp_image.specs.StandsFor.{IsFoundIn, StandsFor};
 ghost use Rattle.fdp_image.specs.Valid.{IsValid, state_in};
-ghost use Rattle.fdp_recovery.specs.Opened.{CanGoOn};
+ghost use Rattle.fdp_opening.specs.fdp_recovery.Opened.{CanGoOn};
 ghost use Rattle.fdp_rules.specs.History.{first_state, fresh};
 ghost use Rattle.fdp_snapshot.specs.declared.state.State.{State};
 

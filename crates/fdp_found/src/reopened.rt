@@ -8,7 +8,7 @@ ghost use Rattle.fdp_history.specs.Orderly.{IsOrderly};
 ghost use Rattle.fdp_history.specs.Standing.{IsStanding};
 ghost use Rattle.fdp_locations.specs.Located.{AreLed, AreUnitsOf};
 ghost use Rattle.fdp_locations.specs.Written.{Written, written_by};
-ghost use Rattle.fdp_pages.specs.PageTables.{PageTables};
+ghost use Rattle.fdp_locations.specs.fdp_pages.PageTables.{PageTables};
 ghost use Rattle.fdp_pointers.specs.Facts.{Page};
 ghost use Rattle.fdp_pointers.specs.Pointers.{Behind};
 ghost use Rattle.fdp_rules.specs.History.{Found, first_state, point_of, state_of};

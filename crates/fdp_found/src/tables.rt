@@ -13,7 +13,7 @@ ghost use Rattle.fdp_image.specs.Reading.{Reading, spot_of};
 ghost use Rattle.fdp_image.specs.Valid.{IsValid};
 ghost use Rattle.fdp_locations.specs.Located.{AreLed, AreUnitsOf, LeadsTo};
 ghost use Rattle.fdp_locations.specs.Stored.{HoldsWritten};
-ghost use Rattle.fdp_pages.specs.PageTables.{PageTables};
+ghost use Rattle.fdp_locations.specs.fdp_pages.PageTables.{PageTables};
 ghost use Rattle.fdp_pointers.specs.Facts.{Page};
 ghost use Rattle.fdp_pointers.specs.Pointers.{Pointer.of_block};
 ghost use Rattle.fdp_rules.specs.History.{point_of};

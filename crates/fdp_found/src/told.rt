@@ -8,7 +8,7 @@ ghost use Rattle.fdp_found.specs.Told.{AreBlockOwners, cells_of_owners};
 ghost use Rattle.fdp_image.specs.Reading.{Reading};
 ghost use Rattle.fdp_image.specs.Valid.{IsValid};
 ghost use Rattle.fdp_owners.specs.declared.owner.Owner.{Owner};
-ghost use Rattle.fdp_state.specs.Good.{IsGood};
+ghost use Rattle.fdp_opening.specs.fdp_state.Good.{IsGood};
 
 /// Over a flash that does not tell its cells an opening goes by those that the owners tell: they are cells of the flash's cut, what was read
 /// is valid over them, and the owners are those that such an image gives.

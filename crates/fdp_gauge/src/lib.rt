@@ -3,7 +3,5 @@
 
 mod gauge;
 mod known;
-#[cfg(test)]
-mod tests;
 
 pub use gauge::{Gauge, Pass, Teller};

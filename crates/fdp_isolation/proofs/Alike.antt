@@ -6,7 +6,7 @@ use Rattle.fdp_book.specs.Book.{BookSeen}
 use Rattle.fdp_flash.specs.declared.cell.Cell.{Cell}
 use Rattle.fdp_isolation.specs.Isolated.{since_setting}
 use Rattle.fdp_isolation.specs.Laned.{AreLaned, IsLaned}
-use Rattle.fdp_pages.specs.PageTables.{PageTables}
+use Rattle.fdp_book.specs.fdp_pages.PageTables.{PageTables}
 use Rattle.fdp_pointers.specs.Facts.{HasOnlyPlaced}
 use Rattle.fdp_rules.specs.History.{Found, point_of}
 

@@ -19,9 +19,9 @@ use Rattle.fdp_isolation.proofs.Entries.{and-false, no, only-placed-host, since-
 use Rattle.fdp_isolation.proofs.Keeping.{FillsNoMore, FillsNone, TakesNoMore, laned-renewed, laned-still, owners-fill, taken-kept}
 use Rattle.fdp_isolation.proofs.Owning.{KeepsOwners, StoodBehind, book-owners, host-site, stood-other, stood-unmade, stood-written}
 use Rattle.fdp_isolation.proofs.Setting.{generation-set, set-unwritten}
-use Rattle.fdp_locations.proofs.Grouped.{generation-next}
+use Rattle.fdp_book.proofs.fdp_locations.Grouped.{generation-next}
 use Rattle.fdp_owners.specs.OwnerTable.{owner_at}
-use Rattle.fdp_pages.specs.Steps.{ChangesOwners}
+use Rattle.fdp_book.specs.fdp_pages.Steps.{ChangesOwners}
 use Rattle.fdp_pointers.specs.Contents.{content_at}
 use Rattle.fdp_pointers.specs.Facts.{HasOnlyPlaced}
 use Rattle.fdp_rules.specs.Answer.{bare}

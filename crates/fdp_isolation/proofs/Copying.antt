@@ -7,9 +7,9 @@ use Rattle.fdp_base.specs.declared.entry.Entry.{Entry}
 use Rattle.fdp_base.specs.declared.entry.Spot.{Spot}
 use Rattle.fdp_base.specs.Placement.{geometry_of}
 use Rattle.fdp_base.specs.Spare.{data_spare}
-use Rattle.fdp_collector.specs.Ready.{IsBlankBehind, IsReady, Relocation, lane_at}
-use Rattle.fdp_collector.proofs.Opening.{open-ready}
-use Rattle.fdp_collector.proofs.Readied.{IsHaving, IsTaking, emptied-unit, unlost}
+use Rattle.fdp_book.specs.fdp_collector.Ready.{IsBlankBehind, IsReady, Relocation, lane_at}
+use Rattle.fdp_book.proofs.fdp_collector.Opening.{open-ready}
+use Rattle.fdp_book.proofs.fdp_collector.Readied.{IsHaving, IsTaking, emptied-unit, unlost}
 use Rattle.fdp_flash.specs.declared.cell.Cell.{Cell}
 use Rattle.fdp_flash.specs.Cells.{ProgramMayLeave}
 use Rattle.fdp_handles.specs.HandleTable.{HandleTable, reference_at}
@@ -19,13 +19,13 @@ use Rattle.fdp_isolation.proofs.Keeping.{FillsUnit, GoesWay}
 use Rattle.fdp_isolation.proofs.Pages.{blank-none, each-both, each-got, each-none, each-weaker, program-own}
 use Rattle.fdp_isolation.proofs.Promised.{group-below}
 use Rattle.fdp_image.proofs.Spares.{Says, spare-says}
-use Rattle.fdp_locations.specs.Located.{AreUnitsOf}
-use Rattle.fdp_locations.proofs.Others.{ChangesPasses, group-same, passes-other}
+use Rattle.fdp_book.specs.fdp_locations.Located.{AreUnitsOf}
+use Rattle.fdp_book.proofs.fdp_locations.Others.{ChangesPasses, group-same, passes-other}
 use Rattle.fdp_owners.specs.declared.owner.Owner.{Owner}
 use Rattle.fdp_owners.specs.OwnerTable.{OwnerTable, owner_at}
-use Rattle.fdp_pages.specs.Joined.{AreJoined}
-use Rattle.fdp_pages.specs.PageTables.{PageTables, passes_at, relocation_at, unit_of}
-use Rattle.fdp_pages.proofs.Inside.{slot-one}
+use Rattle.fdp_book.specs.fdp_pages.Joined.{AreJoined}
+use Rattle.fdp_book.specs.fdp_pages.PageTables.{PageTables, passes_at, relocation_at, unit_of}
+use Rattle.fdp_book.proofs.fdp_pages.Inside.{slot-one}
 use Rattle.fdp_passes.specs.declared.due.Due.TheVariants as due
 use Rattle.fdp_passes.specs.declared.lane.Lane.{Lane}
 use Rattle.fdp_passes.specs.Due.{IsDue}

@@ -14,7 +14,7 @@ use Rattle.fdp_base.specs.EntryKinds.{empties, puts_into}
 use Rattle.fdp_history.specs.Orderly.{IsOrderly}
 use Rattle.fdp_history.proofs.Effects.{fewer-going}
 use Rattle.fdp_isolation.specs.Isolated.{before_erase, sets_placement, since_setting}
-use Rattle.fdp_locations.proofs.Grouped.{generation-next}
+use Rattle.fdp_book.proofs.fdp_locations.Grouped.{generation-next}
 use Rattle.fdp_pointers.specs.Facts.{HasOnlyPlaced}
 use Rattle.fdp_pointers.proofs.Unplaced.{only-placed-next}
 use Rattle.fdp_rules.specs.Change.{after, changed_by}

@@ -11,7 +11,7 @@ use Rattle.fdp_base.specs.declared.entry.Spot.{Spot}
 use Rattle.fdp_base.specs.declared.spare.DataSpare.{DataSpare}
 use Rattle.fdp_base.specs.Placement.{geometry_of}
 use Rattle.fdp_base.specs.Spare.{data_spare}
-use Rattle.fdp_collector.specs.Ready.{IsBlankBehind, IsUnitOf}
+use Rattle.fdp_book.specs.fdp_collector.Ready.{IsBlankBehind, IsUnitOf}
 use Rattle.fdp_flash.specs.declared.cell.Cell.{Cell}
 use Rattle.fdp_flash.specs.Cells.{ProgramMayLeave}
 use Rattle.fdp_handles.specs.HandleTable.{reference_at}
@@ -20,12 +20,12 @@ use Rattle.fdp_isolation.specs.Laned.{IsLaned}
 use Rattle.fdp_isolation.proofs.Keeping.{FillsUnit, GoesWay}
 use Rattle.fdp_isolation.proofs.Pages.{blank-none, each-both, each-got, each-none, each-weaker, program-own}
 use Rattle.fdp_image.proofs.Spares.{Says, spare-says}
-use Rattle.fdp_locations.specs.Located.{AreUnitsOf}
-use Rattle.fdp_pages.specs.Joined.{AreJoined}
-use Rattle.fdp_pages.specs.PageTables.{PageTables, left_of, no_passes, passes_at, unit_of}
-use Rattle.fdp_pages.specs.Steps.{MayPut}
-use Rattle.fdp_pages.proofs.Handled.{read-reference}
-use Rattle.fdp_pages.proofs.Next.{IsNextPage}
+use Rattle.fdp_book.specs.fdp_locations.Located.{AreUnitsOf}
+use Rattle.fdp_book.specs.fdp_pages.Joined.{AreJoined}
+use Rattle.fdp_book.specs.fdp_pages.PageTables.{PageTables, left_of, no_passes, passes_at, unit_of}
+use Rattle.fdp_book.specs.fdp_pages.Steps.{MayPut}
+use Rattle.fdp_book.proofs.fdp_pages.Handled.{read-reference}
+use Rattle.fdp_book.proofs.fdp_pages.Next.{IsNextPage}
 use Rattle.fdp_passes.specs.declared.lane.Lane.{Lane}
 use Rattle.fdp_passes.specs.GroupPasses.{GroupPasses, lane_of, slot_of, target_at}
 use Rattle.fdp_rules.specs.Effect.{References, with_reference}

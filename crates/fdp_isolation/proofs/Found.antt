@@ -18,14 +18,14 @@ use Rattle.fdp_book.specs.Book.{BookSeen}
 use Rattle.fdp_book.specs.Reopened.{IsReopened}
 use Rattle.fdp_flash.specs.declared.cell.Cell.{Cell}
 use Rattle.fdp_flash.specs.Layout.{page_number}
-use Rattle.fdp_found.specs.Finding.{block_found, found_blocks, found_in}
-use Rattle.fdp_found.proofs.Blocks.{blocks-find, blocks-stand, found-read}
-use Rattle.fdp_found.proofs.Leading.{stands-on}
-use Rattle.fdp_found.specs.Opened.{AreOpened, owner_found}
-use Rattle.fdp_found.proofs.Paging.{IsHeld, all-numbers, any-number, held-of, number-back, spot-back}
-use Rattle.fdp_found.proofs.Pointing.{IsOwnerOf, owner-names, owner-of}
-use Rattle.fdp_found.proofs.Reading.{Names, page-lies}
-use Rattle.fdp_found.proofs.Stating.{lie-within}
+use Rattle.fdp_book.specs.fdp_found.Finding.{block_found, found_blocks, found_in}
+use Rattle.fdp_book.proofs.fdp_found.Blocks.{blocks-find, blocks-stand, found-read}
+use Rattle.fdp_book.proofs.fdp_found.Leading.{stands-on}
+use Rattle.fdp_book.specs.fdp_found.Opened.{AreOpened, owner_found}
+use Rattle.fdp_book.proofs.fdp_found.Paging.{IsHeld, all-numbers, any-number, held-of, number-back, spot-back}
+use Rattle.fdp_book.proofs.fdp_found.Pointing.{IsOwnerOf, owner-names, owner-of}
+use Rattle.fdp_book.proofs.fdp_found.Reading.{Names, page-lies}
+use Rattle.fdp_book.proofs.fdp_found.Stating.{lie-within}
 use Rattle.fdp_image.specs.CheckpointFields.{is_persistent}
 use Rattle.fdp_image.specs.Isolation.{EachPage, IsGrouped, IsIsolated, IsIsolatedImage, keeps_apart}
 use Rattle.fdp_image.specs.Outline.{state_with}
@@ -42,7 +42,7 @@ use Rattle.fdp_isolation.proofs.Entries.{put-whole}
 use Rattle.fdp_isolation.proofs.Saved.{alone-saved, laned-saved}
 use Rattle.fdp_owners.specs.declared.owner.Owner.{Owner}
 use Rattle.fdp_owners.specs.OwnerTable.{owner_at}
-use Rattle.fdp_pages.specs.PageTables.{PageTables}
+use Rattle.fdp_book.specs.fdp_pages.PageTables.{PageTables}
 use Rattle.fdp_passes.specs.GroupPasses.{lane_of}
 use Rattle.fdp_pointers.specs.Facts.{HasOnlyPlaced}
 use Rattle.fdp_pointers.proofs.Rows.{not-true}

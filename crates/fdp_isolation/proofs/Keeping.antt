@@ -18,8 +18,8 @@ use Rattle.fdp_isolation.proofs.Entries.{IsQuietStep, no, put-before, since-long
 use Rattle.fdp_isolation.proofs.Pages.{KeepsPages, each-both, each-kept}
 use Rattle.fdp_owners.specs.declared.owner.Owner.{Owner}
 use Rattle.fdp_owners.specs.OwnerTable.{owner_at}
-use Rattle.fdp_pages.specs.PageTables.{PageTables, no_passes, passes_at, unit_of}
-use Rattle.fdp_pages.specs.Steps.{ChangesOwners, LeavesUnits, SetsClasses}
+use Rattle.fdp_book.specs.fdp_pages.PageTables.{PageTables, no_passes, passes_at, unit_of}
+use Rattle.fdp_book.specs.fdp_pages.Steps.{ChangesOwners, LeavesUnits, SetsClasses}
 use Rattle.fdp_passes.specs.declared.lane.Lane.{Lane}
 use Rattle.fdp_passes.specs.GroupPasses.{GroupPasses, target_at}
 use Rattle.fdp_rules.specs.PlainState.{Reference}

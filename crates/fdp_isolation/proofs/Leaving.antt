@@ -12,14 +12,14 @@ use Rattle.fdp_base.specs.EntryKinds.{empties, puts_into}
 use Rattle.fdp_book.specs.Book.{BookSeen, IsFirst, IsLonger}
 use Rattle.fdp_flash.specs.declared.cell.Cell.{Cell}
 use Rattle.fdp_flash.specs.Cells.{IsBlankUnit}
-use Rattle.fdp_found.proofs.Paging.{blank-tested}
+use Rattle.fdp_book.proofs.fdp_found.Paging.{blank-tested}
 use Rattle.fdp_image.specs.Roomy.{is_blank_unit}
 use Rattle.fdp_isolation.specs.Alone.{AreLeftAlone, IsLeftAlone, gets_none}
 use Rattle.fdp_isolation.specs.Isolated.{IsWornDown, LeavesUsed, before_erase, since_setting}
 use Rattle.fdp_isolation.specs.Laned.{StandsOver}
 use Rattle.fdp_isolation.proofs.Promised.{no-entries}
 use Rattle.fdp_isolation.proofs.Entries.{AreQuiet, before-none, before-some, emptied-before, no, since-longer}
-use Rattle.fdp_pages.specs.PageTables.{PageTables}
+use Rattle.fdp_book.specs.fdp_pages.PageTables.{PageTables}
 use Rattle.fdp_rules.specs.Step.{IsDataUnit}
 use Rattle.fdp_units.specs.declared.data_unit.DataUnit.{DataUnit}
 use Rattle.fdp_units.specs.declared.state.UnitState.{UnitState}

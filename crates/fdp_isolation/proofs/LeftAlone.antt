@@ -21,7 +21,7 @@ use Rattle.fdp_book.specs.Relocating.{MovesPass}
 use Rattle.fdp_book.specs.Shutting.{ShutsAndEnds}
 use Rattle.fdp_book.specs.Steps.{Completes, Places, Starts}
 use Rattle.fdp_book.specs.Tickets.{IsNextSpot, IsTicketOf}
-use Rattle.fdp_collector.proofs.Kept.{changed-other}
+use Rattle.fdp_book.proofs.fdp_collector.Kept.{changed-other}
 use Rattle.fdp_flash.specs.declared.cell.Cell.{Cell}
 use Rattle.fdp_flash.specs.Cells.{ProgramMayLeave}
 use Rattle.fdp_flash.proofs.Pages.{program_other_unit}
@@ -33,12 +33,12 @@ use Rattle.fdp_isolation.proofs.Entries.{and-false, no, since-set}
 use Rattle.fdp_isolation.proofs.Keeping.{FillsNone, nothing}
 use Rattle.fdp_isolation.proofs.Leaving.{LeavesUnit, alone-first, alone-step}
 use Rattle.fdp_isolation.proofs.Placed.{next-write}
-use Rattle.fdp_locations.specs.Written.{next_spare}
+use Rattle.fdp_book.specs.fdp_locations.Written.{next_spare}
 use Rattle.fdp_owners.specs.OwnerTable.{OwnerTable}
-use Rattle.fdp_pages.specs.Joined.{AreJoined}
-use Rattle.fdp_pages.specs.PageTables.{PageTables}
-use Rattle.fdp_pages.specs.Steps.{ChangesOwners, LeavesUnits, Recounts}
-use Rattle.fdp_pages.proofs.Next.{next-page}
+use Rattle.fdp_book.specs.fdp_pages.Joined.{AreJoined}
+use Rattle.fdp_book.specs.fdp_pages.PageTables.{PageTables}
+use Rattle.fdp_book.specs.fdp_pages.Steps.{ChangesOwners, LeavesUnits, Recounts}
+use Rattle.fdp_book.proofs.fdp_pages.Next.{next-page}
 use Rattle.fdp_rules.specs.PlainState.{Going}
 use Rattle.fdp_units.specs.declared.data_unit.DataUnit.{DataUnit}
 use Rattle.fdp_units.specs.declared.state.UnitState.{UnitState}

@@ -12,14 +12,14 @@ use Rattle.fdp_base.specs.Spare.{data_spare}
 use Rattle.fdp_base.specs.EntryKinds.{empties, puts_into}
 use Rattle.fdp_book.specs.Book.{BookSeen, state_in}
 use Rattle.fdp_book.specs.Relocating.{Relocates, told_by}
-use Rattle.fdp_collector.specs.declared.step.Lost.TheVariants as lost
-use Rattle.fdp_collector.specs.declared.step.Step.{Step}
-use Rattle.fdp_collector.specs.declared.step.Step.TheVariants as steps
-use Rattle.fdp_collector.specs.Copying.{Copies}
-use Rattle.fdp_collector.specs.Ready.{Relocation, lane_at}
-use Rattle.fdp_collector.specs.Step.{IsCopyStep, IsStep, Rests}
-use Rattle.fdp_collector.proofs.Kept.{changed-here, changed-other}
-use Rattle.fdp_collector.proofs.Readied.{IsHaving, IsTaking}
+use Rattle.fdp_book.specs.fdp_collector.declared.step.Lost.TheVariants as lost
+use Rattle.fdp_book.specs.fdp_collector.declared.step.Step.{Step}
+use Rattle.fdp_book.specs.fdp_collector.declared.step.Step.TheVariants as steps
+use Rattle.fdp_book.specs.fdp_collector.Copying.{Copies}
+use Rattle.fdp_book.specs.fdp_collector.Ready.{Relocation, lane_at}
+use Rattle.fdp_book.specs.fdp_collector.Step.{IsCopyStep, IsStep, Rests}
+use Rattle.fdp_book.proofs.fdp_collector.Kept.{changed-here, changed-other}
+use Rattle.fdp_book.proofs.fdp_collector.Readied.{IsHaving, IsTaking}
 use Rattle.fdp_flash.specs.declared.answer.Wrote.{Wrote}
 use Rattle.fdp_flash.specs.declared.answer.Wrote.TheVariants as wrote
 use Rattle.fdp_flash.specs.declared.cell.Cell.{Cell}
@@ -37,7 +37,7 @@ use Rattle.fdp_isolation.proofs.Copying.{is-opened}
 use Rattle.fdp_isolation.proofs.Entries.{AreQuiet, no}
 use Rattle.fdp_isolation.proofs.Leaving.{LeavesUnit, alone-step}
 use Rattle.fdp_isolation.proofs.Relocated.{inside, program-left}
-use Rattle.fdp_pages.specs.PageTables.{relocation_at}
+use Rattle.fdp_book.specs.fdp_pages.PageTables.{relocation_at}
 use Rattle.fdp_passes.specs.GroupPasses.{GroupPasses}
 use Rattle.fdp_passes.specs.Targets.{UsesPage}
 use Rattle.fdp_units.specs.declared.data_unit.DataUnit.{DataUnit}

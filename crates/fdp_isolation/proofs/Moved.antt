@@ -23,9 +23,9 @@ use Rattle.fdp_isolation.proofs.Keeping.{TakesNoMore, laned-still}
 use Rattle.fdp_isolation.proofs.Trailed.{WasPut, copies-put}
 use Rattle.fdp_owners.specs.declared.owner.Owner.{Owner}
 use Rattle.fdp_owners.specs.OwnerTable.{owner_at, with_owner}
-use Rattle.fdp_pages.specs.PageTables.{copies_at, no_passes, passes_at}
-use Rattle.fdp_pages.specs.Steps.{ended_move}
-use Rattle.fdp_pages.proofs.Regrouped.{group-low, passes-here, passes-there}
+use Rattle.fdp_book.specs.fdp_pages.PageTables.{copies_at, no_passes, passes_at}
+use Rattle.fdp_book.specs.fdp_pages.Steps.{ended_move}
+use Rattle.fdp_book.proofs.fdp_pages.Regrouped.{group-low, passes-here, passes-there}
 use Rattle.fdp_passes.specs.declared.lane.Lane.{Lane}
 use Rattle.fdp_passes.specs.GroupPasses.{GroupPasses, Pass, target_at}
 use Rattle.fdp_passes.specs.Due.{copies_in}
@@ -35,9 +35,9 @@ use Rattle.fdp_rules.specs.History.{Found, point_of}
 use Rattle.fdp_rules.specs.Point.{Copy, Point}
 use Rattle.fdp_rules.specs.Sites.{moved_blocks, pass_in, trail_of}
 use Rattle.fdp_rules.specs.Step.{Follows}
-use Rattle.fdp_trails.specs.Followed.{IsFollowed, IsPassOf, copy_of}
-use Rattle.fdp_trails.specs.Moves.{owners_moved, with_moved}
-use Rattle.fdp_trails.proofs.Moving.{cases_owner, cases_spot, moved-none, moved-some, owner-here, owner-there}
+use Rattle.fdp_book.specs.fdp_trails.Followed.{IsFollowed, IsPassOf, copy_of}
+use Rattle.fdp_book.specs.fdp_trails.Moves.{owners_moved, with_moved}
+use Rattle.fdp_book.proofs.fdp_trails.Moving.{cases_owner, cases_spot, moved-none, moved-some, owner-here, owner-there}
 use Rattle.fdp_units.specs.UnitTable.{Cut, IsGroup}
 
 -- ---- the owners

@@ -14,12 +14,12 @@ use Rattle.fdp_base.specs.CommandKinds.{is_write}
 use Rattle.fdp_book.specs.Book.{BookSeen, IsLed, point_in, state_in, written_in}
 use Rattle.fdp_history.specs.OrderlyState.{IsOrderlyState}
 use Rattle.fdp_isolation.proofs.Entries.{no}
-use Rattle.fdp_locations.specs.Located.{AreLed, next_in}
-use Rattle.fdp_locations.specs.Written.{IsWritten, Written}
+use Rattle.fdp_book.specs.fdp_locations.Located.{AreLed, next_in}
+use Rattle.fdp_book.specs.fdp_locations.Written.{IsWritten, Written}
 use Rattle.fdp_owners.specs.declared.owner.Owner.{Owner}
 use Rattle.fdp_owners.specs.Owned.{IsOwned, page_of}
 use Rattle.fdp_owners.specs.OwnerTable.{owner_at, pointer_of}
-use Rattle.fdp_pages.specs.PageTables.{PageTables}
+use Rattle.fdp_book.specs.fdp_pages.PageTables.{PageTables}
 use Rattle.fdp_pointers.specs.Contents.{PageContent, content_at, ended_by}
 use Rattle.fdp_pointers.specs.Facts.{Page}
 use Rattle.fdp_pointers.specs.Pointers.{Behind, Pointer, renamed}

@@ -33,12 +33,12 @@ use Rattle.fdp_isolation.proofs.Filling.{NamesHandle, fills-unit, filled-by, fil
 use Rattle.fdp_isolation.proofs.Keeping.{laned-got, laned-longer, taken-kept}
 use Rattle.fdp_isolation.proofs.Owning.{KeepsOwners, StoodBehind, book-owners, host-site, shut-content, shut-site, stood-unmade}
 use Rattle.fdp_isolation.proofs.Pages.{program-others}
-use Rattle.fdp_locations.specs.Written.{next_spare}
-use Rattle.fdp_locations.proofs.Grouped.{generation-next}
+use Rattle.fdp_book.specs.fdp_locations.Written.{next_spare}
+use Rattle.fdp_book.proofs.fdp_locations.Grouped.{generation-next}
 use Rattle.fdp_owners.specs.declared.owner.Owner.{Owner}
 use Rattle.fdp_owners.specs.OwnerTable.{owner_at}
-use Rattle.fdp_pages.specs.PageTables.{PageTables}
-use Rattle.fdp_pages.proofs.Next.{IsNextPage, next-page}
+use Rattle.fdp_book.specs.fdp_pages.PageTables.{PageTables}
+use Rattle.fdp_book.proofs.fdp_pages.Next.{IsNextPage, next-page}
 use Rattle.fdp_passes.specs.declared.lane.Lane.{Lane}
 use Rattle.fdp_passes.specs.GroupPasses.{lane_of}
 use Rattle.fdp_pointers.specs.Contents.{PageContent, content_at}
@@ -52,7 +52,7 @@ use Rattle.fdp_rules.specs.Next.{next as after_entry}
 use Rattle.fdp_rules.specs.PlainState.{Going, PlainState, Reference}
 use Rattle.fdp_rules.specs.Point.{Point}
 use Rattle.fdp_rules.specs.Sites.{group_of}
-use Rattle.fdp_trails.proofs.Moving.{owner-there}
+use Rattle.fdp_book.proofs.fdp_trails.Moving.{owner-there}
 use Rattle.fdp_rules.specs.Step.{Follows, IsPlaced}
 use Rattle.fdp_book.proofs.Longer.{point-two, written-two}
 

@@ -24,8 +24,8 @@ use Rattle.fdp_isolation.specs.Laned.{AreLaned, IsKeptApart, IsKnown, IsTaken, S
 use Rattle.fdp_isolation.proofs.Entries.{put-whole}
 use Rattle.fdp_isolation.proofs.Pages.{HasNoPage, blank-unit-none, each-both, each-none, each-weaker}
 use Rattle.fdp_image.proofs.Spares.{Says, spare-says}
-use Rattle.fdp_locations.specs.Located.{next_in}
-use Rattle.fdp_locations.proofs.Owned.{owned-units, owned-written}
+use Rattle.fdp_book.specs.fdp_locations.Located.{next_in}
+use Rattle.fdp_book.proofs.fdp_locations.Owned.{owned-units, owned-written}
 use Rattle.fdp_owners.specs.declared.owner.Owner.{Owner}
 use Rattle.fdp_owners.specs.OwnerTable.{owner_at}
 use Rattle.fdp_passes.specs.declared.lane.Lane.TheVariants.{Own, Shared}

@@ -11,13 +11,13 @@ use Rattle.fdp_base.specs.Placement.{geometry_of}
 use Rattle.fdp_base.specs.Spare.{data_spare}
 use Rattle.fdp_book.specs.Book.{BookSeen, IsLonger, point_in, state_in, written_in}
 use Rattle.fdp_book.specs.Relocating.{Relocates}
-use Rattle.fdp_collector.specs.declared.step.Lost.TheVariants as lost
-use Rattle.fdp_collector.specs.declared.step.Step.{Step}
-use Rattle.fdp_collector.specs.declared.step.Step.TheVariants as steps
-use Rattle.fdp_collector.specs.Copying.{Copies, IsCopied}
-use Rattle.fdp_collector.specs.Ready.{Relocation, lane_at}
-use Rattle.fdp_collector.specs.Step.{AddsCopy, IsCopyStep, Rests, SkipsPage}
-use Rattle.fdp_collector.proofs.Readied.{open-cut}
+use Rattle.fdp_book.specs.fdp_collector.declared.step.Lost.TheVariants as lost
+use Rattle.fdp_book.specs.fdp_collector.declared.step.Step.{Step}
+use Rattle.fdp_book.specs.fdp_collector.declared.step.Step.TheVariants as steps
+use Rattle.fdp_book.specs.fdp_collector.Copying.{Copies, IsCopied}
+use Rattle.fdp_book.specs.fdp_collector.Ready.{Relocation, lane_at}
+use Rattle.fdp_book.specs.fdp_collector.Step.{AddsCopy, IsCopyStep, Rests, SkipsPage}
+use Rattle.fdp_book.proofs.fdp_collector.Readied.{open-cut}
 use Rattle.fdp_flash.specs.declared.answer.Wrote.{Wrote}
 use Rattle.fdp_flash.specs.declared.answer.Wrote.TheVariants as wrote
 use Rattle.fdp_flash.specs.declared.cell.Cell.{Cell}
@@ -33,11 +33,11 @@ use Rattle.fdp_isolation.proofs.Copying.{KeepsTargets, copied-fills, copied-page
 use Rattle.fdp_isolation.proofs.Entries.{IsQuietStep, put-before, put-cases, quiet-none, quiet-one}
 use Rattle.fdp_isolation.proofs.Keeping.{FillsNoMore, laned-got, laned-longer, laned-still, taken-kept}
 use Rattle.fdp_isolation.proofs.Pages.{KeepsPages, erase-keeps, program-others}
-use Rattle.fdp_locations.proofs.Others.{ChangesPasses, passes-other}
-use Rattle.fdp_locations.proofs.Owned.{owned-units}
+use Rattle.fdp_book.proofs.fdp_locations.Others.{ChangesPasses, passes-other}
+use Rattle.fdp_book.proofs.fdp_locations.Owned.{owned-units}
 use Rattle.fdp_owners.specs.declared.owner.Owner.{Owner}
 use Rattle.fdp_owners.specs.OwnerTable.{OwnerTable, owner_at}
-use Rattle.fdp_pages.specs.PageTables.{PageTables, passes_at, relocation_at}
+use Rattle.fdp_book.specs.fdp_pages.PageTables.{PageTables, passes_at, relocation_at}
 use Rattle.fdp_passes.specs.declared.lane.Lane.{Lane}
 use Rattle.fdp_passes.specs.GroupPasses.{GroupPasses, target_at}
 use Rattle.fdp_rules.specs.Step.{Follows}

@@ -12,7 +12,7 @@ use Rattle.fdp_image.specs.Saving.{SameDataPages}
 use Rattle.fdp_isolation.specs.Alone.{AreLeftAlone}
 use Rattle.fdp_isolation.specs.Laned.{AreLaned, StandsOver}
 use Rattle.fdp_isolation.proofs.Pages.{KeepsPages, each-kept}
-use Rattle.fdp_locations.proofs.Others.{data-unit}
+use Rattle.fdp_book.proofs.fdp_locations.Others.{data-unit}
 use Rattle.fdp_rules.specs.Step.{IsDataUnit}
 
 -- a page of a data unit is a data page

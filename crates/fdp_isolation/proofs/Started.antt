@@ -13,7 +13,7 @@ use Rattle.fdp_isolation.proofs.Entries.{quiet-one}
 use Rattle.fdp_isolation.proofs.Keeping.{laned-still, owners-fill, taken-kept}
 use Rattle.fdp_isolation.proofs.Owning.{KeepsOwners, StoodBehind, book-owners, started-site, stood-renamed}
 use Rattle.fdp_owners.specs.OwnerTable.{owner_at}
-use Rattle.fdp_pages.specs.Steps.{ChangesOwners}
+use Rattle.fdp_book.specs.fdp_pages.Steps.{ChangesOwners}
 use Rattle.fdp_pointers.specs.Contents.{content_at, renamed_by}
 use Rattle.fdp_pointers.proofs.Steps.{contents-renamed}
 use Rattle.fdp_rules.specs.Next.{next}

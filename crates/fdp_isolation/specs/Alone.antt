@@ -9,7 +9,7 @@ use Rattle.fdp_book.specs.Book.{BookSeen}
 use Rattle.fdp_flash.specs.declared.cell.Cell.{Cell}
 use Rattle.fdp_image.specs.Roomy.{is_blank_unit}
 use Rattle.fdp_isolation.specs.Isolated.{GetsNoPage, since_setting}
-use Rattle.fdp_pages.specs.PageTables.{PageTables}
+use Rattle.fdp_book.specs.fdp_pages.PageTables.{PageTables}
 use Rattle.fdp_rules.specs.Step.{IsDataUnit}
 use Rattle.fdp_units.specs.declared.state.UnitState.{UnitState}
 use Rattle.fdp_units.specs.DataUnits.{is_closed, is_lost}

@@ -15,12 +15,12 @@ use Rattle.fdp_flash.specs.declared.cell.Cell.{Cell}
 use Rattle.fdp_history.specs.Orderly.{IsOrderly}
 use Rattle.fdp_image.specs.Isolation.{EachPage, IsOfOneGroup}
 use Rattle.fdp_isolation.specs.Isolated.{since_setting}
-use Rattle.fdp_locations.specs.Located.{AreUnitsOf}
-use Rattle.fdp_locations.specs.Stored.{HoldsWritten}
+use Rattle.fdp_book.specs.fdp_locations.Located.{AreUnitsOf}
+use Rattle.fdp_book.specs.fdp_locations.Stored.{HoldsWritten}
 use Rattle.fdp_owners.specs.declared.owner.Owner.{Owner}
 use Rattle.fdp_owners.specs.OwnerTable.{owner_at}
-use Rattle.fdp_pages.specs.Joined.{AreJoined}
-use Rattle.fdp_pages.specs.PageTables.{PageTables, passes_at, unit_of}
+use Rattle.fdp_book.specs.fdp_pages.Joined.{AreJoined}
+use Rattle.fdp_book.specs.fdp_pages.PageTables.{PageTables, passes_at, unit_of}
 use Rattle.fdp_passes.specs.declared.lane.Lane.{Lane}
 use Rattle.fdp_passes.specs.GroupPasses.{lane_of, target_at}
 use Rattle.fdp_pointers.specs.Facts.{HasOnlyPlaced}

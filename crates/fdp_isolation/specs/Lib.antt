@@ -1,3 +1,5 @@
+-- passed on to the crates above
+pub use Rattle.fdp_book.specs as fdp_book
 pub mod Isolated
 pub mod Laned
 pub mod Alone

@@ -6,7 +6,7 @@ ghost use Rattle.fdp_book.specs.Book.{BookSeen, IsFirst, point_in};
 ghost use Rattle.fdp_book.specs.Reopened.{IsReopened};
 ghost use Rattle.fdp_flash.specs.declared.cell.Cell.{Cell};
 ghost use Rattle.fdp_flash.specs.Cells.{IsBlankUnit};
-ghost use Rattle.fdp_found.specs.Finding.{found_in};
+ghost use Rattle.fdp_book.specs.fdp_found.Finding.{found_in};
 ghost use Rattle.fdp_isolation.specs.Alone.{AreLeftAlone};
 ghost use Rattle.fdp_image.specs.Isolation.{IsIsolatedImage};
 ghost use Rattle.fdp_image.specs.Reading.{Reading};

@@ -3,8 +3,6 @@
 
 mod appended;
 mod journal;
-#[cfg(test)]
-mod tests;
 
 pub use appended::Appended;
 pub use journal::Journal;

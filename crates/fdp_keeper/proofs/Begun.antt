@@ -7,13 +7,13 @@ use Rattle.fdp_book.specs.Book.{BookSeen, IsFirst, point_in}
 use Rattle.fdp_flash.specs.FlashState.{FlashState}
 use Rattle.fdp_image.specs.Reading.{Reading}
 use Rattle.fdp_image.specs.Reads.{fresh_reading}
-use Rattle.fdp_journal.specs.JournalState.{JournalState}
+use Rattle.fdp_durability.specs.fdp_journal.JournalState.{JournalState}
 use Rattle.fdp_keeper.specs.Keeper.{CanSave, KeeperSeen}
 use Rattle.fdp_outline.specs.Outline.{IsOutlineOf}
-use Rattle.fdp_readings.specs.Drawn.{drawn}
+use Rattle.fdp_durability.specs.fdp_readings.Drawn.{drawn}
 use Rattle.fdp_rules.specs.Events.{kept_from}
 use Rattle.fdp_rules.specs.History.{Found, controller_events_of, events_of, first_state, fresh, host_events_of, point_of, state_of, totals_of}
-use Rattle.fdp_saving.specs.Saver.{IsSaverIn, first_saver}
+use Rattle.fdp_durability.specs.fdp_saving.Saver.{IsSaverIn, first_saver}
 
 -- a fresh drive draws what it says
 pub drawn-fresh : (c : DriveConfig) → drawn c (point_of c (fresh c) []) ≡ fresh_reading c

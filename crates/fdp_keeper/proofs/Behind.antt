@@ -28,9 +28,9 @@ use Rattle.fdp_outline.specs.Events.{with_events}
 use Rattle.fdp_outline.specs.Outline.{IsOutlineOf}
 use Rattle.fdp_outline.proofs.Applying.{namespaces-said, outline-updated}
 use Rattle.fdp_outline.proofs.Keeping.{events-more, none-more}
-use Rattle.fdp_readings.specs.Changes.{Saves, completed}
-use Rattle.fdp_readings.specs.Drawn.{drawn}
-use Rattle.fdp_readings.proofs.Commanding.{create-saved, dealloc-saved, delete-saved, kinds-saved, placement-saved, update-saved, zero-saved}
+use Rattle.fdp_durability.specs.fdp_readings.Changes.{Saves, completed}
+use Rattle.fdp_durability.specs.fdp_readings.Drawn.{drawn}
+use Rattle.fdp_durability.proofs.fdp_readings.Commanding.{create-saved, dealloc-saved, delete-saved, kinds-saved, placement-saved, update-saved, zero-saved}
 use Rattle.fdp_records.specs.declared.change.Change.{Change}
 use Rattle.fdp_records.specs.declared.change.Change.TheVariants as changes
 use Rattle.fdp_rules.specs.Effect.{chosen_handles, lowest_free}
@@ -40,8 +40,8 @@ use Rattle.fdp_rules.specs.PlainState.{Namespace, PlainState}
 use Rattle.fdp_rules.specs.Point.{Point}
 use Rattle.fdp_rules.specs.Room.{handles_of}
 use Rattle.fdp_rules.specs.Target.{Target, named_by}
-use Rattle.fdp_saving.specs.declared.saved.Saved.{Saved}
-use Rattle.fdp_saving.specs.declared.saved.Saved.TheVariants as answers
+use Rattle.fdp_durability.specs.fdp_saving.declared.saved.Saved.{Saved}
+use Rattle.fdp_durability.specs.fdp_saving.declared.saved.Saved.TheVariants as answers
 use Rattle.fdp_snapshot.specs.declared.space.Space.{Space}
 use Rattle.fdp_snapshot.specs.declared.state.Summary.{Summary}
 use Rattle.fdp_snapshot.specs.Fixed.{IsSummary}

@@ -5,9 +5,9 @@ use Rattle.std.specs.Option.{option_map_or}
 use Rattle.std.proofs.lemmas.Option.{slice_get-get_or}
 use Rattle.fdp_base.specs.declared.entry.Copied.{Copied}
 use Rattle.fdp_owners.specs.OwnerTable.{IsPlace}
-use Rattle.fdp_pages.specs.Joined.{AreJoined}
-use Rattle.fdp_pages.specs.PageTables.{PageTables, copies_at, passes_at}
-use Rattle.fdp_pages.proofs.Places.{place-contains, place-there}
+use Rattle.fdp_durability.specs.fdp_pages.Joined.{AreJoined}
+use Rattle.fdp_durability.specs.fdp_pages.PageTables.{PageTables, copies_at, passes_at}
+use Rattle.fdp_durability.proofs.fdp_pages.Places.{place-contains, place-there}
 use Rattle.fdp_passes.specs.GroupPasses.{Pass}
 use Rattle.fdp_units.specs.UnitTable.{IsGroup, IsUnit}
 

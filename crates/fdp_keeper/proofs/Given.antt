@@ -4,7 +4,7 @@ use Rattle.std.specs.Prelude.{IfSome, sum_by}
 use Rattle.std.proofs.Math.Nat.{mul-le-mul_left}
 use Rattle.fdp_base.specs.declared.config.DriveConfig.{DriveConfig}
 use Rattle.fdp_base.specs.declared.config.Geometry.{Geometry}
-use Rattle.fdp_checkpoint.specs.Writing.{with_pages}
+use Rattle.fdp_durability.specs.fdp_checkpoint.Writing.{with_pages}
 use Rattle.fdp_base.specs.Config.{IsValidConfig}
 use Rattle.fdp_base.specs.Geometry.{area_pages}
 use Rattle.fdp_base.specs.Placement.{budget_of, full_budget, geometry_of, most_blocks}
@@ -19,10 +19,10 @@ use Rattle.fdp_outline.specs.Outline.{IsOutlineOf, IsWritable}
 use Rattle.fdp_outline.specs.Pages.{ArePagesOf}
 use Rattle.fdp_outline.proofs.Paging.{outline-blocks, outline-state}
 use Rattle.fdp_outline.proofs.Saying.{says-reading}
-use Rattle.fdp_readings.specs.Drawn.{drawn}
+use Rattle.fdp_durability.specs.fdp_readings.Drawn.{drawn}
 use Rattle.fdp_rules.specs.Point.{Point}
 use Rattle.fdp_rules.specs.Room.{handles_in_force, namespace_ids, size_of}
-use Rattle.fdp_saving.proofs.Room.{checkpoint_room}
+use Rattle.fdp_durability.proofs.fdp_saving.Room.{checkpoint_room}
 use Rattle.fdp_snapshot.specs.declared.state.Summary.{Summary}
 use Rattle.fdp_snapshot.specs.Checkpoint.{IsState}
 use Rattle.fdp_snapshot.specs.Reading.{blocks_in}

@@ -19,7 +19,7 @@ use Rattle.fdp_history.proofs.Bounds.{handles-in_force}
 use Rattle.fdp_image.specs.Bits.{has_bit}
 use Rattle.fdp_keeper.specs.Commands.{AreMarked}
 use Rattle.fdp_passes.proofs.Counted.{as_number}
-use Rattle.fdp_readings.specs.Changes.{TellsClosed, closes_unit}
+use Rattle.fdp_durability.specs.fdp_readings.Changes.{TellsClosed, closes_unit}
 use Rattle.fdp_rules.specs.Effect.{References, is_partly_written, no_reference, updated_at, updated_by, with_reference}
 use Rattle.fdp_rules.specs.PlainState.{Namespace, PlainState, Reference}
 use Rattle.fdp_rules.specs.Room.{handles_in_force, handles_of}

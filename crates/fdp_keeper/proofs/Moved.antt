@@ -11,8 +11,8 @@ use Rattle.fdp_base.specs.declared.entry.Copied.{Copied}
 use Rattle.fdp_base.specs.declared.entry.Spot.{Spot}
 use Rattle.fdp_history.specs.Standing.{IsStanding}
 use Rattle.fdp_keeper.specs.Moves.{OldInOrder, moved_by_owner, moved_of}
-use Rattle.fdp_locations.specs.Located.{AreLed, next_in}
-use Rattle.fdp_locations.specs.Written.{Written}
+use Rattle.fdp_durability.specs.fdp_locations.Located.{AreLed, next_in}
+use Rattle.fdp_durability.specs.fdp_locations.Written.{Written}
 use Rattle.fdp_outline.specs.declared.moved_block.MovedBlock.{MovedBlock}
 use Rattle.fdp_outline.specs.Events.{names_of_handle}
 use Rattle.fdp_owners.specs.declared.owner.Holder.{Holder}
@@ -20,18 +20,18 @@ use Rattle.fdp_owners.specs.declared.owner.Holder.TheVariants as holders
 use Rattle.fdp_owners.specs.declared.owner.Owner.{Owner}
 use Rattle.fdp_owners.specs.Owned.{page_of}
 use Rattle.fdp_owners.specs.OwnerTable.{owner_at, pointer_in}
-use Rattle.fdp_pages.specs.Joined.{LieInOrder}
-use Rattle.fdp_pages.specs.PageTables.{PageTables}
+use Rattle.fdp_durability.specs.fdp_pages.Joined.{LieInOrder}
+use Rattle.fdp_durability.specs.fdp_pages.PageTables.{PageTables}
 use Rattle.fdp_pointers.specs.Facts.{Page}
 use Rattle.fdp_pointers.specs.Pointers.{Behind, Pointer.of_block}
 use Rattle.fdp_pointers.proofs.Tables.{block-at}
-use Rattle.fdp_readings.specs.Changes.{IsPlacedBy, copies_of_blocks, known_handle}
-use Rattle.fdp_readings.proofs.Passing.{copies-placed}
+use Rattle.fdp_durability.specs.fdp_readings.Changes.{IsPlacedBy, copies_of_blocks, known_handle}
+use Rattle.fdp_durability.proofs.fdp_readings.Passing.{copies-placed}
 use Rattle.fdp_rules.specs.Events.{is_of_handle}
 use Rattle.fdp_rules.specs.PlainState.{Block, PlainState}
 use Rattle.fdp_rules.specs.Point.{Point}
 use Rattle.fdp_rules.specs.Sites.{site_of}
-use Rattle.fdp_trails.specs.Moves.{name_at, name_in, name_of, names_of}
+use Rattle.fdp_durability.specs.fdp_trails.Moves.{name_at, name_in, name_of, names_of}
 
 -- ---- order, where some are left out
 

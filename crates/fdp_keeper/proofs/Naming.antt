@@ -19,30 +19,30 @@ use Rattle.fdp_history.specs.Orderly.{IsOrderly}
 use Rattle.fdp_history.specs.Standing.{IsStanding}
 use Rattle.fdp_keeper.specs.Moves.{CanBeNamed, IsMoveOf, moved_by_owner, moved_of}
 use Rattle.fdp_keeper.proofs.Moved.{ascending-old, filter-new, filter-old, handles-named, names-listed}
-use Rattle.fdp_locations.specs.Located.{AreLed, next_in}
-use Rattle.fdp_locations.specs.Written.{Written}
+use Rattle.fdp_durability.specs.fdp_locations.Located.{AreLed, next_in}
+use Rattle.fdp_durability.specs.fdp_locations.Written.{Written}
 use Rattle.fdp_outline.specs.declared.moved_block.MovedBlock.{MovedBlock}
 use Rattle.fdp_outline.specs.Events.{names_of_handle}
 use Rattle.fdp_owners.specs.declared.owner.Owner.{Owner}
 use Rattle.fdp_owners.specs.OwnerTable.{owner_at}
-use Rattle.fdp_pages.specs.Joined.{AreJoined}
-use Rattle.fdp_pages.specs.PageTables.{PageTables, copies_at, passes_at}
-use Rattle.fdp_pages.proofs.Places.{place-contains}
+use Rattle.fdp_durability.specs.fdp_pages.Joined.{AreJoined}
+use Rattle.fdp_durability.specs.fdp_pages.PageTables.{PageTables, copies_at, passes_at}
+use Rattle.fdp_durability.proofs.fdp_pages.Places.{place-contains}
 use Rattle.fdp_passes.specs.Due.{copies_in}
 use Rattle.fdp_passes.specs.GroupPasses.{Pass}
 use Rattle.fdp_pointers.specs.Facts.{Page}
 use Rattle.fdp_pointers.specs.Pointers.{Behind}
-use Rattle.fdp_readings.specs.Changes.{MoveBlocks, NamesCopies, Saves, copies_of_blocks, known_handle}
-use Rattle.fdp_readings.proofs.Moving.{drawn-moved}
-use Rattle.fdp_readings.proofs.Passing.{copies-inside, copies-placed, pass-moves}
+use Rattle.fdp_durability.specs.fdp_readings.Changes.{MoveBlocks, NamesCopies, Saves, copies_of_blocks, known_handle}
+use Rattle.fdp_durability.proofs.fdp_readings.Moving.{drawn-moved}
+use Rattle.fdp_durability.proofs.fdp_readings.Passing.{copies-inside, copies-placed, pass-moves}
 use Rattle.fdp_records.specs.declared.change.Change.{Change}
 use Rattle.fdp_rules.specs.Events.{events_of_entry, is_of_handle, reallocated}
 use Rattle.fdp_rules.specs.Next.{totals_with}
 use Rattle.fdp_rules.specs.Point.{Point}
 use Rattle.fdp_rules.specs.Room.{handles_in_force}
 use Rattle.fdp_rules.specs.Sites.{moved_blocks}
-use Rattle.fdp_trails.specs.Moves.{name_at, names_of}
-use Rattle.fdp_trails.proofs.Listing.{pass-listed}
+use Rattle.fdp_durability.specs.fdp_trails.Moves.{name_at, names_of}
+use Rattle.fdp_durability.proofs.fdp_trails.Listing.{pass-listed}
 use Rattle.fdp_units.specs.UnitTable.{Cut, IsGroup, cut_of}
 
 -- no more units than there may be

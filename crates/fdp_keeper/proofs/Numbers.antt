@@ -11,7 +11,7 @@ use Rattle.fdp_base.specs.declared.config.DriveConfig.{DriveConfig}
 use Rattle.fdp_base.specs.declared.entry.Copied.{Copied}
 use Rattle.fdp_image.specs.Bits.{has_bit, is_bit_set, pages_of_set}
 use Rattle.fdp_image.specs.Changed.{page_numbers}
-use Rattle.fdp_pages.specs.Joined.{LieInOrder}
+use Rattle.fdp_durability.specs.fdp_pages.Joined.{LieInOrder}
 use Rattle.fdp_records.specs.declared.change.Change.TheVariants as changes
 use Rattle.fdp_records.specs.declared.page_set.PageSet.{PageSet}
 use Rattle.fdp_records.specs.declared.change.UnitPages.{UnitPages}

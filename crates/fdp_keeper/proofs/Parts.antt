@@ -13,16 +13,16 @@ use Rattle.fdp_flash.specs.FlashState.{FlashState}
 use Rattle.fdp_image.specs.Applied.{applied}
 use Rattle.fdp_image.specs.Changed.{changed}
 use Rattle.fdp_image.specs.Reading.{Reading}
-use Rattle.fdp_journal.specs.JournalState.{JournalState}
+use Rattle.fdp_durability.specs.fdp_journal.JournalState.{JournalState}
 use Rattle.fdp_durability.specs.Saved.{SavesDrive, SavesEntry, SettlesDrive, firm_renewed, firm_with}
 use Rattle.fdp_flash.specs.declared.answer.Wrote.{Wrote}
-use Rattle.fdp_saving.specs.declared.saved.Saved.{Saved}
+use Rattle.fdp_durability.specs.fdp_saving.declared.saved.Saved.{Saved}
 use Rattle.fdp_keeper.specs.Keeper.{CanGive, CanKeep, CanSave, KeeperSeen, KeepsDrive, KeepsEntry, KeepsMade, KeepsParts, KeepsSettled, KeepsWrite}
 use Rattle.fdp_outline.specs.Events.{AddsEvents}
 use Rattle.fdp_outline.specs.Outline.{IsOutlineOf}
 use Rattle.fdp_outline.proofs.Saying.{outline-totals}
-use Rattle.fdp_readings.specs.Changes.{Saves}
-use Rattle.fdp_readings.specs.Drawn.{drawn}
+use Rattle.fdp_durability.specs.fdp_readings.Changes.{Saves}
+use Rattle.fdp_durability.specs.fdp_readings.Drawn.{drawn}
 use Rattle.fdp_records.specs.declared.change.Change.{Change}
 use Rattle.fdp_rules.specs.Events.{events_of_entry, kept_of_entry}
 use Rattle.fdp_rules.specs.Next.{next, totals_with}

@@ -2,7 +2,7 @@
 use Rattle.std.proofs.Common.{◌≡◌, ℕ, suc, ◌+◌, ◌≤◌, List, [], ◌∷◌, ◌++◌, map, take, drop, ap, sym, ◌∙◌, subst, arith, append_assoc}
 use mathlib.Core.List.{append-nil}
 use Rattle.fdp_base.specs.declared.entry.Copied.{Copied}
-use Rattle.fdp_pages.specs.Joined.{LieInOrder}
+use Rattle.fdp_durability.specs.fdp_pages.Joined.{LieInOrder}
 use Rattle.fdp_records.specs.declared.page_set.PageSet.{PageSet}
 use Rattle.fdp_keeper.specs.Moves.{IsSetOf, LieInSome}
 

@@ -12,15 +12,15 @@ use Rattle.fdp_outline.specs.Events.{AddsEvents, with_events}
 use Rattle.fdp_outline.specs.Outline.{IsOutlineOf}
 use Rattle.fdp_outline.proofs.Keeping.{none-more}
 use Rattle.fdp_outline.proofs.Saying.{outline-more}
-use Rattle.fdp_readings.specs.Changes.{completed}
-use Rattle.fdp_readings.specs.Drawn.{drawn}
+use Rattle.fdp_durability.specs.fdp_readings.Changes.{completed}
+use Rattle.fdp_durability.specs.fdp_readings.Drawn.{drawn}
 use Rattle.fdp_records.specs.Limits.{is_within}
 use Rattle.fdp_rules.specs.Events.{events_of_entry, write_events}
 use Rattle.fdp_rules.specs.Next.{next, totals_with}
 use Rattle.fdp_rules.specs.PlainState.{Going, PlainState}
 use Rattle.fdp_rules.specs.Point.{Point}
-use Rattle.fdp_saving.specs.declared.saved.Saved.{Saved}
-use Rattle.fdp_saving.specs.declared.saved.Saved.TheVariants as answers
+use Rattle.fdp_durability.specs.fdp_saving.declared.saved.Saved.{Saved}
+use Rattle.fdp_durability.specs.fdp_saving.declared.saved.Saved.TheVariants as answers
 use Rattle.fdp_snapshot.specs.declared.state.Summary.{Summary}
 use Rattle.fdp_snapshot.specs.Fixed.{IsSummary}
 use Rattle.fdp_keeper.specs.Keeper.{IsOutlineAfter, IsWithEvent}

@@ -19,15 +19,15 @@ use Rattle.fdp_base.specs.declared.entry.Totals.{Totals}
 use Rattle.fdp_keeper.specs.declared.change_lists.ChangeLists.{ChangeLists}
 use Rattle.fdp_keeper.specs.Lists.{AreOfEachLength, IsTaken}
 use Rattle.fdp_outline.specs.Outline.{IsOutlineOf}
-use Rattle.fdp_readings.specs.Changes.{TellsClosed}
+use Rattle.fdp_durability.specs.fdp_readings.Changes.{TellsClosed}
 use Rattle.fdp_records.specs.declared.change.Change.{Change}
 use Rattle.fdp_records.specs.declared.change.Change.TheVariants as changes
 use Rattle.fdp_rules.specs.Effect.{References, chosen_handles, lowest_free, no_reference}
 use Rattle.fdp_rules.specs.PlainState.{PlainState}
 use Rattle.fdp_rules.specs.Refusal.{refusal_of}
 use Rattle.fdp_rules.specs.Room.{handles_of}
-use Rattle.fdp_saving.specs.declared.saved.Saved.{Saved}
-use Rattle.fdp_saving.specs.declared.saved.Saved.TheVariants as answers
+use Rattle.fdp_durability.specs.fdp_saving.declared.saved.Saved.{Saved}
+use Rattle.fdp_durability.specs.fdp_saving.declared.saved.Saved.TheVariants as answers
 use Rattle.fdp_snapshot.specs.declared.state.Summary.{Summary}
 
 -- a command may take effect: it is not refused, and is one that is saved, other than a write

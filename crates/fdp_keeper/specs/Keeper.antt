@@ -9,20 +9,20 @@ use Rattle.fdp_book.specs.Book.{BookSeen, point_in}
 use Rattle.fdp_durability.specs.Saved.{SavesDrive, SavesEntry, SettlesDrive, firm_renewed, firm_with}
 use Rattle.fdp_flash.specs.declared.answer.Wrote.{Wrote}
 use Rattle.fdp_flash.specs.FlashState.{FlashState}
-use Rattle.fdp_journal.specs.JournalState.{JournalState}
+use Rattle.fdp_durability.specs.fdp_journal.JournalState.{JournalState}
 use Rattle.fdp_outline.specs.Events.{with_events}
 use Rattle.fdp_outline.specs.Outline.{IsOutlineOf}
-use Rattle.fdp_readings.specs.Changes.{AreItsPages, change_of_write}
-use Rattle.fdp_readings.specs.Drawn.{drawn}
+use Rattle.fdp_durability.specs.fdp_readings.Changes.{AreItsPages, change_of_write}
+use Rattle.fdp_durability.specs.fdp_readings.Drawn.{drawn}
 use Rattle.fdp_records.specs.declared.change.Change.{Change}
 use Rattle.fdp_records.specs.declared.change.Change.TheVariants as changes
 use Rattle.fdp_rules.specs.Next.{next}
 use Rattle.fdp_rules.specs.Events.{write_events}
 use Rattle.fdp_rules.specs.PlainState.{Going, PlainState}
 use Rattle.fdp_rules.specs.Point.{Point}
-use Rattle.fdp_saving.specs.declared.saved.Saved.{Saved}
-use Rattle.fdp_saving.specs.declared.saved.Saved.TheVariants as answers
-use Rattle.fdp_saving.specs.Saver.{IsSaverIn}
+use Rattle.fdp_durability.specs.fdp_saving.declared.saved.Saved.{Saved}
+use Rattle.fdp_durability.specs.fdp_saving.declared.saved.Saved.TheVariants as answers
+use Rattle.fdp_durability.specs.fdp_saving.Saver.{IsSaverIn}
 use Rattle.fdp_snapshot.specs.declared.state.Summary.{Summary}
 
 -- the saver of the system areas, what a checkpoint says beside the pages of the blocks, and how many entries are firm

@@ -1,5 +1,5 @@
 -- What the change of a move names.
-use Rattle.fdp_pages.specs.Joined.{LieInOrder}
+use Rattle.fdp_durability.specs.fdp_pages.Joined.{LieInOrder}
 use Rattle.fdp_base.specs.declared.config.DriveConfig.{DriveConfig}
 use Rattle.fdp_image.specs.Changed.{page_numbers}
 use Rattle.fdp_records.specs.declared.change.Change.{Change}

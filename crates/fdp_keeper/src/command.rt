@@ -4,7 +4,7 @@ ghost use Rattle.std.specs.Prelude.{IsTrue, ℕ};
 ghost use Rattle.fdp_base.specs.declared.entry.Reply.{Reply};
 ghost use Rattle.fdp_keeper.specs.Commands.{AreWhole, CanBeSaved};
 ghost use Rattle.fdp_keeper.specs.Keeper.{CanKeep, KeepsWrite};
-ghost use Rattle.fdp_readings.specs.Changes.{completed};
+ghost use Rattle.fdp_durability.specs.fdp_readings.Changes.{completed};
 
 use crate::change_lists::{ChangeLists, give_back};
 use crate::command_change::change_of;
@@ -12,9 +12,9 @@ use crate::kept_change::keep_saved;
 use crate::saving::save;
 use fdp_base::{Command, Totals};
 use fdp_book::Book;
+use fdp_durability::{Saved, Saver};
 use fdp_flash::Flash;
 use fdp_outline::Outline;
-use fdp_saving::{Saved, Saver};
 
 /// Saves a command that may take effect. The outline goes on with its change, unless the answer is that it was not saved.
 pub fn save_command<F: Flash>(

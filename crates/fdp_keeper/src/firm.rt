@@ -5,8 +5,8 @@ ghost use Rattle.fdp_base.specs.declared.entry.Entry.{Entry};
 ghost use Rattle.fdp_durability.specs.Saved.{firm_renewed, firm_with};
 
 use fdp_book::Book;
+use fdp_durability::Saved;
 use fdp_flash::Wrote;
-use fdp_saving::Saved;
 
 /// So many after the saving of an entry: all with it, or those that were.
 pub fn firm_saved(book: &Book, firm: u64, saved: Saved) -> u64

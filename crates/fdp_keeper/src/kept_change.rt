@@ -10,14 +10,14 @@ ghost use Rattle.fdp_image.specs.ChangeEvents.{closed_event};
 ghost use Rattle.fdp_keeper.specs.Commands.{CanBeKept, IsOutlineBehind};
 ghost use Rattle.fdp_outline.specs.Events.{with_events};
 ghost use Rattle.fdp_outline.specs.Outline.{IsOutlineOf};
-ghost use Rattle.fdp_readings.specs.Drawn.{drawn};
+ghost use Rattle.fdp_durability.specs.fdp_readings.Drawn.{drawn};
 ghost use Rattle.fdp_rules.specs.PlainState.{PlainState};
 
 use fdp_book::Book;
 use fdp_commands::named_by;
+use fdp_durability::Saved;
 use fdp_outline::Outline;
 use fdp_records::Change;
-use fdp_saving::Saved;
 
 /// Keeps the change of a command that was saved, or may have been.
 pub fn keep_saved(outline: &mut Outline, book: &Book, change: &Change, position: u64, saved: Saved)

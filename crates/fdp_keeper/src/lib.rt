@@ -20,4 +20,9 @@ mod targets;
 mod updated;
 mod write;
 
+pub use fdp_book::{
+    Book, Done, FirstStep, Lost, NextPage, OpenFault, Opened, Pages, PagesFault, Replies, Room,
+    Stage, Step, Ticket, WritePlace, find_pages, open_state, toil_is_what_can_be_won,
+};
+pub use fdp_durability::Saved;
 pub use keeper::Keeper;

@@ -3,14 +3,14 @@
 ghost use Rattle.std.specs.Prelude.{◌≡◌, ◌++◌, ◌∷◌, [], ◌<◌, ◌≤◌, ◌+◌, IsTrue, length, map, vec_capacity, vec_len};
 ghost use Rattle.fdp_keeper.specs.Moves.{moved_of};
 ghost use Rattle.fdp_owners.specs.OwnerTable.{IsPlace, owner_at};
-ghost use Rattle.fdp_pages.specs.PageTables.{copies_at, is_under_way};
-ghost use Rattle.fdp_readings.specs.Changes.{copies_of_blocks};
+ghost use Rattle.fdp_durability.specs.fdp_pages.PageTables.{copies_at, is_under_way};
+ghost use Rattle.fdp_durability.specs.fdp_readings.Changes.{copies_of_blocks};
 ghost use Rattle.fdp_units.specs.UnitTable.{IsGroup};
 
 use fdp_base::{BlockName, Copied};
+use fdp_durability::Pages;
 use fdp_outline::MovedBlock;
 use fdp_owners::Holder;
-use fdp_pages::Pages;
 
 /// Lists the copies of blocks of the pass under way in a group, and the blocks that they move.
 pub fn list_copies(pages: &Pages, rg: u16, copies: &mut Vec<Copied>, blocks: &mut Vec<MovedBlock>)

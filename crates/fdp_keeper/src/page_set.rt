@@ -4,7 +4,7 @@ ghost use Rattle.std.specs.Prelude.{◌≡◌, ◌+◌, ◌≤◌, ◌<◌, ◌+
 ghost use Rattle.std.specs.Prelude.{All, List, drop, length, map, take, ℕ};
 ghost use Rattle.fdp_base.specs.declared.entry.Copied.{Copied as Copy};
 ghost use Rattle.fdp_keeper.specs.Moves.{HasPages, IsSetOf, LieInSome, OldInOrder};
-ghost use Rattle.fdp_pages.specs.Joined.{LieInOrder};
+ghost use Rattle.fdp_durability.specs.fdp_pages.Joined.{LieInOrder};
 
 use fdp_base::Copied;
 use fdp_records::PageSet;

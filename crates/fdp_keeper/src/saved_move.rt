@@ -3,7 +3,7 @@ ghost use Rattle.fdp_base.specs.declared.entry.Entry.TheVariants as entries;
 ghost use Rattle.fdp_book.specs.Book.{point_in};
 ghost use Rattle.fdp_keeper.specs.Keeper.{CanKeep, KeepsParts};
 ghost use Rattle.fdp_keeper.specs.Lists.{AreOfEachLength};
-ghost use Rattle.fdp_pages.specs.PageTables.{passes_at};
+ghost use Rattle.fdp_durability.specs.fdp_pages.PageTables.{passes_at};
 ghost use Rattle.fdp_passes.specs.declared.due.Due.TheVariants.{Move};
 ghost use Rattle.fdp_passes.specs.Due.{IsDue};
 ghost use Rattle.fdp_rules.specs.Sites.{moved_blocks};
@@ -13,9 +13,9 @@ use crate::moves::list_copies;
 use crate::saving::save;
 use fdp_base::{Copied, Sequence, Totals};
 use fdp_book::Book;
+use fdp_durability::{Saved, Saver};
 use fdp_flash::Flash;
 use fdp_outline::{MovedBlock, Outline};
-use fdp_saving::{Saved, Saver};
 
 /// Saves the move that is due in a group, if it moves a block. The outline goes on with its events, whatever the answer.
 pub fn save_move<F: Flash>(

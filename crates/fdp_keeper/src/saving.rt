@@ -5,16 +5,16 @@ ghost use Rattle.fdp_base.specs.declared.entry.Entry.{Entry};
 ghost use Rattle.fdp_book.specs.Book.{point_in};
 ghost use Rattle.fdp_durability.specs.Saved.{SavesDrive, SavesEntry, SettlesDrive};
 ghost use Rattle.fdp_keeper.specs.Keeper.{CanGive};
-ghost use Rattle.fdp_readings.specs.Changes.{Saves};
+ghost use Rattle.fdp_durability.specs.fdp_readings.Changes.{Saves};
 ghost use Rattle.fdp_records.specs.Limits.{is_within_limits};
 ghost use Rattle.fdp_rules.specs.Next.{totals_with};
 
 use fdp_base::Totals;
 use fdp_book::Book;
+use fdp_durability::{Saved, Saver};
 use fdp_flash::{Flash, Wrote};
 use fdp_outline::Outline;
 use fdp_records::Change;
-use fdp_saving::{Saved, Saver};
 
 /// Saves a change of the drive of a book, with the totals behind it. All savings of a change go through here.
 pub fn save<F: Flash>(

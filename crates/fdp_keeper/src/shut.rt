@@ -4,10 +4,10 @@ ghost use Rattle.fdp_keeper.specs.Keeper.{CanKeep, KeepsParts};
 use crate::saving::save;
 use fdp_base::Totals;
 use fdp_book::Book;
+use fdp_durability::{Saved, Saver};
 use fdp_flash::Flash;
 use fdp_outline::Outline;
 use fdp_records::Change;
-use fdp_saving::{Saved, Saver};
 
 /// Saves that a handle was left without a unit in a group. The outline goes on with its event, whatever the answer.
 pub fn save_shut<F: Flash>(

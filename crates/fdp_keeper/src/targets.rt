@@ -3,7 +3,7 @@
 ghost use Rattle.std.specs.Prelude.{◌≡◌, ◌<◌, All, ℕ, length};
 ghost use Rattle.fdp_base.specs.declared.entry.Copied.{Copied as Copy};
 ghost use Rattle.fdp_keeper.specs.Moves.{AreInRuns, AreNewIn, AreNewPages, AreOldPages, AreSecondPages, LieInSome, OldInOrder};
-ghost use Rattle.fdp_pages.specs.Joined.{LieInOrder};
+ghost use Rattle.fdp_durability.specs.fdp_pages.Joined.{LieInOrder};
 
 use crate::page_set::{put_new, put_old};
 use fdp_base::Copied;

@@ -5,7 +5,7 @@ ghost use Rattle.fdp_base.specs.declared.command.Command.TheVariants as commands
 ghost use Rattle.fdp_base.specs.declared.config.DriveConfig.{DriveConfig};
 ghost use Rattle.fdp_book.specs.Book.{state_in};
 ghost use Rattle.fdp_keeper.specs.Commands.{AreLent, AreMarked, AreWhole, CanBeSaved, IsUpdateOf, LendsPids};
-ghost use Rattle.fdp_readings.specs.Changes.{TellsClosed, closes_unit};
+ghost use Rattle.fdp_durability.specs.fdp_readings.Changes.{TellsClosed, closes_unit};
 ghost use Rattle.fdp_records.specs.Limits.{is_within_limits};
 ghost use Rattle.fdp_rules.specs.Effect.{References, is_partly_written, updated_at, updated_by};
 ghost use Rattle.fdp_rules.specs.PlainState.{PlainState};

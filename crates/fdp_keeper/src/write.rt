@@ -14,7 +14,7 @@ ghost use Rattle.fdp_keeper.specs.Lists.{AreOfEachLength, IsTaken};
 ghost use Rattle.fdp_outline.specs.Events.{with_events};
 ghost use Rattle.fdp_records.specs.Limits.{is_within_limits};
 ghost use Rattle.fdp_rules.specs.Events.{write_events};
-ghost use Rattle.fdp_readings.specs.Changes.{completed};
+ghost use Rattle.fdp_durability.specs.fdp_readings.Changes.{completed};
 ghost use Rattle.fdp_rules.specs.PlainState.{Going};
 ghost use Rattle.fdp_rules.specs.Step.{IsPage, MaySucceed};
 
@@ -22,10 +22,10 @@ use crate::lists::{give, take};
 use crate::saving::save;
 use fdp_base::{DriveConfig, Sequence, Spot, Totals};
 use fdp_book::{Book, Ticket};
+use fdp_durability::{Saved, Saver};
 use fdp_flash::Flash;
 use fdp_outline::Outline;
 use fdp_records::Change;
-use fdp_saving::{Saved, Saver};
 use std::alloc::Global;
 
 /// Saves a going write that may succeed. The outline goes on with its event, unless the answer is that it was not saved.

@@ -2,7 +2,5 @@
 #![tactic(auto)]
 
 mod least;
-#[cfg(test)]
-mod tests;
 
 pub use least::Least;

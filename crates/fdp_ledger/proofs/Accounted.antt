@@ -10,7 +10,7 @@ use Rattle.fdp_base.specs.Counts.{Rose}
 use Rattle.fdp_base.proofs.Sums.{count_from}
 use Rattle.fdp_base.specs.EntryKinds.{unit_erased, unit_filled}
 use Rattle.fdp_calls.specs.Calls.{erase_at, program_at}
-use Rattle.fdp_collector.proofs.Kept.{unit-was}
+use Rattle.fdp_book.proofs.fdp_collector.Kept.{unit-was}
 use Rattle.fdp_flash.specs.Cells.{IsBlankUnit}
 use Rattle.fdp_flash.specs.FlashState.{Call, FlashState}
 use Rattle.fdp_units.specs.declared.state.UnitState.{UnitState}

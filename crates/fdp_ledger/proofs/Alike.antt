@@ -6,7 +6,7 @@ use Rattle.fdp_base.specs.declared.entry.Entry.{Entry}
 use Rattle.fdp_book.specs.Book.{BookSeen, state_in}
 use Rattle.fdp_flash.specs.declared.cell.Cell.{Cell}
 use Rattle.fdp_flash.specs.FlashState.{FlashState}
-use Rattle.fdp_pages.specs.PageTables.{PageTables}
+use Rattle.fdp_book.specs.fdp_pages.PageTables.{PageTables}
 use Rattle.fdp_rules.specs.History.{Found, point_of}
 use Rattle.fdp_units.specs.UnitTable.{IsGroup}
 use Rattle.fdp_ledger.specs.declared.counts.Counts.{Counts}

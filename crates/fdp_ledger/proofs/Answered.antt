@@ -11,8 +11,8 @@ use Rattle.fdp_book.specs.Book.{BookSeen, state_in}
 use Rattle.fdp_book.specs.Steps.{Completes}
 use Rattle.fdp_calls.specs.Calls.{counted_more}
 use Rattle.fdp_flash.specs.FlashState.{FlashState}
-use Rattle.fdp_pages.specs.PageTables.{PageTables, passes_at}
-use Rattle.fdp_pages.specs.Steps.{ChangesOwners, LeavesUnits}
+use Rattle.fdp_book.specs.fdp_pages.PageTables.{PageTables, passes_at}
+use Rattle.fdp_book.specs.fdp_pages.Steps.{ChangesOwners, LeavesUnits}
 use Rattle.fdp_passes.specs.GroupPasses.{GroupPasses, Pass}
 use Rattle.fdp_passes.specs.Place.{has_taken}
 use Rattle.fdp_rules.specs.Change.{is_media_error}

@@ -14,20 +14,20 @@ use Rattle.fdp_book.specs.Book.{BookSeen, state_in, written_in}
 use Rattle.fdp_book.specs.Relocating.{Relocates, told_by}
 use Rattle.fdp_book.specs.Tickets.{IsNextSpot}
 use Rattle.fdp_calls.specs.Media.{IsProgrammedTo, IsReadFrom}
-use Rattle.fdp_collector.specs.declared.step.Lost.TheVariants as lost
-use Rattle.fdp_collector.specs.declared.step.Step.{Step}
-use Rattle.fdp_collector.specs.declared.step.Step.TheVariants as steps
-use Rattle.fdp_collector.proofs.Kept.{group-kept, unit-was}
+use Rattle.fdp_book.specs.fdp_collector.declared.step.Lost.TheVariants as lost
+use Rattle.fdp_book.specs.fdp_collector.declared.step.Step.{Step}
+use Rattle.fdp_book.specs.fdp_collector.declared.step.Step.TheVariants as steps
+use Rattle.fdp_book.proofs.fdp_collector.Kept.{group-kept, unit-was}
 use Rattle.fdp_flash.specs.declared.cell.Cell.{Cell}
 use Rattle.fdp_flash.specs.declared.cell.Cell.TheVariants.{Whole}
 use Rattle.fdp_flash.specs.Cells.{IsBlankUnit}
 use Rattle.fdp_flash.specs.FlashState.{FlashState}
 use Rattle.fdp_flash.specs.Layout.{page_number}
-use Rattle.fdp_locations.specs.Located.{AreUnitsOf}
-use Rattle.fdp_locations.specs.Stored.{HoldsWritten}
-use Rattle.fdp_pages.specs.Joined.{AreJoined}
-use Rattle.fdp_pages.specs.PageTables.{PageTables}
-use Rattle.fdp_pages.specs.Steps.{ChangesOwners}
+use Rattle.fdp_book.specs.fdp_locations.Located.{AreUnitsOf}
+use Rattle.fdp_book.specs.fdp_locations.Stored.{HoldsWritten}
+use Rattle.fdp_book.specs.fdp_pages.Joined.{AreJoined}
+use Rattle.fdp_book.specs.fdp_pages.PageTables.{PageTables}
+use Rattle.fdp_book.specs.fdp_pages.Steps.{ChangesOwners}
 use Rattle.fdp_rules.specs.PlainState.{Going}
 use Rattle.fdp_units.specs.UnitTable.{HasNoFree, UnitTable}
 use Rattle.fdp_ledger.specs.Calls.{FailsToProgram}

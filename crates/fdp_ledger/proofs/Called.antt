@@ -6,7 +6,7 @@ use Rattle.std.proofs.lemmas.List.{append-nil, drop-append-le}
 use Rattle.std.proofs.lemmas.List.Folds.{list_any-append}
 use Rattle.fdp_base.specs.declared.entry.Spot.{Spot}
 use Rattle.fdp_calls.specs.Calls.{MakesCalls, erase_at, program_at}
-use Rattle.fdp_collector.specs.Step.{IsUncalled}
+use Rattle.fdp_book.specs.fdp_collector.Step.{IsUncalled}
 use Rattle.fdp_flash.specs.declared.answer.Operation.{Operation}
 use Rattle.fdp_flash.specs.declared.answer.Operation.TheVariants.{Erase, Fetch, Look, Program}
 use Rattle.fdp_flash.specs.declared.answer.Wrote.{Wrote}

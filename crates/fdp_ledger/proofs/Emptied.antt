@@ -9,7 +9,7 @@ use Rattle.fdp_base.specs.declared.config.Geometry.{Geometry}
 use Rattle.fdp_base.specs.declared.entry.Entry.{Entry}
 use Rattle.fdp_base.specs.declared.entry.Spot.{Spot}
 use Rattle.fdp_calls.proofs.Made.{any-first, any-second}
-use Rattle.fdp_collector.specs.Copying.{IsSameBut}
+use Rattle.fdp_book.specs.fdp_collector.Copying.{IsSameBut}
 use Rattle.fdp_flash.specs.declared.cell.Cell.{Cell}
 use Rattle.fdp_flash.specs.declared.cell.Cell.TheVariants.{Blank, Whole}
 use Rattle.fdp_flash.specs.Cells.{IsBlankUnit, IsSameOutside, ProgramMayLeave}

@@ -5,10 +5,10 @@ use Rattle.std.specs.Option.{option_map_or}
 use Rattle.std.proofs.lemmas.Bool.{cases_eq}
 use Rattle.fdp_base.specs.declared.entry.Copied.{Copied}
 use Rattle.fdp_base.proofs.Sums.{count_from, count_from-one, count_from-same, counting, sum_from-zero}
-use Rattle.fdp_collector.specs.Ready.{IsUnitOf, Relocation}
-use Rattle.fdp_collector.specs.Step.{AddsCopy}
-use Rattle.fdp_collector.proofs.Kept.{group-kept, unit-was}
-use Rattle.fdp_pages.specs.PageTables.{PageTables, passes_at}
+use Rattle.fdp_book.specs.fdp_collector.Ready.{IsUnitOf, Relocation}
+use Rattle.fdp_book.specs.fdp_collector.Step.{AddsCopy}
+use Rattle.fdp_book.proofs.fdp_collector.Kept.{group-kept, unit-was}
+use Rattle.fdp_book.specs.fdp_pages.PageTables.{PageTables, passes_at}
 use Rattle.fdp_passes.specs.declared.lane.Lane.{Lane}
 use Rattle.fdp_passes.specs.GroupPasses.{GroupPasses, Pass, begun, with_copy}
 use Rattle.fdp_passes.specs.Place.{has_taken}

@@ -16,7 +16,7 @@ use Rattle.fdp_calls.proofs.Made.{counted_more-add, counted_more-none}
 use Rattle.fdp_flash.specs.declared.cell.Cell.{Cell}
 use Rattle.fdp_flash.specs.Cells.{IsBlankUnit}
 use Rattle.fdp_flash.specs.FlashState.{Call, FlashState}
-use Rattle.fdp_pages.specs.PageTables.{PageTables, passes_at}
+use Rattle.fdp_book.specs.fdp_pages.PageTables.{PageTables, passes_at}
 use Rattle.fdp_passes.specs.Place.{has_taken}
 use Rattle.fdp_rules.specs.History.{Found}
 use Rattle.fdp_rules.specs.Totals.{media_blocks, media_blocks_of}

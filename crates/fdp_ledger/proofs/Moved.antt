@@ -6,14 +6,14 @@ use Rattle.std.proofs.lemmas.Bool.{cases_eq}
 use Rattle.fdp_base.specs.declared.entry.Entry.TheVariants as entries
 use Rattle.fdp_book.specs.Book.{BookSeen, point_in, state_in}
 use Rattle.fdp_book.specs.Relocating.{MovesPass}
-use Rattle.fdp_collector.specs.Step.{IsUncalled}
+use Rattle.fdp_book.specs.fdp_collector.Step.{IsUncalled}
 use Rattle.fdp_flash.specs.declared.cell.Cell.{Cell}
 use Rattle.fdp_flash.specs.FlashState.{FlashState}
 use Rattle.fdp_flash.specs.Runs.{Runs}
-use Rattle.fdp_pages.specs.Joined.{AreJoined}
-use Rattle.fdp_pages.specs.PageTables.{no_passes, passes_at}
-use Rattle.fdp_pages.specs.Steps.{ended_move}
-use Rattle.fdp_pages.proofs.Regrouped.{group-low, passes-here, passes-there}
+use Rattle.fdp_book.specs.fdp_pages.Joined.{AreJoined}
+use Rattle.fdp_book.specs.fdp_pages.PageTables.{no_passes, passes_at}
+use Rattle.fdp_book.specs.fdp_pages.Steps.{ended_move}
+use Rattle.fdp_book.proofs.fdp_pages.Regrouped.{group-low, passes-here, passes-there}
 use Rattle.fdp_passes.specs.GroupPasses.{GroupPasses, Pass, without_copies}
 use Rattle.fdp_passes.specs.Place.{has_taken}
 use Rattle.fdp_rules.specs.Sites.{moved_blocks}

@@ -18,11 +18,11 @@ use Rattle.fdp_flash.specs.declared.cell.Cell.TheVariants.{Blank, Whole}
 use Rattle.fdp_flash.specs.Cells.{IsBlankUnit}
 use Rattle.fdp_flash.specs.FlashState.{FlashState}
 use Rattle.fdp_flash.specs.Layout.{page_number}
-use Rattle.fdp_locations.specs.Located.{AreUnitsOf}
-use Rattle.fdp_locations.specs.Stored.{HoldsWritten}
-use Rattle.fdp_pages.specs.Joined.{AreJoined}
-use Rattle.fdp_pages.specs.PageTables.{left_of, passes_at, unit_of}
-use Rattle.fdp_pages.proofs.Next.{IsNextPage, next-page}
+use Rattle.fdp_book.specs.fdp_locations.Located.{AreUnitsOf}
+use Rattle.fdp_book.specs.fdp_locations.Stored.{HoldsWritten}
+use Rattle.fdp_book.specs.fdp_pages.Joined.{AreJoined}
+use Rattle.fdp_book.specs.fdp_pages.PageTables.{left_of, passes_at, unit_of}
+use Rattle.fdp_book.proofs.fdp_pages.Next.{IsNextPage, next-page}
 use Rattle.fdp_passes.specs.GroupPasses.{GroupPasses}
 use Rattle.fdp_passes.specs.Place.{has_taken}
 use Rattle.fdp_rules.specs.PlainState.{Going, Reference}

@@ -15,9 +15,9 @@ use Rattle.fdp_flash.specs.declared.cell.Cell.TheVariants.{Blank, Torn, Whole}
 use Rattle.fdp_flash.specs.Cells.{IsBlankUnit}
 use Rattle.fdp_flash.specs.FlashState.{FlashState}
 use Rattle.fdp_flash.specs.Layout.{first_page}
-use Rattle.fdp_locations.specs.Located.{AreUnitsOf}
-use Rattle.fdp_locations.proofs.Others.{is-group}
-use Rattle.fdp_trails.proofs.Hits.{sum_from-most}
+use Rattle.fdp_book.specs.fdp_locations.Located.{AreUnitsOf}
+use Rattle.fdp_book.proofs.fdp_locations.Others.{is-group}
+use Rattle.fdp_book.proofs.fdp_trails.Hits.{sum_from-most}
 use Rattle.fdp_units.specs.DataUnits.{is_free, is_lost}
 use Rattle.fdp_units.specs.UnitTable.{Cut, HasNoFree, IsGroup, IsUnit, UnitTable, state_at}
 use Rattle.fdp_units.proofs.Tables.{group-of-place, unit-there}

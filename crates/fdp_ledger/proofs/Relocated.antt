@@ -15,14 +15,14 @@ use Rattle.fdp_book.specs.Book.{BookSeen, IsLonger, point_in, state_in, written_
 use Rattle.fdp_book.specs.Relocating.{Relocates, told_by}
 use Rattle.fdp_calls.specs.Calls.{erase_at, fetch_at, program_at}
 use Rattle.fdp_calls.proofs.Made.{counted_more-one}
-use Rattle.fdp_collector.specs.declared.step.Lost.TheVariants as lost
-use Rattle.fdp_collector.specs.declared.step.Step.{Step}
-use Rattle.fdp_collector.specs.declared.step.Step.TheVariants as steps
-use Rattle.fdp_collector.specs.Copying.{Copies}
-use Rattle.fdp_collector.specs.Ready.{IsReady, Relocation, lane_at}
-use Rattle.fdp_collector.specs.Step.{AddsCopy, EndsInErase, IsStarved, IsStep, IsUnread, Rests, SkipsPage}
-use Rattle.fdp_collector.proofs.Kept.{changed-here}
-use Rattle.fdp_collector.proofs.Readied.{IsHaving, IsTaking, emptied-unit}
+use Rattle.fdp_book.specs.fdp_collector.declared.step.Lost.TheVariants as lost
+use Rattle.fdp_book.specs.fdp_collector.declared.step.Step.{Step}
+use Rattle.fdp_book.specs.fdp_collector.declared.step.Step.TheVariants as steps
+use Rattle.fdp_book.specs.fdp_collector.Copying.{Copies}
+use Rattle.fdp_book.specs.fdp_collector.Ready.{IsReady, Relocation, lane_at}
+use Rattle.fdp_book.specs.fdp_collector.Step.{AddsCopy, EndsInErase, IsStarved, IsStep, IsUnread, Rests, SkipsPage}
+use Rattle.fdp_book.proofs.fdp_collector.Kept.{changed-here}
+use Rattle.fdp_book.proofs.fdp_collector.Readied.{IsHaving, IsTaking, emptied-unit}
 use Rattle.fdp_flash.specs.declared.answer.Wrote.TheVariants as wrote
 use Rattle.fdp_flash.specs.declared.cell.Cell.{Cell}
 use Rattle.fdp_flash.specs.declared.cell.Cell.TheVariants.{Blank}
@@ -30,15 +30,15 @@ use Rattle.fdp_flash.specs.Cells.{IsBlankUnit}
 use Rattle.fdp_flash.specs.FlashState.{Call, FlashState}
 use Rattle.fdp_flash.specs.Layout.{page_number}
 use Rattle.fdp_flash.specs.Runs.{Runs}
-use Rattle.fdp_locations.specs.Located.{AreUnitsOf}
-use Rattle.fdp_locations.specs.Stored.{HoldsWritten}
-use Rattle.fdp_locations.proofs.Copying.{copy-free, copy-to}
-use Rattle.fdp_locations.proofs.Others.{is-group}
+use Rattle.fdp_book.specs.fdp_locations.Located.{AreUnitsOf}
+use Rattle.fdp_book.specs.fdp_locations.Stored.{HoldsWritten}
+use Rattle.fdp_book.proofs.fdp_locations.Copying.{copy-free, copy-to}
+use Rattle.fdp_book.proofs.fdp_locations.Others.{is-group}
 use Rattle.fdp_owners.specs.declared.owner.Owner.{Owner}
 use Rattle.fdp_owners.specs.OwnerTable.{owner_at}
-use Rattle.fdp_pages.specs.Joined.{AreJoined}
-use Rattle.fdp_pages.specs.PageTables.{PageTables, passes_at, relocation_at}
-use Rattle.fdp_pages.proofs.Regrouped.{passes-there}
+use Rattle.fdp_book.specs.fdp_pages.Joined.{AreJoined}
+use Rattle.fdp_book.specs.fdp_pages.PageTables.{PageTables, passes_at, relocation_at}
+use Rattle.fdp_book.proofs.fdp_pages.Regrouped.{passes-there}
 use Rattle.fdp_passes.specs.declared.due.Due.TheVariants as due
 use Rattle.fdp_passes.specs.declared.lane.Lane.{Lane}
 use Rattle.fdp_passes.specs.Due.{IsDue}

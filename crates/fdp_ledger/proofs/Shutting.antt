@@ -13,9 +13,9 @@ use Rattle.fdp_book.specs.Shutting.{ShutsAndEnds}
 use Rattle.fdp_book.specs.Tickets.{IsNextSpot}
 use Rattle.fdp_calls.specs.Calls.{program_at}
 use Rattle.fdp_flash.specs.FlashState.{FlashState}
-use Rattle.fdp_locations.specs.Located.{AreUnitsOf}
-use Rattle.fdp_locations.specs.Stored.{HoldsWritten}
-use Rattle.fdp_pages.specs.Joined.{AreJoined}
+use Rattle.fdp_book.specs.fdp_locations.Located.{AreUnitsOf}
+use Rattle.fdp_book.specs.fdp_locations.Stored.{HoldsWritten}
+use Rattle.fdp_book.specs.fdp_pages.Joined.{AreJoined}
 use Rattle.fdp_rules.specs.Answer.{bare}
 use Rattle.fdp_rules.specs.Change.{is_media_error}
 use Rattle.fdp_rules.specs.PlainState.{Going}

@@ -6,7 +6,7 @@ use Rattle.fdp_book.specs.declared.ticket.Ticket.{Ticket}
 use Rattle.fdp_book.specs.Book.{BookSeen, state_in}
 use Rattle.fdp_book.specs.Steps.{Starts}
 use Rattle.fdp_flash.specs.FlashState.{FlashState}
-use Rattle.fdp_pages.specs.Steps.{ChangesOwners}
+use Rattle.fdp_book.specs.fdp_pages.Steps.{ChangesOwners}
 use Rattle.fdp_ledger.specs.declared.counts.Counts.{Counts}
 use Rattle.fdp_ledger.specs.Start.{start_of}
 use Rattle.fdp_ledger.specs.Ledger.{IsLedger}

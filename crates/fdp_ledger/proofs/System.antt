@@ -16,7 +16,7 @@ use Rattle.fdp_flash.specs.FlashState.{Call, FlashState}
 use Rattle.fdp_flash.specs.Layout.{first_page}
 use Rattle.fdp_image.specs.Areas.{data_pages}
 use Rattle.fdp_image.specs.Saving.{SameDataPages}
-use Rattle.fdp_locations.specs.Located.{AreUnitsOf}
+use Rattle.fdp_book.specs.fdp_locations.Located.{AreUnitsOf}
 use Rattle.fdp_units.specs.UnitTable.{Cut, IsUnit}
 use Rattle.fdp_ledger.specs.declared.counts.Counts.{Counts}
 use Rattle.fdp_ledger.specs.Emptied.{OnlyErasesEmpty}

@@ -4,18 +4,18 @@ use Rattle.std.specs.Prelude.{◌||◌, nat_lt, if◌then◌else◌}
 use Rattle.std.proofs.lemmas.Bool.{cases_eq}
 use Rattle.fdp_base.specs.declared.config.Class.{Class}
 use Rattle.fdp_base.specs.declared.entry.Spot.{Spot}
-use Rattle.fdp_collector.specs.Ready.{IsReady, Relocation}
-use Rattle.fdp_collector.specs.Step.{EndsInErase, GoesAside}
-use Rattle.fdp_collector.proofs.Kept.{changed-here, changed-other}
-use Rattle.fdp_collector.proofs.Readied.{IsHaving, IsTaking, open-cut, open-unit, target-of}
+use Rattle.fdp_book.specs.fdp_collector.Ready.{IsReady, Relocation}
+use Rattle.fdp_book.specs.fdp_collector.Step.{EndsInErase, GoesAside}
+use Rattle.fdp_book.proofs.fdp_collector.Kept.{changed-here, changed-other}
+use Rattle.fdp_book.proofs.fdp_collector.Readied.{IsHaving, IsTaking, open-cut, open-unit, target-of}
 use Rattle.fdp_flash.specs.declared.answer.Wrote.TheVariants as wrote
 use Rattle.fdp_flash.specs.FlashState.{FlashState}
 use Rattle.fdp_owners.specs.OwnerTable.{OwnerTable}
-use Rattle.fdp_pages.specs.Joined.{AreJoined}
-use Rattle.fdp_pages.specs.PageTables.{PageTables}
-use Rattle.fdp_pages.specs.Steps.{IsLeft, MayPut, Recounts, closed_after, taken}
-use Rattle.fdp_pages.proofs.Next.{next-page}
-use Rattle.fdp_pages.proofs.Used.{used-state}
+use Rattle.fdp_book.specs.fdp_pages.Joined.{AreJoined}
+use Rattle.fdp_book.specs.fdp_pages.PageTables.{PageTables}
+use Rattle.fdp_book.specs.fdp_pages.Steps.{IsLeft, MayPut, Recounts, closed_after, taken}
+use Rattle.fdp_book.proofs.fdp_pages.Next.{next-page}
+use Rattle.fdp_book.proofs.fdp_pages.Used.{used-state}
 use Rattle.fdp_passes.specs.declared.lane.Lane.{Lane}
 use Rattle.fdp_passes.specs.GroupPasses.{GroupPasses}
 use Rattle.fdp_passes.specs.Targets.{OpensPage, Starves, UsesPage}

@@ -8,7 +8,7 @@ use Rattle.fdp_ledger.specs.Ledger.{is_vain}
 use Rattle.fdp_ledger.specs.Uses.{RunStart, used_by}
 use Rattle.fdp_ledger.proofs.Entries.{SaysNothing}
 use Rattle.fdp_ledger.proofs.Units.{FillsUnit, FreesUnit, KeepsUnits}
-use Rattle.fdp_pages.proofs.Counts.{fewer-counted}
+use Rattle.fdp_book.proofs.fdp_pages.Counts.{fewer-counted}
 use Rattle.fdp_units.specs.declared.state.UnitState.{UnitState}
 use Rattle.fdp_units.specs.DataUnits.{is_free}
 use Rattle.fdp_units.specs.UnitTable.{Cut, UnitTable, cut_of, state_at}

@@ -7,7 +7,7 @@ use Rattle.fdp_book.specs.Book.{BookSeen, state_in}
 use Rattle.fdp_calls.specs.Calls.{counted_more}
 use Rattle.fdp_flash.specs.Cells.{IsBlankUnit}
 use Rattle.fdp_flash.specs.FlashState.{FlashState}
-use Rattle.fdp_pages.specs.PageTables.{PageTables, passes_at}
+use Rattle.fdp_book.specs.fdp_pages.PageTables.{PageTables, passes_at}
 use Rattle.fdp_passes.specs.Place.{has_taken}
 use Rattle.fdp_units.specs.DataUnits.{is_free, is_lost}
 use Rattle.fdp_units.specs.UnitTable.{IsGroup, IsUnit, UnitTable, count_in, group_in, state_at}

@@ -8,11 +8,11 @@ use Rattle.fdp_base.specs.declared.entry.Entry.{Entry}
 use Rattle.fdp_base.specs.declared.entry.Entry.TheVariants as entries
 use Rattle.fdp_base.specs.Geometry.{all_pages, all_units, data_units}
 use Rattle.fdp_base.specs.Placement.{geometry_of}
-use Rattle.fdp_book.specs.Book.{BookSeen, point_in, state_in, written_in}
-use Rattle.fdp_durability.specs.Beginnings.{CanBeSaved}
-use Rattle.fdp_durability.specs.Saved.{SavesDrive}
-use Rattle.fdp_durability.proofs.Durable.{durable-stands}
-use Rattle.fdp_durability.proofs.Savings.{checkpoint-done}
+use Rattle.fdp_keeper.specs.fdp_book.Book.{BookSeen, point_in, state_in, written_in}
+use Rattle.fdp_keeper.specs.fdp_durability.Beginnings.{CanBeSaved}
+use Rattle.fdp_keeper.specs.fdp_durability.Saved.{SavesDrive}
+use Rattle.fdp_keeper.proofs.fdp_durability.Durable.{durable-stands}
+use Rattle.fdp_keeper.proofs.fdp_durability.Savings.{checkpoint-done}
 use Rattle.fdp_flash.specs.declared.answer.Wrote.{Wrote}
 use Rattle.fdp_flash.specs.declared.answer.Wrote.TheVariants as wrote
 use Rattle.fdp_flash.specs.declared.cell.Cell.{Cell}
@@ -23,18 +23,18 @@ use Rattle.fdp_flash.specs.Layout.{first_page}
 use Rattle.fdp_flash.proofs.Failing.{failed_behind}
 use Rattle.fdp_flash.proofs.Lists.{slice_get-replicate}
 use Rattle.fdp_flash.proofs.Runs.{runs_joined, runs_weakened}
-use Rattle.fdp_found.proofs.Paging.{blank-tested}
-use Rattle.fdp_found.proofs.Reopening.{legal-opened}
+use Rattle.fdp_keeper.proofs.fdp_found.Paging.{blank-tested}
+use Rattle.fdp_keeper.proofs.fdp_found.Reopening.{legal-opened}
 use Rattle.fdp_image.specs.Checkpoint.{reading_of_state}
 use Rattle.fdp_image.specs.Kept.{StandsForBeginning}
 use Rattle.fdp_image.specs.Roomy.{is_blank_unit}
 use Rattle.fdp_image.specs.Saving.{SameDataPages}
-use Rattle.fdp_isolation.specs.Begun.{OpenedApart}
-use Rattle.fdp_isolation.specs.Laned.{AreLaned}
-use Rattle.fdp_isolation.proofs.Found.{laned-found}
-use Rattle.fdp_isolation.proofs.Promised.{laned-fresh}
-use Rattle.fdp_isolation.proofs.Saved.{holds-saved}
-use Rattle.fdp_journal.specs.JournalState.{JournalState}
+use Rattle.fdp_survival.specs.fdp_isolation.Begun.{OpenedApart}
+use Rattle.fdp_survival.specs.fdp_isolation.Laned.{AreLaned}
+use Rattle.fdp_survival.proofs.fdp_isolation.Found.{laned-found}
+use Rattle.fdp_survival.proofs.fdp_isolation.Promised.{laned-fresh}
+use Rattle.fdp_survival.proofs.fdp_isolation.Saved.{holds-saved}
+use Rattle.fdp_keeper.specs.fdp_journal.JournalState.{JournalState}
 use Rattle.fdp_keeper.specs.Keeper.{KeeperSeen, KeepsDrive}
 use Rattle.fdp_ledger.specs.Counted.{counts_of}
 use Rattle.fdp_ledger.specs.Ledger.{IsLedger}
@@ -49,11 +49,11 @@ use Rattle.fdp_loading.proofs.Blank.{blank-unit_from}
 use Rattle.fdp_loading.proofs.Drawing.{media-none, media-reopened}
 use Rattle.fdp_loading.proofs.Looked.{IsAlike, alike-looks}
 use Rattle.fdp_loading.proofs.Unwritten.{free-first}
-use Rattle.fdp_locations.specs.Stored.{HoldsWritten}
-use Rattle.fdp_recovery.specs.declared.opened.OpenFault.{OpenFault}
-use Rattle.fdp_recovery.specs.declared.opened.OpenFault.TheVariants as faults
-use Rattle.fdp_recovery.specs.Opened.{IsFresh}
-use Rattle.fdp_recovery.specs.Walking.{OnlyLooks}
+use Rattle.fdp_keeper.specs.fdp_locations.Stored.{HoldsWritten}
+use Rattle.fdp_keeper.specs.fdp_recovery.declared.opened.OpenFault.{OpenFault}
+use Rattle.fdp_keeper.specs.fdp_recovery.declared.opened.OpenFault.TheVariants as faults
+use Rattle.fdp_keeper.specs.fdp_recovery.Opened.{IsFresh}
+use Rattle.fdp_keeper.specs.fdp_recovery.Walking.{OnlyLooks}
 use Rattle.fdp_rules.specs.History.{Found, point_of}
 use Rattle.fdp_rules.specs.Legal.{IsLegal, IsLegalAfter}
 use Rattle.fdp_survival.specs.Books.{IsSafe, Survives}

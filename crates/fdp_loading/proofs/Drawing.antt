@@ -7,21 +7,21 @@ use Rattle.fdp_base.specs.declared.entry.Entry.TheVariants as entries
 use Rattle.fdp_base.specs.declared.event.Event.{Event}
 use Rattle.fdp_base.specs.declared.entry.Spot.{Spot}
 use Rattle.fdp_flash.specs.declared.cell.Cell.{Cell}
-use Rattle.fdp_found.specs.Beginning.{CanBegin}
-use Rattle.fdp_found.specs.Finding.{found_in}
-use Rattle.fdp_found.proofs.Stating.{state-found}
+use Rattle.fdp_keeper.specs.fdp_found.Beginning.{CanBegin}
+use Rattle.fdp_keeper.specs.fdp_found.Finding.{found_in}
+use Rattle.fdp_keeper.proofs.fdp_found.Stating.{state-found}
 use Rattle.fdp_image.specs.Checkpoint.{reading_of_state}
 use Rattle.fdp_image.specs.Outline.{state_with}
 use Rattle.fdp_image.specs.Valid.{IsValid, state_in}
-use Rattle.fdp_locations.specs.Written.{Written, written_by, written_from}
-use Rattle.fdp_outline.specs.Outline.{IsOutlineOf}
-use Rattle.fdp_readings.specs.Drawn.{drawn}
+use Rattle.fdp_keeper.specs.fdp_locations.Written.{Written, written_by, written_from}
+use Rattle.fdp_keeper.specs.fdp_outline.Outline.{IsOutlineOf}
+use Rattle.fdp_keeper.specs.fdp_readings.Drawn.{drawn}
 use Rattle.fdp_rules.specs.Change.{after, changed_by}
 use Rattle.fdp_rules.specs.Events.{kept_from, latest}
 use Rattle.fdp_rules.specs.History.{Found, controller_events_of, events_of, first_state, host_events_of, point_of, state_of, totals_of}
 use Rattle.fdp_rules.specs.PlainState.{PlainState}
 use Rattle.fdp_snapshot.specs.declared.state.State.{State}
-use Rattle.fdp_state.specs.Loaded.{NamesSizes}
+use Rattle.fdp_keeper.specs.fdp_state.Loaded.{NamesSizes}
 
 latest-few : (xs : List Event) → length xs ≤ 32 → xs ≡ latest (xs ++ [])
 latest-few xs few = sym (ap latest (append-nil xs) ∙ all) where

@@ -5,7 +5,7 @@ use Rattle.fdp_flash.specs.declared.cell.Cell.{Cell}
 use Rattle.fdp_flash.specs.FlashState.{FlashState}
 use Rattle.fdp_flash.specs.OnlyReads.{ReadsOnly}
 use Rattle.fdp_flash.proofs.OnlyReads.{no_read, reads_joined}
-use Rattle.fdp_recovery.specs.Walking.{OnlyLooks}
+use Rattle.fdp_keeper.specs.fdp_recovery.Walking.{OnlyLooks}
 
 -- a flash with the same cut, and the same cells where it tells them
 pub record IsAlike (old new : FlashState) : Type 0 where

@@ -10,19 +10,19 @@ use Rattle.fdp_base.specs.declared.entry.Entry.TheVariants as entries
 use Rattle.fdp_base.specs.declared.entry.Spot.{Spot}
 use Rattle.fdp_base.specs.Config.{IsValidConfig}
 use Rattle.fdp_base.specs.Placement.{geometry_of}
-use Rattle.fdp_book.specs.Book.{BookSeen, first_in, point_in, written_in}
-use Rattle.fdp_book.specs.Reopened.{IsReopened, cells_found}
-use Rattle.fdp_durability.specs.Beginnings.{NamesUsed}
-use Rattle.fdp_durability.specs.Durable.{IsDurable}
-use Rattle.fdp_durability.proofs.Starting.{begun-found}
+use Rattle.fdp_keeper.specs.fdp_book.Book.{BookSeen, first_in, point_in, written_in}
+use Rattle.fdp_keeper.specs.fdp_book.Reopened.{IsReopened, cells_found}
+use Rattle.fdp_keeper.specs.fdp_durability.Beginnings.{NamesUsed}
+use Rattle.fdp_keeper.specs.fdp_durability.Durable.{IsDurable}
+use Rattle.fdp_keeper.proofs.fdp_durability.Starting.{begun-found}
 use Rattle.fdp_flash.specs.declared.cell.Cell.{Cell}
 use Rattle.fdp_flash.specs.FlashState.{FlashState}
-use Rattle.fdp_found.specs.Beginning.{CanBegin}
-use Rattle.fdp_found.specs.Finding.{found_in}
-use Rattle.fdp_found.specs.Told.{opened_cells}
-use Rattle.fdp_found.proofs.Loaded.{loaded-begins}
-use Rattle.fdp_found.proofs.Opening.{holds-opened}
-use Rattle.fdp_found.proofs.Stating.{stands-found}
+use Rattle.fdp_keeper.specs.fdp_found.Beginning.{CanBegin}
+use Rattle.fdp_keeper.specs.fdp_found.Finding.{found_in}
+use Rattle.fdp_keeper.specs.fdp_found.Told.{opened_cells}
+use Rattle.fdp_keeper.proofs.fdp_found.Loaded.{loaded-begins}
+use Rattle.fdp_keeper.proofs.fdp_found.Opening.{holds-opened}
+use Rattle.fdp_keeper.proofs.fdp_found.Stating.{stands-found}
 use Rattle.fdp_image.specs.Areas.{Sealed, current_area}
 use Rattle.fdp_image.specs.Checkpoint.{reading_of_state}
 use Rattle.fdp_image.specs.Reading.{Reading, spot_of}
@@ -30,27 +30,27 @@ use Rattle.fdp_image.specs.Reads.{is_spent}
 use Rattle.fdp_image.specs.Roomy.{is_blank_unit}
 use Rattle.fdp_image.specs.StandsFor.{StandsFor}
 use Rattle.fdp_image.specs.Valid.{IsValid}
-use Rattle.fdp_journal.specs.JournalState.{JournalState}
+use Rattle.fdp_keeper.specs.fdp_journal.JournalState.{JournalState}
 use Rattle.fdp_keeper.specs.Keeper.{KeeperSeen}
 use Rattle.fdp_loading.specs.Begun.{Begins}
 use Rattle.fdp_loading.specs.Loaded.{IsPrepared}
 use Rattle.fdp_loading.specs.Made.{IsFoundDrive}
 use Rattle.fdp_loading.proofs.Drawing.{outline-found, position-drawn, written-reopened}
-use Rattle.fdp_locations.specs.Held.{pages_held}
-use Rattle.fdp_locations.specs.Stored.{HoldsWritten}
-use Rattle.fdp_locations.specs.Written.{Written, written_by}
-use Rattle.fdp_opening.specs.Found.{IsFoundIn}
-use Rattle.fdp_outline.specs.Outline.{IsOutlineOf}
+use Rattle.fdp_keeper.specs.fdp_locations.Held.{pages_held}
+use Rattle.fdp_keeper.specs.fdp_locations.Stored.{HoldsWritten}
+use Rattle.fdp_keeper.specs.fdp_locations.Written.{Written, written_by}
+use Rattle.fdp_keeper.specs.fdp_opening.Found.{IsFoundIn}
+use Rattle.fdp_keeper.specs.fdp_outline.Outline.{IsOutlineOf}
 use Rattle.fdp_owners.specs.declared.owner.Owner.{Owner}
 use Rattle.fdp_owners.specs.OwnerTable.{owner_at}
-use Rattle.fdp_readings.specs.Drawn.{drawn}
-use Rattle.fdp_recovery.specs.Opened.{CanGoOn, IsFound}
+use Rattle.fdp_keeper.specs.fdp_readings.Drawn.{drawn}
+use Rattle.fdp_keeper.specs.fdp_recovery.Opened.{CanGoOn, IsFound}
 use Rattle.fdp_rules.proofs.Pushes.{point_of-push}
 use Rattle.fdp_rules.specs.History.{Found, point_of}
 use Rattle.fdp_rules.specs.Next.{next}
 use Rattle.fdp_rules.specs.Point.{Point}
-use Rattle.fdp_saving.specs.Saver.{IsSaverIn, first_saver}
-use Rattle.fdp_saving.proofs.Beginning.{found_stands}
+use Rattle.fdp_keeper.specs.fdp_saving.Saver.{IsSaverIn, first_saver}
+use Rattle.fdp_keeper.proofs.fdp_saving.Beginning.{found_stands}
 use Rattle.fdp_snapshot.specs.declared.state.State.{State}
 use Rattle.fdp_units.specs.declared.state.UnitState.{UnitState}
 use Rattle.fdp_units.specs.declared.state.UnitState.TheVariants.{Closed, Free}

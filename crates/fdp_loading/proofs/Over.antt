@@ -4,8 +4,8 @@ use Rattle.std.specs.Prelude.{IfErr, IfOk, IsFalse, Result, Ok, Err}
 use Rattle.fdp_base.specs.declared.config.DriveConfig.{DriveConfig}
 use Rattle.fdp_base.specs.Config.{IsValidConfig}
 use Rattle.fdp_base.specs.Placement.{geometry_of}
-use Rattle.fdp_book.specs.Book.{BookSeen, written_in}
-use Rattle.fdp_durability.specs.Durable.{IsDurable}
+use Rattle.fdp_keeper.specs.fdp_book.Book.{BookSeen, written_in}
+use Rattle.fdp_keeper.specs.fdp_durability.Durable.{IsDurable}
 use Rattle.fdp_flash.specs.FlashState.{FlashState, IsWellFormed}
 use Rattle.fdp_flash.proofs.Failing.{failed_behind}
 use Rattle.fdp_image.specs.Checkpoint.{reading_of_state}
@@ -20,13 +20,13 @@ use Rattle.fdp_loading.specs.Refused.{IsNotLoaded}
 use Rattle.fdp_loading.proofs.Looked.{IsAlike, alike-back, alike-looks, looks-joined, told-over}
 use Rattle.fdp_loading.proofs.Opened.{found-begins}
 use Rattle.fdp_loading.proofs.Unwritten.{fresh-begins}
-use Rattle.fdp_locations.specs.Stored.{HoldsWritten}
-use Rattle.fdp_opening.specs.Found.{IsFirstAstray}
-use Rattle.fdp_recovery.specs.declared.opened.OpenFault.{OpenFault}
-use Rattle.fdp_recovery.specs.declared.opened.OpenFault.TheVariants as faults
-use Rattle.fdp_recovery.specs.Opened.{CanGoOn, EndsOpening, IsFound, IsFresh}
-use Rattle.fdp_recovery.specs.Walking.{OnlyLooks}
-use Rattle.fdp_saving.specs.Saver.{IsSaverIn}
+use Rattle.fdp_keeper.specs.fdp_locations.Stored.{HoldsWritten}
+use Rattle.fdp_keeper.specs.fdp_opening.Found.{IsFirstAstray}
+use Rattle.fdp_keeper.specs.fdp_recovery.declared.opened.OpenFault.{OpenFault}
+use Rattle.fdp_keeper.specs.fdp_recovery.declared.opened.OpenFault.TheVariants as faults
+use Rattle.fdp_keeper.specs.fdp_recovery.Opened.{CanGoOn, EndsOpening, IsFound, IsFresh}
+use Rattle.fdp_keeper.specs.fdp_recovery.Walking.{OnlyLooks}
+use Rattle.fdp_keeper.specs.fdp_saving.Saver.{IsSaverIn}
 use Rattle.fdp_snapshot.specs.declared.state.State.{State}
 use Rattle.fdp_units.specs.DataUnits.{is_free}
 use Rattle.fdp_units.specs.UnitTable.{IsUnit, state_at}

@@ -1,11 +1,11 @@
 -- What the parts of a drive that was found need.
 use Rattle.std.proofs.Common.{ℕ, ◌<◌, ◌^◌, arith}
 use Rattle.fdp_base.specs.declared.config.DriveConfig.{DriveConfig}
-use Rattle.fdp_found.specs.Beginning.{CanBegin}
-use Rattle.fdp_found.proofs.Loaded.{loaded-begins}
+use Rattle.fdp_keeper.specs.fdp_found.Beginning.{CanBegin}
+use Rattle.fdp_keeper.proofs.fdp_found.Loaded.{loaded-begins}
 use Rattle.fdp_image.specs.Checkpoint.{reading_of_state}
-use Rattle.fdp_outline.specs.Outline.{IsWritable}
-use Rattle.fdp_recovery.specs.Opened.{CanGoOn}
+use Rattle.fdp_keeper.specs.fdp_outline.Outline.{IsWritable}
+use Rattle.fdp_keeper.specs.fdp_recovery.Opened.{CanGoOn}
 use Rattle.fdp_snapshot.specs.declared.state.State.{State}
 use Rattle.std.specs.Prelude.{length}
 

@@ -9,35 +9,35 @@ use Rattle.fdp_base.specs.declared.entry.Spot.{Spot}
 use Rattle.fdp_base.specs.Config.{IsValidConfig}
 use Rattle.fdp_base.specs.Geometry.{all_pages}
 use Rattle.fdp_base.specs.Placement.{geometry_of}
-use Rattle.fdp_book.specs.Book.{BookSeen, IsFirst, first_in, point_in, written_in}
-use Rattle.fdp_durability.specs.Durable.{IsDurable}
-use Rattle.fdp_durability.proofs.Starting.{begun-fresh}
+use Rattle.fdp_keeper.specs.fdp_book.Book.{BookSeen, IsFirst, first_in, point_in, written_in}
+use Rattle.fdp_keeper.specs.fdp_durability.Durable.{IsDurable}
+use Rattle.fdp_keeper.proofs.fdp_durability.Starting.{begun-fresh}
 use Rattle.fdp_flash.specs.declared.cell.Cell.{Cell}
 use Rattle.fdp_flash.specs.declared.cell.Cell.TheVariants.{Blank}
 use Rattle.fdp_flash.specs.FlashState.{FlashState, IsWellFormed}
-use Rattle.fdp_found.proofs.Loaded.{fresh-found}
+use Rattle.fdp_keeper.proofs.fdp_found.Loaded.{fresh-found}
 use Rattle.fdp_image.specs.Areas.{current_area, data_pages}
 use Rattle.fdp_image.specs.Reading.{Reading}
 use Rattle.fdp_image.specs.Reads.{fresh_reading, is_blank, reads_as, said_by_current}
 use Rattle.fdp_image.specs.StandsFor.{StandsFor}
-use Rattle.fdp_journal.specs.JournalState.{JournalState}
+use Rattle.fdp_keeper.specs.fdp_journal.JournalState.{JournalState}
 use Rattle.fdp_keeper.specs.Keeper.{KeeperSeen}
 use Rattle.fdp_keeper.proofs.Begun.{drawn-fresh}
 use Rattle.fdp_loading.specs.Begun.{Begins}
 use Rattle.fdp_loading.specs.Loaded.{IsPrepared}
 use Rattle.fdp_loading.specs.Made.{IsFreshDrive}
 use Rattle.fdp_loading.proofs.Blank.{blank-unit_from}
-use Rattle.fdp_locations.specs.Held.{no_pages, pages_held}
-use Rattle.fdp_locations.specs.Stored.{HoldsWritten}
-use Rattle.fdp_locations.specs.Written.{Written, written_by, written_from}
-use Rattle.fdp_locations.proofs.Held.{held-blank}
-use Rattle.fdp_durability.specs.Beginnings.{NamesUsed}
-use Rattle.fdp_outline.specs.Outline.{IsOutlineOf}
-use Rattle.fdp_readings.specs.Drawn.{drawn}
-use Rattle.fdp_recovery.specs.Opened.{IsFresh}
+use Rattle.fdp_keeper.specs.fdp_locations.Held.{no_pages, pages_held}
+use Rattle.fdp_keeper.specs.fdp_locations.Stored.{HoldsWritten}
+use Rattle.fdp_keeper.specs.fdp_locations.Written.{Written, written_by, written_from}
+use Rattle.fdp_keeper.proofs.fdp_locations.Held.{held-blank}
+use Rattle.fdp_keeper.specs.fdp_durability.Beginnings.{NamesUsed}
+use Rattle.fdp_keeper.specs.fdp_outline.Outline.{IsOutlineOf}
+use Rattle.fdp_keeper.specs.fdp_readings.Drawn.{drawn}
+use Rattle.fdp_keeper.specs.fdp_recovery.Opened.{IsFresh}
 use Rattle.fdp_rules.specs.History.{Found, point_of}
-use Rattle.fdp_saving.specs.Saver.{IsSaverIn}
-use Rattle.fdp_saving.proofs.Beginning.{fresh_stands}
+use Rattle.fdp_keeper.specs.fdp_saving.Saver.{IsSaverIn}
+use Rattle.fdp_keeper.proofs.fdp_saving.Beginning.{fresh_stands}
 use Rattle.fdp_units.specs.DataUnits.{is_free}
 use Rattle.fdp_units.specs.declared.data_unit.DataUnit.{DataUnit}
 use Rattle.fdp_units.specs.UnitTable.{Cut, IsUnit, UnitTable, state_at, unit_at}

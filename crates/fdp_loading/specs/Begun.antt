@@ -1,13 +1,13 @@
 -- How the run of a drive begins.
 use Rattle.std.specs.Prelude.{◌≡◌, ◌⊎◌, ℕ, IsTrue, []}
 use Rattle.fdp_base.specs.declared.config.DriveConfig.{DriveConfig}
-use Rattle.fdp_book.specs.Book.{BookSeen, IsFirst}
-use Rattle.fdp_book.specs.Reopened.{IsReopened}
+use Rattle.fdp_keeper.specs.fdp_book.Book.{BookSeen, IsFirst}
+use Rattle.fdp_keeper.specs.fdp_book.Reopened.{IsReopened}
 use Rattle.fdp_flash.specs.FlashState.{FlashState}
 use Rattle.fdp_image.specs.Checkpoint.{reading_of_state}
 use Rattle.fdp_image.specs.StandsFor.{StandsFor}
 use Rattle.fdp_image.specs.Valid.{IsValid}
-use Rattle.fdp_recovery.specs.Opened.{CanGoOn, IsFound, IsFresh}
+use Rattle.fdp_keeper.specs.fdp_recovery.Opened.{CanGoOn, IsFound, IsFresh}
 use Rattle.fdp_snapshot.specs.declared.state.State.{State}
 
 -- a drive as its configuration makes it, over a flash that no drive has written; its history has no entry yet

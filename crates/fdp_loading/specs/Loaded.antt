@@ -3,18 +3,18 @@ use Rattle.std.specs.Prelude.{◌≡◌, ◌⊎◌, ℕ, ◌+◌, ◌^◌, ◌<�
 use Rattle.fdp_base.specs.declared.config.DriveConfig.{DriveConfig}
 use Rattle.fdp_base.specs.declared.entry.Entry.TheVariants as entries
 use Rattle.fdp_base.specs.Placement.{geometry_of}
-use Rattle.fdp_book.specs.Book.{BookSeen, written_in}
-use Rattle.fdp_durability.specs.Durable.{IsDurable}
+use Rattle.fdp_keeper.specs.fdp_book.Book.{BookSeen, written_in}
+use Rattle.fdp_keeper.specs.fdp_durability.Durable.{IsDurable}
 use Rattle.fdp_flash.specs.FlashState.{FlashState}
 use Rattle.fdp_image.specs.Roomy.{is_blank_unit}
 use Rattle.fdp_image.specs.Saving.{SameDataPages}
-use Rattle.fdp_isolation.specs.Begun.{OpenedApart}
-use Rattle.fdp_isolation.specs.Laned.{AreLaned}
+use Rattle.fdp_survival.specs.fdp_isolation.Begun.{OpenedApart}
+use Rattle.fdp_survival.specs.fdp_isolation.Laned.{AreLaned}
 use Rattle.fdp_keeper.specs.Keeper.{CanSave, IsKeeperOf, KeeperSeen}
 use Rattle.fdp_ledger.specs.Counted.{counts_of}
 use Rattle.fdp_ledger.specs.Ledger.{IsLedger}
 use Rattle.fdp_loading.specs.Begun.{Begins}
-use Rattle.fdp_locations.specs.Stored.{HoldsWritten}
+use Rattle.fdp_keeper.specs.fdp_locations.Stored.{HoldsWritten}
 use Rattle.fdp_rules.specs.Legal.{IsLegal}
 use Rattle.fdp_survival.specs.Books.{IsInOrder, IsSafe, Survives}
 use Rattle.fdp_units.specs.DataUnits.{is_free}

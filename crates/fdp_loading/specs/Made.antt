@@ -3,8 +3,8 @@ use Rattle.std.specs.Prelude.{◌≡◌, ℕ, IsTrue, Result, Ok, Err}
 use Rattle.fdp_base.specs.declared.config.DriveConfig.{DriveConfig}
 use Rattle.fdp_base.specs.declared.entry.Entry.TheVariants as entries
 use Rattle.fdp_base.specs.Placement.{geometry_of}
-use Rattle.fdp_book.specs.Book.{BookSeen, IsFirst}
-use Rattle.fdp_book.specs.Reopened.{IsReopened, WasFound, cells_found}
+use Rattle.fdp_keeper.specs.fdp_book.Book.{BookSeen, IsFirst}
+use Rattle.fdp_keeper.specs.fdp_book.Reopened.{IsReopened, WasFound, cells_found}
 use Rattle.fdp_flash.specs.declared.answer.Wrote.TheVariants as wrote
 use Rattle.fdp_flash.specs.FlashState.{FlashState}
 use Rattle.fdp_image.specs.Checkpoint.{reading_of_state}
@@ -15,14 +15,14 @@ use Rattle.fdp_keeper.specs.Keeper.{KeeperSeen, KeepsDrive}
 use Rattle.fdp_loading.specs.declared.loaded.Loaded.{Loaded}
 use Rattle.fdp_loading.specs.Begun.{Begins}
 use Rattle.fdp_loading.specs.Loaded.{IsPrepared}
-use Rattle.fdp_opening.specs.Found.{IsFirstAstray}
-use Rattle.fdp_outline.specs.Outline.{IsOutlineOf}
-use Rattle.fdp_readings.specs.Drawn.{drawn}
-use Rattle.fdp_recovery.specs.declared.opened.OpenFault.{OpenFault}
-use Rattle.fdp_recovery.specs.declared.opened.OpenFault.TheVariants as faults
+use Rattle.fdp_keeper.specs.fdp_opening.Found.{IsFirstAstray}
+use Rattle.fdp_keeper.specs.fdp_outline.Outline.{IsOutlineOf}
+use Rattle.fdp_keeper.specs.fdp_readings.Drawn.{drawn}
+use Rattle.fdp_keeper.specs.fdp_recovery.declared.opened.OpenFault.{OpenFault}
+use Rattle.fdp_keeper.specs.fdp_recovery.declared.opened.OpenFault.TheVariants as faults
 use Rattle.fdp_rules.specs.Next.{next}
 use Rattle.fdp_rules.specs.Point.{Point}
-use Rattle.fdp_saving.specs.Saver.{first_saver}
+use Rattle.fdp_keeper.specs.fdp_saving.Saver.{first_saver}
 use Rattle.fdp_snapshot.specs.declared.state.State.{State}
 use Rattle.fdp_survival.specs.Books.{IsInOrder}
 

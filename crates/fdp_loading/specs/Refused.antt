@@ -2,7 +2,7 @@
 use Rattle.std.specs.Prelude.{◌≡◌, ◌⊎◌, ℕ, IsTrue, List, Some}
 use Rattle.fdp_base.specs.declared.config.DriveConfig.{DriveConfig}
 use Rattle.fdp_base.specs.declared.config.Geometry.{Geometry}
-use Rattle.fdp_book.specs.Book.{BookSeen}
+use Rattle.fdp_keeper.specs.fdp_book.Book.{BookSeen}
 use Rattle.fdp_flash.specs.declared.cell.Cell.{Cell}
 use Rattle.fdp_flash.specs.Failing.{FailsLast}
 use Rattle.fdp_flash.specs.FlashState.{FlashState}
@@ -10,12 +10,12 @@ use Rattle.fdp_image.specs.Checkpoint.{reading_of_state}
 use Rattle.fdp_image.specs.Kept.{StandsForBeginning}
 use Rattle.fdp_image.specs.Saving.{SameDataPages}
 use Rattle.fdp_loading.specs.Begun.{Begins}
-use Rattle.fdp_opening.specs.Found.{IsFirstAstray}
-use Rattle.fdp_recovery.specs.declared.opened.OpenFault.{OpenFault}
-use Rattle.fdp_recovery.specs.declared.opened.OpenFault.TheVariants as faults
-use Rattle.fdp_recovery.specs.Keys.{keys_on, other_key}
-use Rattle.fdp_recovery.specs.Opened.{IsBadImage, IsFound, IsNoDrive, IsSpent}
-use Rattle.fdp_recovery.specs.Walking.{OnlyLooks}
+use Rattle.fdp_keeper.specs.fdp_opening.Found.{IsFirstAstray}
+use Rattle.fdp_keeper.specs.fdp_recovery.declared.opened.OpenFault.{OpenFault}
+use Rattle.fdp_keeper.specs.fdp_recovery.declared.opened.OpenFault.TheVariants as faults
+use Rattle.fdp_keeper.specs.fdp_recovery.Keys.{keys_on, other_key}
+use Rattle.fdp_keeper.specs.fdp_recovery.Opened.{IsBadImage, IsFound, IsNoDrive, IsSpent}
+use Rattle.fdp_keeper.specs.fdp_recovery.Walking.{OnlyLooks}
 use Rattle.fdp_snapshot.specs.declared.state.State.{State}
 use Rattle.fdp_survival.specs.Books.{Survives}
 

@@ -1,23 +1,19 @@
 ghost use Rattle.std.specs.Prelude.{IfErr, IfOk, ◌≡◌, length};
 ghost use Rattle.fdp_base.specs.Config.{IsValidConfig};
 ghost use Rattle.fdp_base.specs.Placement.{geometry_of};
-ghost use Rattle.fdp_book.specs.Reopened.{WasFound};
+ghost use Rattle.fdp_keeper.specs.fdp_book.Reopened.{WasFound};
 ghost use Rattle.fdp_image.specs.Checkpoint.{reading_of_state};
 ghost use Rattle.fdp_loading.specs.Made.{IsFoundDrive, TellsPages};
-ghost use Rattle.fdp_opening.specs.Found.{AreFound};
-ghost use Rattle.fdp_recovery.specs.Blocks.{StandApart};
-ghost use Rattle.fdp_recovery.specs.Opened.{CanGoOn, EndsOpening};
-ghost use Rattle.fdp_recovery.specs.Walking.{OnlyLooks};
-ghost use Rattle.fdp_state.specs.Loaded.{IsDriveState};
+ghost use Rattle.fdp_keeper.specs.fdp_opening.Found.{AreFound};
+ghost use Rattle.fdp_keeper.specs.fdp_recovery.Blocks.{StandApart};
+ghost use Rattle.fdp_keeper.specs.fdp_recovery.Opened.{CanGoOn, EndsOpening};
+ghost use Rattle.fdp_keeper.specs.fdp_recovery.Walking.{OnlyLooks};
+ghost use Rattle.fdp_keeper.specs.fdp_state.Loaded.{IsDriveState};
 
 use crate::loaded::Loaded;
 use fdp_base::DriveConfig;
-use fdp_book::Book;
 use fdp_flash::Flash;
-use fdp_keeper::Keeper;
-use fdp_opening::{PagesFault, find_pages};
-use fdp_pages::Pages;
-use fdp_recovery::OpenFault;
+use fdp_keeper::{Book, Keeper, OpenFault, Pages, PagesFault, find_pages};
 use fdp_snapshot::State;
 use std::alloc::{AllocError, Global};
 

@@ -4,8 +4,7 @@ ghost use Rattle.fdp_loading.specs.Made.{IsFreshDrive};
 
 use crate::loaded::Loaded;
 use fdp_base::DriveConfig;
-use fdp_book::Book;
-use fdp_keeper::Keeper;
+use fdp_keeper::{Book, Keeper};
 use std::alloc::{AllocError, Global};
 
 /// A drive as its configuration makes it, before it is saved.

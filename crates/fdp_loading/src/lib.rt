@@ -6,5 +6,7 @@ mod fresh;
 mod loaded;
 mod loading;
 
+pub use fdp_keeper::{Done, OpenFault, Room, Stage, Ticket};
+pub use fdp_ledger::{Counts, counts_of};
 pub use loaded::Loaded;
 pub use loading::load;

@@ -1,5 +1,4 @@
-use fdp_book::Book;
-use fdp_keeper::Keeper;
+use fdp_keeper::{Book, Keeper};
 
 /// What the run of a drive begins with: its history, and what saves it.
 #[derive(Drop)]

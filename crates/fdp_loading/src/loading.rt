@@ -6,14 +6,14 @@ ghost use Rattle.fdp_keeper.specs.Keeper.{CanSave};
 ghost use Rattle.fdp_loading.specs.Loaded.{IsLoaded};
 ghost use Rattle.fdp_loading.specs.Made.{IsBegun, SavesFirst};
 ghost use Rattle.fdp_loading.specs.Refused.{IsNotLoaded};
-ghost use Rattle.fdp_recovery.specs.Walking.{OnlyLooks};
+ghost use Rattle.fdp_keeper.specs.fdp_recovery.Walking.{OnlyLooks};
 
 use crate::found::found;
 use crate::fresh::fresh;
 use crate::loaded::Loaded;
 use fdp_base::DriveConfig;
 use fdp_flash::{Flash, Wrote};
-use fdp_recovery::{OpenFault, Opened, open_state};
+use fdp_keeper::{OpenFault, Opened, open_state};
 use std::alloc::Global;
 
 /// Opens a drive: its run begins with what stands on the flash, and is saved by a checkpoint. It takes all its memory before that, the

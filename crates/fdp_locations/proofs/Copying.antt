@@ -9,11 +9,11 @@ use Rattle.fdp_base.specs.declared.config.Geometry.{Geometry}
 use Rattle.fdp_base.specs.declared.entry.Copied.{Copied}
 use Rattle.fdp_base.specs.declared.entry.Entry.TheVariants as entries
 use Rattle.fdp_base.specs.declared.entry.Spot.{Spot}
-use Rattle.fdp_collector.specs.Ready.{IsBlankBehind, IsReady, IsUnitOf, Relocation, lane_at}
-use Rattle.fdp_collector.specs.Step.{AddsCopy}
-use Rattle.fdp_collector.proofs.Kept.{group-kept}
-use Rattle.fdp_collector.proofs.Opening.{open-ready}
-use Rattle.fdp_collector.proofs.Readied.{HasPass, WasUnused, copy-blank, emptied-unit, open-cut, open-next, open-pass, open-unit, target-of}
+use Rattle.fdp_pages.specs.fdp_collector.Ready.{IsBlankBehind, IsReady, IsUnitOf, Relocation, lane_at}
+use Rattle.fdp_pages.specs.fdp_collector.Step.{AddsCopy}
+use Rattle.fdp_pages.proofs.fdp_collector.Kept.{group-kept}
+use Rattle.fdp_pages.proofs.fdp_collector.Opening.{open-ready}
+use Rattle.fdp_pages.proofs.fdp_collector.Readied.{HasPass, WasUnused, copy-blank, emptied-unit, open-cut, open-next, open-pass, open-unit, target-of}
 use Rattle.fdp_flash.specs.declared.cell.Cell.{Cell}
 use Rattle.fdp_flash.specs.declared.cell.Cell.TheVariants.{Blank}
 use Rattle.fdp_flash.specs.Layout.{page_number}

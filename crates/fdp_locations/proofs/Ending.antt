@@ -11,10 +11,10 @@ use Rattle.fdp_base.specs.declared.entry.Copied.{Copied}
 use Rattle.fdp_base.specs.declared.entry.Entry.TheVariants as entries
 use Rattle.fdp_base.specs.declared.entry.Spot.{Spot}
 use Rattle.fdp_base.specs.Numbers.{with_at}
-use Rattle.fdp_collector.specs.Erasing.{state_after, worn_after}
-use Rattle.fdp_collector.specs.Ready.{IsUnitOf, Relocation, lane_at}
-use Rattle.fdp_collector.specs.Step.{GoesAside, SkipsPage}
-use Rattle.fdp_collector.proofs.Readied.{emptied-unit}
+use Rattle.fdp_pages.specs.fdp_collector.Erasing.{state_after, worn_after}
+use Rattle.fdp_pages.specs.fdp_collector.Ready.{IsUnitOf, Relocation, lane_at}
+use Rattle.fdp_pages.specs.fdp_collector.Step.{GoesAside, SkipsPage}
+use Rattle.fdp_pages.proofs.fdp_collector.Readied.{emptied-unit}
 use Rattle.fdp_flash.proofs.Lists.{slice_set-same}
 use Rattle.fdp_flash.specs.declared.answer.Wrote.TheVariants as wrote
 use Rattle.fdp_history.specs.Orderly.{IsOrderly}

@@ -1,3 +1,7 @@
+-- passed on to the crates above
+pub use Rattle.fdp_pages.proofs.fdp_collector as fdp_collector
+pub use Rattle.fdp_pages.proofs as fdp_pages
+pub use Rattle.fdp_trails.proofs as fdp_trails
 pub mod Handled
 pub mod Grouped
 pub mod Held

@@ -8,10 +8,10 @@ use Rattle.fdp_base.specs.declared.entry.Copied.{Copied}
 use Rattle.fdp_base.specs.declared.entry.Spot.{Spot}
 use Rattle.fdp_base.specs.Numbers.{with_at}
 use Rattle.fdp_base.specs.Placement.{classes_of}
-use Rattle.fdp_collector.specs.Ready.{Relocation}
-use Rattle.fdp_collector.proofs.Kept.{unit-kept}
-use Rattle.fdp_collector.proofs.Opening.{open-counts}
-use Rattle.fdp_collector.proofs.Readied.{IsHaving, IsTaking, unlost}
+use Rattle.fdp_pages.specs.fdp_collector.Ready.{Relocation}
+use Rattle.fdp_pages.proofs.fdp_collector.Kept.{unit-kept}
+use Rattle.fdp_pages.proofs.fdp_collector.Opening.{open-counts}
+use Rattle.fdp_pages.proofs.fdp_collector.Readied.{IsHaving, IsTaking, unlost}
 use Rattle.fdp_handles.specs.HandleTable.{HandleTable, reference_at}
 use Rattle.fdp_locations.specs.Located.{AreUnitsOf, next_in}
 use Rattle.fdp_locations.proofs.Relocated.{ArePassedBy}

@@ -6,8 +6,8 @@ use Rattle.fdp_base.specs.declared.config.Geometry.{Geometry}
 use Rattle.fdp_base.specs.declared.entry.Spot.{Spot}
 use Rattle.fdp_base.specs.declared.spare.DataSpare.{DataSpare}
 use Rattle.fdp_base.specs.Spare.{data_spare}
-use Rattle.fdp_collector.specs.Copying.{Holds}
-use Rattle.fdp_collector.specs.Ready.{IsStored}
+use Rattle.fdp_pages.specs.fdp_collector.Copying.{Holds}
+use Rattle.fdp_pages.specs.fdp_collector.Ready.{IsStored}
 use Rattle.fdp_flash.specs.declared.cell.Cell.{Cell}
 use Rattle.fdp_history.specs.OrderlyState.{IsOrderlyState}
 use Rattle.fdp_locations.specs.Located.{AreLed}

@@ -5,8 +5,8 @@ use Rattle.std.proofs.lemmas.Option.{slice_get_within}
 use Rattle.fdp_base.specs.declared.config.Geometry.{Geometry}
 use Rattle.fdp_base.specs.declared.entry.Spot.{Spot}
 use Rattle.fdp_base.specs.Spare.{data_spare}
-use Rattle.fdp_collector.specs.Copying.{Holds, IsCopied, IsDataPage, IsSameBut}
-use Rattle.fdp_collector.specs.Ready.{IsBlankBehind}
+use Rattle.fdp_pages.specs.fdp_collector.Copying.{Holds, IsCopied, IsDataPage, IsSameBut}
+use Rattle.fdp_pages.specs.fdp_collector.Ready.{IsBlankBehind}
 use Rattle.fdp_flash.specs.declared.cell.Cell.{Cell}
 use Rattle.fdp_flash.specs.declared.cell.Cell.TheVariants.{Blank, Whole}
 use Rattle.fdp_flash.specs.Cells.{EraseMayLeave}

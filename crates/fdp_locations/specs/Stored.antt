@@ -3,8 +3,8 @@ use Rattle.std.specs.Prelude.{◌≡◌, List, Option, Some}
 use Rattle.fdp_base.specs.declared.config.Geometry.{Geometry}
 use Rattle.fdp_base.specs.declared.entry.Spot.{Spot}
 use Rattle.fdp_base.specs.Spare.{data_spare}
-use Rattle.fdp_collector.specs.Copying.{Holds, IsDataPage}
-use Rattle.fdp_collector.specs.Ready.{IsBlankBehind}
+use Rattle.fdp_pages.specs.fdp_collector.Copying.{Holds, IsDataPage}
+use Rattle.fdp_pages.specs.fdp_collector.Ready.{IsBlankBehind}
 use Rattle.fdp_flash.specs.declared.cell.Cell.{Cell}
 use Rattle.fdp_locations.specs.Written.{Written}
 use Rattle.fdp_units.specs.UnitTable.{UnitTable}

@@ -5,8 +5,6 @@ mod counts;
 mod lists;
 mod map;
 mod mapped;
-#[cfg(test)]
-mod tests;
 
 pub use lists::{PageList, vacant_list};
 pub use map::Map;

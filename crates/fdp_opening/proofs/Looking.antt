@@ -5,9 +5,9 @@ use Rattle.fdp_image.specs.Checkpoint.{reading_of_state}
 use Rattle.fdp_image.specs.Reading.{size_in}
 use Rattle.fdp_rules.specs.Room.{namespace_ids}
 use Rattle.fdp_snapshot.specs.declared.state.State.{State}
-use Rattle.fdp_state.specs.Fits.{blocks_of_all}
-use Rattle.fdp_state.specs.Loaded.{IsLoadable}
-use Rattle.fdp_state.specs.Parts.{listed}
+use Rattle.fdp_recovery.specs.fdp_state.Fits.{blocks_of_all}
+use Rattle.fdp_recovery.specs.fdp_state.Loaded.{IsLoadable}
+use Rattle.fdp_recovery.specs.fdp_state.Parts.{listed}
 
 -- the blocks of the namespaces up to one
 pub listed-more : (lists : List (List (Option ℕ))) (nsid : ℕ) → 1 ≤ nsid → sum_from (listed lists) 1 (nsid + 1 - 1) ≡ sum_from (listed lists) 1 (nsid - 1) + listed lists nsid

@@ -39,9 +39,9 @@ use Rattle.fdp_rules.specs.Sites.{is_spot}
 use Rattle.fdp_rules.specs.PlainState.{Namespace}
 use Rattle.fdp_rules.specs.Step.{IsDataUnit}
 use Rattle.fdp_snapshot.specs.declared.state.State.{State}
-use Rattle.fdp_state.specs.Fits.{handles_in}
-use Rattle.fdp_state.specs.Good.{IsGood}
-use Rattle.fdp_state.specs.Parts.{handles_at}
+use Rattle.fdp_recovery.specs.fdp_state.Fits.{handles_in}
+use Rattle.fdp_recovery.specs.fdp_state.Good.{IsGood}
+use Rattle.fdp_recovery.specs.fdp_state.Parts.{handles_at}
 use Rattle.fdp_units.specs.declared.data_unit.DataUnit.{DataUnit}
 use Rattle.fdp_units.specs.declared.state.UnitState.TheVariants.{Closed, Free}
 use Rattle.fdp_units.specs.UnitTable.{unit_at}

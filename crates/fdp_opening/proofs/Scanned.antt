@@ -10,7 +10,7 @@ use Rattle.fdp_base.specs.declared.config.Geometry.{Geometry}
 use Rattle.fdp_base.specs.Geometry.{data_units}
 use Rattle.fdp_base.specs.Numbers.{numbers_from}
 use Rattle.fdp_base.specs.Placement.{geometry_of}
-use Rattle.fdp_collector.proofs.Kept.{changed-here, changed-other}
+use Rattle.fdp_pages.proofs.fdp_collector.Kept.{changed-here, changed-other}
 use Rattle.fdp_flash.specs.declared.cell.Cell.{Cell}
 use Rattle.fdp_flash.specs.declared.cell.Cell.TheVariants.{Blank, Torn, Whole}
 use Rattle.fdp_flash.specs.FlashState.{FlashState}

@@ -8,20 +8,18 @@ ghost use Rattle.fdp_image.specs.Checkpoint.{reading_of_state};
 ghost use Rattle.fdp_opening.specs.Found.{CallsFirstBad, EndsPages};
 ghost use Rattle.fdp_opening.specs.Walking.{AreFoundBefore, CanKeep, GetsOwner, MayKeep};
 ghost use Rattle.fdp_recovery.specs.Blocks.{StandApart};
-ghost use Rattle.fdp_state.specs.Fits.{blocks_of_all};
-ghost use Rattle.fdp_state.specs.Good.{IsGood};
-ghost use Rattle.fdp_state.specs.Loaded.{IsLoadable};
-ghost use Rattle.fdp_state.specs.Parts.{listed};
+ghost use Rattle.fdp_recovery.specs.fdp_state.Fits.{blocks_of_all};
+ghost use Rattle.fdp_recovery.specs.fdp_state.Good.{IsGood};
+ghost use Rattle.fdp_recovery.specs.fdp_state.Loaded.{IsLoadable};
+ghost use Rattle.fdp_recovery.specs.fdp_state.Parts.{listed};
 
 use crate::fault::PagesFault;
-use fdp_areas::look_at_data;
 use fdp_base::{DataSpare, DriveConfig, Spot};
 use fdp_flash::{Flash, Seen};
 use fdp_pages::Pages;
 use fdp_records::decode_data_spare;
-use fdp_recovery::says_block;
+use fdp_recovery::{list_at, look_at_data, says_block};
 use fdp_snapshot::State;
-use fdp_state::list_at;
 
 /// Looks at the page of each block, by namespace and address, up to the first that is not in its place: the block owns its page from now on.
 pub fn find_blocks<F: Flash>(

@@ -5,10 +5,10 @@ mod blocks;
 mod fault;
 mod opening;
 mod taking;
-#[cfg(test)]
-mod tests;
 mod units;
 
 pub use fault::PagesFault;
+pub use fdp_pages::{Lost, Pages, Step};
+pub use fdp_recovery::{OpenFault, Opened, open_state};
 pub use opening::find_pages;
 pub use taking::take_map;

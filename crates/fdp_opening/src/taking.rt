@@ -8,7 +8,7 @@ ghost use Rattle.fdp_image.specs.Reading.{size_in as size_by};
 ghost use Rattle.fdp_map.specs.MapTable.{mapped_at, size_in};
 ghost use Rattle.fdp_map.specs.PageLists.{placed_on, table_of};
 ghost use Rattle.fdp_recovery.specs.Blocks.{StandApart};
-ghost use Rattle.fdp_state.specs.Loaded.{IsDriveState};
+ghost use Rattle.fdp_recovery.specs.fdp_state.Loaded.{IsDriveState};
 
 use fdp_base::DriveConfig;
 use fdp_map::Map;

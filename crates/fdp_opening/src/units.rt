@@ -1,7 +1,7 @@
 //! The units that an opening finds used.
 
 ghost use Rattle.std.specs.Prelude.{◌≡◌, ◌<◌, not, true, false, IsTrue, IfOk, length};
-ghost use Rattle.fdp_areas.specs.Looking.{Ends};
+ghost use Rattle.fdp_recovery.specs.fdp_areas.Looking.{Ends};
 ghost use Rattle.fdp_base.specs.Config.{IsInRange};
 ghost use Rattle.fdp_base.specs.Geometry.{IsValidGeometry, data_units};
 ghost use Rattle.fdp_base.specs.Placement.{geometry_of};
@@ -13,10 +13,10 @@ ghost use Rattle.fdp_units.specs.DataUnits.{is_free};
 ghost use Rattle.fdp_units.specs.UnitTable.{IsUnit, state_at};
 ghost use Rattle.fdp_opening.specs.Walking.{AreUnitsFoundTo, AreUnseen};
 
-use fdp_areas::{LookFailed, look_at_data};
 use fdp_base::{DriveConfig, Geometry};
 use fdp_flash::{Flash, Seen};
 use fdp_pages::Pages;
+use fdp_recovery::{LookFailed, look_at_data};
 
 /// Looks at the pages of each data unit, up to the first that is not blank: a unit with such a page is used.
 pub fn find_units<F: Flash>(

@@ -10,8 +10,6 @@ mod masks;
 mod moved_block;
 mod outline;
 mod spaces;
-#[cfg(test)]
-mod tests;
 
 pub use fresh::fresh_summary;
 pub use laws::{

@@ -4,8 +4,6 @@
 mod laws;
 mod owner;
 mod owners;
-#[cfg(test)]
-mod tests;
 
 pub use laws::{
     live_pages_are_used, owners_are_handed_over, owners_keep_pointers_apart, owners_point,

@@ -1,3 +1,5 @@
+-- passed on to the crates above
+pub use Rattle.fdp_collector.proofs as fdp_collector
 pub mod Places
 pub mod Counts
 pub mod Groups

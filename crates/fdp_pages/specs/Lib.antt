@@ -1,3 +1,5 @@
+-- passed on to the crates above
+pub use Rattle.fdp_collector.specs as fdp_collector
 pub mod PageTables
 pub mod Joined
 pub mod Steps

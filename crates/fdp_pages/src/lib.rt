@@ -5,8 +5,7 @@ mod laws;
 mod leaving;
 mod pages;
 mod taking;
-#[cfg(test)]
-mod tests;
 
+pub use fdp_collector::{Lost, Step};
 pub use laws::{live_pages_follow_owners, live_pages_follow_units, open_units_are_held};
 pub use pages::Pages;

@@ -7,8 +7,6 @@ mod lane;
 mod place;
 mod room;
 mod target;
-#[cfg(test)]
-mod tests;
 
 pub use due::{Due, next_step};
 pub use group_passes::GroupPasses;

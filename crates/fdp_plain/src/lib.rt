@@ -14,6 +14,3 @@ mod take;
 
 pub use plain::Plain;
 pub use refused::Refused;
-
-#[cfg(test)]
-mod tests;

@@ -39,9 +39,9 @@ tag_by_turn depth posts some below =
       | inr second ↦ let e = behind depth posts second below in let t : nat_lt posts depth ≡ false = grind (arith, nat_tests) in rw (e, t) refl
     ]
 
--- one completion more
-pub one_more : (depth posts count : ℕ) → posts ≡ count % (2 * depth) → (posts + 1) % (2 * depth) ≡ (count + 1) % (2 * depth)
-one_more depth posts count e = ap (λ (n : ℕ). (n + 1) % (2 * depth)) e ∙ mod-add-mod count (2 * depth) 1
+-- one more of what is counted up to a multiple
+pub one_more : (multiple counted count : ℕ) → counted ≡ count % multiple → (counted + 1) % multiple ≡ (count + 1) % multiple
+one_more multiple counted count e = ap (λ (n : ℕ). (n + 1) % multiple) e ∙ mod-add-mod count multiple 1
 
 -- the tag of a slot, by all completions that were ever posted
 pub tag_by_count : (depth posts count : ℕ) → 0 < depth → posts < 2 * depth → posts ≡ count % (2 * depth) → nat_lt posts depth ≡ phase_tag depth count

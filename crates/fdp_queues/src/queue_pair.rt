@@ -1,4 +1,4 @@
-ghost use Rattle.std.specs.Prelude.{◌≡◌, ◌↔◌, ◌+◌, ◌-◌, ◌*◌, ◌%◌, ◌<◌, ◌≤◌, ℕ, [], ◌∷◌, ◌++◌, length, IsErr, IfOk, OnOk, OnErr, MatchOption};
+ghost use Rattle.std.specs.Prelude.{◌≡◌, ◌↔◌, ◌+◌, ◌-◌, ◌*◌, ◌%◌, ◌<◌, ◌≤◌, ℕ, [], ◌∷◌, ◌++◌, length, IsErr, IfOk, OnOk, OnErr, MatchOption, ⊤};
 
 use crate::work::Work;
 use fdp_base::MOST_QUEUE_DEPTH;
@@ -19,6 +19,7 @@ pub struct QueuePair {
     depth: u16,
     submissions: VecDeque<Work>,
     completions: VecDeque<Cqe>,
+    head: u16,
     posts: u16,
 }
 
@@ -31,21 +32,22 @@ impl Model for QueuePair {
     ghost use Rattle.std.specs.VecDeque.{deque_capacity};
     ghost use Rattle.fdp_queues.specs.Rings.{AreRings};
 
-    ghost view = { λ q. record { depth = q.depth; submissions = q.submissions.items; completions = q.completions.items; posts = q.posts } };
+    ghost view = { λ q. record { depth = q.depth; submissions = q.submissions.items; completions = q.completions.items; head = q.head; posts = q.posts } };
 
-    ghost invariant = { λ q. AreRings q.depth (length q.submissions.items) (length q.completions.items) q.posts
+    ghost invariant = { λ q. AreRings q.depth (length q.submissions.items) (length q.completions.items) q.head q.posts
         × (q.depth - 1 ≤ deque_capacity q.submissions) × (q.depth - 1 ≤ deque_capacity q.completions) };
 }
 
 impl QueuePair {
     ghost use Rattle.fdp_queues.specs.Phase.{phase_tag};
-    ghost use Rattle.fdp_queues.specs.Rings.{Rings, HasPosted, IsFullAt, posted, with_phase};
+    ghost use Rattle.fdp_queues.specs.Rings.{Rings, HasFetched, HasPosted, IsFullAt, posted, with_phase};
 
     /// Two empty rings of `depth` slots each, in all the memory that they will ever take.
     pub fn new(alloc: Global, depth: u16) -> Result<Self, AllocError>
         requires shallow { 2 ≤ depth }
         requires deep { depth ≤ MOST_QUEUE_DEPTH }
-        ensures empty { IfOk result (λ q. q ≡ record { depth = depth; submissions = []; completions = []; posts = 0 }) }
+        ensures empty { IfOk result (λ q. q ≡ record { depth = depth; submissions = []; completions = []; head = 0; posts = 0 }) }
+        ensures none_fetched { IfOk result (λ q. HasFetched q 0) }
         ensures none_posted { IfOk result (λ q. HasPosted q 0) }
     {
         let slots = usize::from(depth - 1);
@@ -55,6 +57,7 @@ impl QueuePair {
             depth,
             submissions,
             completions,
+            head: 0,
             posts: 0,
         })
     }
@@ -73,12 +76,27 @@ impl QueuePair {
         Ok(())
     }
 
-    /// Takes the oldest entry of the submission queue.
+    /// Takes the oldest entry of the submission queue, whose head goes on by a slot.
     pub fn fetch(&mut self) -> Option<Work>
-        ensures { MatchOption result ((self.old.submissions ≡ []) × (self.new ≡ self.old))
-            (λ work. self.old ≡ record self.new { submissions = work ∷ self.new.submissions }) }
+        ensures taken { MatchOption result (self.old.submissions ≡ []) (λ work. self.old.submissions ≡ work ∷ self.new.submissions) }
+        ensures rest { MatchOption result (self.new ≡ self.old)
+            (λ work. self.new ≡ record self.old { submissions = self.new.submissions; head = (self.old.head + 1) % self.old.depth }) }
+        ensures fetched { MatchOption result ⊤ (λ work. (count : ℕ) → HasFetched self.old count → HasFetched self.new (count + 1)) }
     {
-        self.submissions.pop_front()
+        match self.submissions.pop_front() {
+            Some(work) => {
+                self.head = (self.head + 1) % self.depth;
+                Some(work)
+            }
+            None => None,
+        }
+    }
+
+    /// The SQ head: the entries that were ever fetched, up to a multiple of the slots.
+    pub fn head(&self) -> u16
+        ensures { result ≡ self.now.head }
+    {
+        self.head
     }
 
     /// Puts a completion behind the others, with the phase tag of its slot: 1 at first, and inverted on each wrap. All

@@ -9,7 +9,7 @@ use Rattle.fdp_base.specs.declared.entry.Entry.{Entry}
 use Rattle.fdp_base.specs.declared.entry.Spot.{Spot}
 use Rattle.fdp_base.specs.Geometry.{area_pages, data_units}
 use Rattle.fdp_base.specs.Placement.{geometry_of}
-use Rattle.fdp_collector.specs.Copying.{IsDataPage}
+use Rattle.fdp_locations.specs.fdp_collector.Copying.{IsDataPage}
 use Rattle.fdp_flash.specs.declared.cell.Cell.{Cell}
 use Rattle.fdp_flash.specs.declared.cell.Cell.TheVariants.{Blank}
 use Rattle.fdp_flash.specs.Cells.{EraseMayLeave, ProgramMayLeave}

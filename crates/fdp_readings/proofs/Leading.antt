@@ -9,7 +9,7 @@ use Rattle.fdp_base.specs.declared.spare.DataSpare.{DataSpare}
 use Rattle.fdp_base.specs.Config.{IsValidConfig}
 use Rattle.fdp_base.specs.Placement.{geometry_of}
 use Rattle.fdp_base.specs.Spare.{data_spare}
-use Rattle.fdp_collector.specs.Copying.{Holds}
+use Rattle.fdp_locations.specs.fdp_collector.Copying.{Holds}
 use Rattle.fdp_flash.specs.declared.cell.Cell.{Cell}
 use Rattle.fdp_flash.specs.Layout.{page_number}
 use Rattle.fdp_history.specs.Listed.{IsListed}
@@ -23,7 +23,7 @@ use Rattle.fdp_locations.specs.Written.{Written}
 use Rattle.fdp_owners.specs.declared.owner.Holder.{Holder}
 use Rattle.fdp_owners.specs.declared.owner.Holder.TheVariants as holders
 use Rattle.fdp_owners.specs.OwnerTable.{pointer_in}
-use Rattle.fdp_pages.specs.PageTables.{PageTables}
+use Rattle.fdp_locations.specs.fdp_pages.PageTables.{PageTables}
 use Rattle.fdp_pointers.specs.Contents.{content_of_block}
 use Rattle.fdp_pointers.specs.Facts.{Page}
 use Rattle.fdp_pointers.specs.Pointers.{Behind, Pointer, Pointer.of_block}

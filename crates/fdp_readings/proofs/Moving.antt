@@ -35,7 +35,7 @@ use Rattle.fdp_rules.specs.PlainState.{Block}
 use Rattle.fdp_rules.specs.Point.{Copy, Point}
 use Rattle.fdp_rules.specs.Room.{handles_in_force, namespace_ids, size_of}
 use Rattle.fdp_rules.specs.Sites.{blocks_at, blocks_in, is_spot, moved_blocks, moved_by, pass_in, site_of, stands_at, traced_by}
-use Rattle.fdp_trails.specs.Followed.{copy_of}
+use Rattle.fdp_locations.specs.fdp_trails.Followed.{copy_of}
 
 -- ---- numbers of pages and pages
 

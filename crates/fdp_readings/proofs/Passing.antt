@@ -19,7 +19,7 @@ use Rattle.fdp_owners.specs.declared.owner.Holder.TheVariants as holders
 use Rattle.fdp_owners.specs.declared.owner.Owner.{Owner}
 use Rattle.fdp_owners.specs.Owned.{AreOwners, page_of}
 use Rattle.fdp_owners.specs.OwnerTable.{owner_at, pointer_in}
-use Rattle.fdp_pages.specs.PageTables.{PageTables}
+use Rattle.fdp_locations.specs.fdp_pages.PageTables.{PageTables}
 use Rattle.fdp_passes.specs.Due.{copies_in}
 use Rattle.fdp_passes.specs.GroupPasses.{GroupPasses, Pass}
 use Rattle.fdp_pointers.specs.Facts.{IsTableOf, Page}
@@ -32,9 +32,9 @@ use Rattle.fdp_readings.proofs.Moving.{sited}
 use Rattle.fdp_rules.specs.PlainState.{Block}
 use Rattle.fdp_rules.specs.Point.{Copy, Point}
 use Rattle.fdp_rules.specs.Sites.{blocks_at, moved_by, site_of}
-use Rattle.fdp_trails.specs.Followed.{FollowsPass, IsDead, IsFollowed, IsPassOf, copy_of}
-use Rattle.fdp_trails.specs.Moves.{name_at, name_in, name_of}
-use Rattle.fdp_trails.proofs.Moving.{cases_spot, moved-back, moved-here, moved-there}
+use Rattle.fdp_locations.specs.fdp_trails.Followed.{FollowsPass, IsDead, IsFollowed, IsPassOf, copy_of}
+use Rattle.fdp_locations.specs.fdp_trails.Moves.{name_at, name_in, name_of}
+use Rattle.fdp_locations.proofs.fdp_trails.Moving.{cases_spot, moved-back, moved-here, moved-there}
 
 -- the pass under way follows the trail
 follows-pass : (at : Behind Page) (p : Point) (rg : ℕ) (passes : GroupPasses) → IsPassOf at p.trail rg passes → (copies_in passes ≡ [] → ⊥) → FollowsPass at p.trail rg (copies_in passes)

@@ -27,8 +27,8 @@ use Rattle.fdp_rules.specs.PlainState.{Block, Going, PageName.written, PlainStat
 use Rattle.fdp_rules.specs.Point.{Point}
 use Rattle.fdp_rules.specs.Sites.{blocks_at, group_of, moved_blocks, moved_by, pass_in, site_of}
 use Rattle.fdp_rules.specs.Target.{named_by}
-use Rattle.fdp_trails.specs.Followed.{copy_of}
-use Rattle.fdp_trails.specs.Moves.{name_at}
+use Rattle.fdp_locations.specs.fdp_trails.Followed.{copy_of}
+use Rattle.fdp_locations.specs.fdp_trails.Moves.{name_at}
 
 -- a command was completed
 abbrev pub completed : ℕ → ℕ → Command → Reply → ℕ → Entry

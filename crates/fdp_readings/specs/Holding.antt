@@ -4,7 +4,7 @@ use Rattle.fdp_base.specs.declared.config.DriveConfig.{DriveConfig}
 use Rattle.fdp_base.specs.declared.entry.Spot.{Spot}
 use Rattle.fdp_base.specs.declared.spare.DataSpare.{DataSpare}
 use Rattle.fdp_base.specs.Placement.{geometry_of}
-use Rattle.fdp_collector.specs.Copying.{Holds}
+use Rattle.fdp_locations.specs.fdp_collector.Copying.{Holds}
 use Rattle.fdp_flash.specs.declared.cell.Cell.{Cell}
 use Rattle.fdp_records.specs.Spares.{said_by_data}
 use Rattle.fdp_rules.specs.PlainState.{Block}

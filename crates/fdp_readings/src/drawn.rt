@@ -15,7 +15,7 @@ ghost use Rattle.fdp_image.specs.Valid.{IsValid};
 ghost use Rattle.fdp_locations.specs.Located.{AreLed, next_in};
 ghost use Rattle.fdp_locations.specs.Stored.{HoldsWritten};
 ghost use Rattle.fdp_locations.specs.Written.{Written};
-ghost use Rattle.fdp_pages.specs.PageTables.{PageTables};
+ghost use Rattle.fdp_locations.specs.fdp_pages.PageTables.{PageTables};
 ghost use Rattle.fdp_pointers.specs.Facts.{IsTableOf, Page};
 ghost use Rattle.fdp_pointers.specs.Pointers.{Behind, Pointer.of_block};
 ghost use Rattle.fdp_readings.specs.Drawn.{drawn};

@@ -4,7 +4,7 @@ ghost use Rattle.fdp_base.specs.declared.entry.Entry.{Entry};
 ghost use Rattle.fdp_base.specs.declared.entry.Spot.{Spot};
 ghost use Rattle.fdp_base.specs.Geometry.{data_units};
 ghost use Rattle.fdp_base.specs.Placement.{geometry_of};
-ghost use Rattle.fdp_collector.specs.Copying.{IsDataPage};
+ghost use Rattle.fdp_locations.specs.fdp_collector.Copying.{IsDataPage};
 ghost use Rattle.fdp_flash.specs.declared.cell.Cell.{Cell};
 ghost use Rattle.fdp_flash.specs.declared.cell.Cell.TheVariants.{Blank};
 ghost use Rattle.fdp_flash.specs.Cells.{EraseMayLeave, ProgramMayLeave};

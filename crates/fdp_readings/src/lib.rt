@@ -12,6 +12,7 @@ pub use drawn::{
     drawn_pages_were_used, drawn_readings_are_valid, drawn_readings_tell_the_table,
     led_pages_hold_their_blocks,
 };
+pub use fdp_locations::{Lost, Pages, Step};
 pub use kept::{
     calls_keep_named_pages, calls_of_data_keep_system_pages, named_pages_keep_a_reading,
     system_pages_keep_an_image,

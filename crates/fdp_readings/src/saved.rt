@@ -16,7 +16,7 @@ ghost use Rattle.fdp_locations.specs.Written.{Written};
 ghost use Rattle.fdp_owners.specs.declared.owner.Owner.{Owner};
 ghost use Rattle.fdp_owners.specs.Owned.{AreOwners};
 ghost use Rattle.fdp_owners.specs.OwnerTable.{owner_at};
-ghost use Rattle.fdp_pages.specs.PageTables.{PageTables};
+ghost use Rattle.fdp_locations.specs.fdp_pages.PageTables.{PageTables};
 ghost use Rattle.fdp_passes.specs.Due.{copies_in};
 ghost use Rattle.fdp_passes.specs.GroupPasses.{GroupPasses};
 ghost use Rattle.fdp_pointers.specs.Facts.{IsTableOf, Page};
@@ -29,7 +29,7 @@ ghost use Rattle.fdp_rules.specs.PlainState.{Going};
 ghost use Rattle.fdp_rules.specs.Point.{Point};
 ghost use Rattle.fdp_rules.specs.Sites.{moved_blocks};
 ghost use Rattle.fdp_rules.specs.Step.{MaySucceed};
-ghost use Rattle.fdp_trails.specs.Followed.{IsPassOf};
+ghost use Rattle.fdp_locations.specs.fdp_trails.Followed.{IsPassOf};
 
 /// What a point draws with the change of a write that takes effect is what is drawn after the write, whether its saving failed or not:
 /// the pages of its blocks, and its event, if it has one.

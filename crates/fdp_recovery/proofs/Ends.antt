@@ -2,8 +2,8 @@
 use Rattle.std.proofs.Common.{◌≡◌, ◌∙◌, ◌+◌, Ok, Err, IsTrue, Result, ℕ, List, subst, sym}
 use Rattle.std.specs.Prelude.{IfOk}
 use Rattle.fdp_base.specs.declared.config.Geometry.{Geometry}
-use Rattle.fdp_areas.specs.declared.seal.LookFailed.{LookFailed}
-use Rattle.fdp_areas.specs.Looking.{Ends}
+use Rattle.fdp_checkpoint.specs.fdp_areas.declared.seal.LookFailed.{LookFailed}
+use Rattle.fdp_checkpoint.specs.fdp_areas.Looking.{Ends}
 use Rattle.fdp_flash.specs.declared.cell.Cell.{Cell}
 use Rattle.fdp_flash.specs.FlashState.{FlashState}
 use Rattle.fdp_flash.specs.OnlyReads.{ReadsOnly}

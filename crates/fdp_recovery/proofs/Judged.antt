@@ -8,8 +8,8 @@ use Rattle.fdp_base.specs.declared.config.Geometry.{Geometry}
 use Rattle.fdp_base.specs.Placement.{handle_count}
 use Rattle.fdp_checkpoint.specs.Pages.{IsBadIn}
 use Rattle.fdp_checkpoint.proofs.OfImage.{sizes_found}
-use Rattle.fdp_areas.specs.declared.seal.Current.{Current}
-use Rattle.fdp_areas.specs.Seals.{LiesIn}
+use Rattle.fdp_checkpoint.specs.fdp_areas.declared.seal.Current.{Current}
+use Rattle.fdp_checkpoint.specs.fdp_areas.Seals.{LiesIn}
 use Rattle.fdp_base.specs.Geometry.{IsBlockSize, IsValidGeometry, area_pages}
 use Rattle.fdp_checkpoint.proofs.Telling.{size_least, summary_told}
 use Rattle.fdp_image.proofs.Spots.{unit_below}

@@ -1,3 +1,5 @@
+-- passed on to the crates above
+pub use Rattle.fdp_state.proofs as fdp_state
 pub mod Ends
 pub mod SameKeys
 pub mod Fielded

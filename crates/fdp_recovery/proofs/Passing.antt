@@ -2,8 +2,8 @@
 use Rattle.std.proofs.Common.{◌≡◌, ◌⊎◌, ℕ, List, Option, Some, None, Err, sym, ap, subst, ◌∙◌, inl, inr}
 use Rattle.std.specs.Option.{option_and_then}
 use Rattle.std.specs.List.{concat}
-use Rattle.fdp_areas.specs.declared.seal.Current.{Current}
-use Rattle.fdp_areas.specs.Seals.{IsCurrentSeal, IsSealOf}
+use Rattle.fdp_checkpoint.specs.fdp_areas.declared.seal.Current.{Current}
+use Rattle.fdp_checkpoint.specs.fdp_areas.Seals.{IsCurrentSeal, IsSealOf}
 use Rattle.fdp_base.specs.declared.config.DriveConfig.{DriveConfig}
 use Rattle.fdp_base.specs.declared.config.Geometry.{Geometry}
 use Rattle.fdp_base.specs.Placement.{geometry_of}

@@ -8,7 +8,7 @@ use Rattle.fdp_flash.specs.Layout.{first_page}
 use Rattle.fdp_image.specs.Areas.{Sealed, area_unit}
 use Rattle.fdp_image.specs.Checkpoint.{reading_of_state, said_by_checkpoint}
 use Rattle.fdp_image.specs.Reading.{Reading}
-use Rattle.fdp_replay.specs.Replay.{IsBadAt, IsReplayed, IsUnfitAt}
+use Rattle.fdp_state.specs.fdp_replay.Replay.{IsBadAt, IsReplayed, IsUnfitAt}
 use Rattle.fdp_snapshot.specs.declared.state.State.{State}
 use Rattle.fdp_snapshot.specs.Reading.{state_in}
 use Rattle.fdp_state.specs.Fits.{fits}

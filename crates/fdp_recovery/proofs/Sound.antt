@@ -22,8 +22,8 @@ use Rattle.fdp_image.proofs.NextRecord.{read_by}
 use Rattle.fdp_records.specs.declared.change.Change.{Change}
 use Rattle.fdp_records.specs.Reading.{decoded}
 use Rattle.fdp_records.specs.Spares.{said_by_data}
-use Rattle.fdp_replay.specs.Records.{all_fit}
-use Rattle.fdp_replay.specs.Replay.{IsBadAt, IsReplayed, IsUnfitAt}
+use Rattle.fdp_state.specs.fdp_replay.Records.{all_fit}
+use Rattle.fdp_state.specs.fdp_replay.Replay.{IsBadAt, IsReplayed, IsUnfitAt}
 use Rattle.fdp_state.specs.Fits.{fits}
 use Rattle.fdp_state.specs.Parts.{handles_at}
 use Rattle.fdp_recovery.specs.Bad.{IsBadPage, IsBadRecord}

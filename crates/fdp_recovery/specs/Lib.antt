@@ -1,3 +1,6 @@
+-- passed on to the crates above
+pub use Rattle.fdp_checkpoint.specs.fdp_areas as fdp_areas
+pub use Rattle.fdp_state.specs as fdp_state
 pub mod Keys
 pub mod Fields
 pub mod Blocks

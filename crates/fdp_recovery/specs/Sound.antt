@@ -7,7 +7,7 @@ use Rattle.fdp_image.specs.Areas.{Sealed}
 use Rattle.fdp_image.specs.Checkpoint.{said_by_checkpoint}
 use Rattle.fdp_image.specs.Reading.{Reading}
 use Rattle.fdp_image.specs.Reads.{is_checkpoint_of}
-use Rattle.fdp_replay.specs.Replay.{IsReplayed}
+use Rattle.fdp_state.specs.fdp_replay.Replay.{IsReplayed}
 use Rattle.fdp_snapshot.specs.Reading.{summary_in}
 use Rattle.fdp_state.specs.Fits.{fits}
 use Rattle.fdp_recovery.specs.Blocks.{AreKept}

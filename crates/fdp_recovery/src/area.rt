@@ -2,7 +2,7 @@
 
 ghost use Rattle.std.specs.Prelude.{◌≡◌, ℕ, suc, ◌+◌, ◌*◌, ◌<◌, ◌≤◌, Err, IsTrue, IfOk, Some, length};
 ghost use Rattle.std.specs.List.{concat};
-ghost use Rattle.fdp_areas.specs.Seals.{IsCurrentSeal, LiesIn};
+ghost use Rattle.fdp_checkpoint.specs.fdp_areas.Seals.{IsCurrentSeal, LiesIn};
 ghost use Rattle.fdp_base.specs.Config.{IsInRange};
 ghost use Rattle.fdp_base.specs.Geometry.{IsValidGeometry, area_pages};
 ghost use Rattle.fdp_checkpoint.specs.Pages.{IsBadIn};
@@ -19,13 +19,11 @@ use crate::fields::bad_field;
 use crate::keys::{other_cut, other_key};
 use crate::opened::OpenFault;
 use crate::place::number_in;
-use fdp_areas::Current;
 use fdp_base::{DriveConfig, Geometry};
-use fdp_checkpoint::{ContentFault, read_content};
+use fdp_checkpoint::{ContentFault, Current, read_content};
 use fdp_flash::Flash;
-use fdp_replay::{ReplayFault, replay};
 use fdp_snapshot::State;
-use fdp_state::LoadedState;
+use fdp_state::{LoadedState, ReplayFault, replay};
 use std::alloc::Global;
 
 /// The state that the current area says.

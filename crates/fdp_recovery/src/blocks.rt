@@ -2,7 +2,7 @@
 
 ghost use Rattle.std.specs.Prelude.{◌≡◌, ◌≢◌, ◌+◌, ◌<◌, IsTrue, IfOk, Ok, Some, None, false, true, length, replicate, slice_get, slice_set};
 ghost use Rattle.std.specs.Option.{option_map_or};
-ghost use Rattle.fdp_areas.specs.Looking.{Ends};
+ghost use Rattle.fdp_checkpoint.specs.fdp_areas.Looking.{Ends};
 ghost use Rattle.fdp_base.specs.Config.{IsInRange};
 ghost use Rattle.fdp_base.specs.Geometry.{IsValidGeometry};
 ghost use Rattle.fdp_base.specs.Placement.{geometry_of};
@@ -16,8 +16,8 @@ ghost use Rattle.fdp_records.specs.Spares.{said_by_data};
 ghost use Rattle.fdp_state.specs.Loaded.{IsLoadable};
 ghost use Rattle.fdp_state.specs.Parts.{handles_at, row};
 
-use fdp_areas::{LookFailed, look_at_data};
 use fdp_base::{DataSpare, DriveConfig, Geometry};
+use fdp_checkpoint::{LookFailed, look_at_data};
 use fdp_flash::{Flash, Seen};
 use fdp_records::decode_data_spare;
 use fdp_snapshot::State;

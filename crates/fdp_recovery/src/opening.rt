@@ -2,7 +2,7 @@
 
 ghost use Rattle.std.specs.Prelude.{◌≡◌, ◌+◌, ◌^◌, ◌≤◌, IsTrue, IfOk, List, None, false, length, nat_le, replicate};
 ghost use Rattle.std.specs.List.{list_any};
-ghost use Rattle.fdp_areas.specs.Seals.{IsCurrentSeal, LiesIn};
+ghost use Rattle.fdp_checkpoint.specs.fdp_areas.Seals.{IsCurrentSeal, LiesIn};
 ghost use Rattle.fdp_base.specs.Config.{IsInRange};
 ghost use Rattle.fdp_base.specs.Geometry.{area_pages};
 ghost use Rattle.fdp_base.specs.Placement.{geometry_of};
@@ -22,8 +22,8 @@ use crate::area::read_area;
 use crate::blocks::find_unkept;
 use crate::keys::other_cut;
 use crate::opened::{OpenFault, Opened};
-use fdp_areas::{Current, find_current, find_used};
 use fdp_base::DriveConfig;
+use fdp_checkpoint::{Current, find_current, find_used};
 use fdp_flash::Flash;
 use fdp_snapshot::State;
 use std::alloc::{AllocError, Global};

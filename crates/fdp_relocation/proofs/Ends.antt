@@ -5,12 +5,12 @@ use Rattle.fdp_base.specs.declared.entry.BlockName.{BlockName}
 use Rattle.fdp_base.specs.declared.entry.Entry.{Entry}
 use Rattle.fdp_base.specs.declared.entry.Entry.TheVariants as entries
 use Rattle.fdp_base.specs.Placement.{geometry_of}
-use Rattle.fdp_book.specs.Book.{BookSeen, point_in, state_in, written_in}
-use Rattle.fdp_book.specs.Relocating.{MovesPass, Relocates}
-use Rattle.fdp_collector.specs.declared.step.Lost.TheVariants as lost
-use Rattle.fdp_collector.specs.declared.step.Step.{Step}
-use Rattle.fdp_collector.specs.declared.step.Step.TheVariants as steps
-use Rattle.fdp_collector.specs.Leaving.{StepMayLeave}
+use Rattle.fdp_keeper.specs.fdp_book.Book.{BookSeen, point_in, state_in, written_in}
+use Rattle.fdp_keeper.specs.fdp_book.Relocating.{MovesPass, Relocates}
+use Rattle.fdp_keeper.specs.fdp_collector.declared.step.Lost.TheVariants as lost
+use Rattle.fdp_keeper.specs.fdp_collector.declared.step.Step.{Step}
+use Rattle.fdp_keeper.specs.fdp_collector.declared.step.Step.TheVariants as steps
+use Rattle.fdp_keeper.specs.fdp_collector.Leaving.{StepMayLeave}
 use Rattle.fdp_flash.specs.declared.answer.Wrote.{Wrote}
 use Rattle.fdp_flash.specs.declared.cell.Cell.{Cell}
 use Rattle.fdp_flash.specs.FlashState.{FlashState}
@@ -18,11 +18,11 @@ use Rattle.fdp_flash.specs.Runs.{Runs}
 use Rattle.fdp_flash.proofs.Runs.{no_run, runs_joined}
 use Rattle.fdp_history.specs.Orderly.{IsOrderly}
 use Rattle.fdp_history.specs.Standing.{IsStanding}
-use Rattle.fdp_journal.specs.JournalState.{JournalState}
+use Rattle.fdp_keeper.specs.fdp_journal.JournalState.{JournalState}
 use Rattle.fdp_keeper.specs.Keeper.{IsKeeperOf, KeeperSeen, KeepsMade, KeepsSettled}
-use Rattle.fdp_locations.specs.Located.{AreUnitsOf}
-use Rattle.fdp_locations.specs.Stored.{HoldsWritten}
-use Rattle.fdp_pages.specs.PageTables.{passes_at}
+use Rattle.fdp_keeper.specs.fdp_locations.Located.{AreUnitsOf}
+use Rattle.fdp_keeper.specs.fdp_locations.Stored.{HoldsWritten}
+use Rattle.fdp_keeper.specs.fdp_pages.PageTables.{passes_at}
 use Rattle.fdp_passes.specs.declared.due.Due.TheVariants as due
 use Rattle.fdp_passes.specs.Due.{IsDue}
 use Rattle.fdp_relocation.specs.declared.advance.Advance.{Advance}
@@ -33,8 +33,8 @@ use Rattle.fdp_relocation.proofs.Moving.{held-moved}
 use Rattle.fdp_relocation.proofs.Resting.{rests-book, saves-earlier, settles-earlier, uncalled-of}
 use Rattle.fdp_relocation.proofs.Storing.{held-on, move-same}
 use Rattle.fdp_rules.specs.Sites.{moved_blocks}
-use Rattle.fdp_saving.specs.declared.saved.Saved.{Saved}
-use Rattle.fdp_saving.specs.declared.saved.Saved.TheVariants as saved
+use Rattle.fdp_keeper.specs.fdp_saving.declared.saved.Saved.{Saved}
+use Rattle.fdp_keeper.specs.fdp_saving.declared.saved.Saved.TheVariants as saved
 
 -- the entry of a move
 abbrev pub moved_entry : BookSeen → ℕ → Entry

@@ -2,16 +2,16 @@
 use Rattle.std.proofs.Common.{◌≡◌, ℕ, ◌≤◌, ◌⊎◌, Option, Some, None, true, refl, sym, ◌∙◌, ap, subst, arith, ⊎_elim}
 use Rattle.std.specs.Prelude.{IsSome, MatchOption}
 use Rattle.fdp_base.specs.declared.entry.Spot.{Spot}
-use Rattle.fdp_book.specs.Book.{BookSeen}
-use Rattle.fdp_book.specs.Relocating.{Relocates}
-use Rattle.fdp_collector.specs.declared.step.Lost.TheVariants as lost
-use Rattle.fdp_collector.specs.declared.step.Step.{Step}
-use Rattle.fdp_collector.specs.declared.step.Step.TheVariants as steps
-use Rattle.fdp_collector.specs.Step.{IsStep}
+use Rattle.fdp_keeper.specs.fdp_book.Book.{BookSeen}
+use Rattle.fdp_keeper.specs.fdp_book.Relocating.{Relocates}
+use Rattle.fdp_keeper.specs.fdp_collector.declared.step.Lost.TheVariants as lost
+use Rattle.fdp_keeper.specs.fdp_collector.declared.step.Step.{Step}
+use Rattle.fdp_keeper.specs.fdp_collector.declared.step.Step.TheVariants as steps
+use Rattle.fdp_keeper.specs.fdp_collector.Step.{IsStep}
 use Rattle.fdp_flash.specs.FlashState.{FlashState}
 use Rattle.fdp_owners.specs.declared.owner.Owner.{Owner}
 use Rattle.fdp_owners.specs.OwnerTable.{owner_at, OwnerTable}
-use Rattle.fdp_pages.specs.PageTables.{passes_at, relocation_at}
+use Rattle.fdp_keeper.specs.fdp_pages.PageTables.{passes_at, relocation_at}
 use Rattle.fdp_passes.specs.declared.due.Due.{Due}
 use Rattle.fdp_passes.specs.declared.due.Due.TheVariants as due
 use Rattle.fdp_passes.specs.Due.{copies_in, IsDue, IsShort}

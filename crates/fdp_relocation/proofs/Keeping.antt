@@ -5,11 +5,11 @@ use mathlib.Core.List.{append-nil}
 use Rattle.fdp_base.specs.declared.config.DriveConfig.{DriveConfig}
 use Rattle.fdp_base.specs.declared.entry.Entry.{Entry}
 use Rattle.fdp_base.specs.declared.entry.Entry.TheVariants as entries
-use Rattle.fdp_book.specs.declared.ticket.Ticket.{Ticket}
-use Rattle.fdp_book.specs.Book.{BookSeen, IsLonger, state_in}
-use Rattle.fdp_book.specs.Steps.{IsWaiting}
-use Rattle.fdp_book.specs.Tickets.{IsTicketOf}
-use Rattle.fdp_book.proofs.Kept.{there-alike}
+use Rattle.fdp_keeper.specs.fdp_book.declared.ticket.Ticket.{Ticket}
+use Rattle.fdp_keeper.specs.fdp_book.Book.{BookSeen, IsLonger, state_in}
+use Rattle.fdp_keeper.specs.fdp_book.Steps.{IsWaiting}
+use Rattle.fdp_keeper.specs.fdp_book.Tickets.{IsTicketOf}
+use Rattle.fdp_keeper.proofs.fdp_book.Kept.{there-alike}
 use Rattle.fdp_relocation.specs.Entries.{AreRelocationIn, IsRelocationIn, KeepsState}
 use Rattle.fdp_rules.proofs.Pushes.{point_of-push}
 use Rattle.fdp_rules.specs.Change.{after, changed_by}
@@ -18,7 +18,7 @@ use Rattle.fdp_rules.specs.Next.{next}
 use Rattle.fdp_rules.specs.PlainState.{Going, PlainState}
 use Rattle.fdp_rules.specs.Point.{Point}
 use Rattle.fdp_rules.specs.Sites.{is_there}
-use Rattle.fdp_book.proofs.Longer.{point-as}
+use Rattle.fdp_keeper.proofs.fdp_book.Longer.{point-as}
 
 pub keeps-self : (s : PlainState) → KeepsState s s
 keeps-self s = record { enabled = refl; index = refl; generation = refl; reports = refl; namespaces = refl; blocks = refl; references = refl; going = refl; media = refl }

@@ -6,31 +6,31 @@ use Rattle.fdp_base.specs.declared.config.DriveConfig.{DriveConfig}
 use Rattle.fdp_base.specs.declared.entry.Entry.{Entry}
 use Rattle.fdp_base.specs.declared.entry.Totals.{Totals}
 use Rattle.fdp_base.specs.Placement.{geometry_of}
-use Rattle.fdp_book.specs.Book.{BookSeen, IsLonger, point_in}
-use Rattle.fdp_book.specs.Relocating.{MayFollow, told_by}
-use Rattle.fdp_collector.specs.declared.step.Lost.TheVariants as lost
-use Rattle.fdp_collector.specs.declared.step.Step.{Step}
-use Rattle.fdp_collector.specs.declared.step.Step.TheVariants as steps
+use Rattle.fdp_keeper.specs.fdp_book.Book.{BookSeen, IsLonger, point_in}
+use Rattle.fdp_keeper.specs.fdp_book.Relocating.{MayFollow, told_by}
+use Rattle.fdp_keeper.specs.fdp_collector.declared.step.Lost.TheVariants as lost
+use Rattle.fdp_keeper.specs.fdp_collector.declared.step.Step.{Step}
+use Rattle.fdp_keeper.specs.fdp_collector.declared.step.Step.TheVariants as steps
 use Rattle.fdp_flash.specs.declared.answer.Wrote.{Wrote}
 use Rattle.fdp_flash.specs.declared.answer.Wrote.TheVariants as wrote
 use Rattle.fdp_history.specs.Orderly.{IsOrderly}
 use Rattle.fdp_history.specs.Standing.{IsStanding}
 use Rattle.fdp_image.specs.Reading.{Reading}
-use Rattle.fdp_journal.specs.JournalState.{JournalState}
+use Rattle.fdp_keeper.specs.fdp_journal.JournalState.{JournalState}
 use Rattle.fdp_keeper.specs.Keeper.{IsKeeperOf, KeeperSeen}
-use Rattle.fdp_outline.specs.Outline.{IsOutlineOf}
+use Rattle.fdp_keeper.specs.fdp_outline.Outline.{IsOutlineOf}
 use Rattle.fdp_pointers.specs.Contents.{leaves_pages}
-use Rattle.fdp_readings.specs.Drawn.{drawn}
-use Rattle.fdp_readings.specs.Lasting.{leaves_nothing}
-use Rattle.fdp_readings.proofs.Staying.{drawn-still}
+use Rattle.fdp_keeper.specs.fdp_readings.Drawn.{drawn}
+use Rattle.fdp_keeper.specs.fdp_readings.Lasting.{leaves_nothing}
+use Rattle.fdp_keeper.proofs.fdp_readings.Staying.{drawn-still}
 use Rattle.fdp_rules.specs.History.{Found, point_of, totals_of}
 use Rattle.fdp_rules.specs.Next.{next}
 use Rattle.fdp_rules.specs.Point.{Point}
 use Rattle.fdp_rules.specs.Step.{Follows}
 use Rattle.fdp_rules.proofs.Pushes.{point_of-push}
-use Rattle.fdp_saving.specs.declared.saved.Saved.{Saved}
-use Rattle.fdp_saving.specs.declared.saved.Saved.TheVariants as answers
-use Rattle.fdp_saving.specs.Saver.{after_renewal, after_saving, needs_checkpoint, renewed}
+use Rattle.fdp_keeper.specs.fdp_saving.declared.saved.Saved.{Saved}
+use Rattle.fdp_keeper.specs.fdp_saving.declared.saved.Saved.TheVariants as answers
+use Rattle.fdp_keeper.specs.fdp_saving.Saver.{after_renewal, after_saving, needs_checkpoint, renewed}
 use Rattle.fdp_snapshot.specs.declared.state.Summary.{Summary}
 
 -- ---- the outline

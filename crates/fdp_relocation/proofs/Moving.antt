@@ -4,20 +4,20 @@ use Rattle.fdp_base.specs.declared.config.Geometry.{Geometry}
 use Rattle.fdp_base.specs.declared.entry.Entry.{Entry}
 use Rattle.fdp_base.specs.declared.entry.Entry.TheVariants as entries
 use Rattle.fdp_base.specs.declared.entry.Spot.{Spot}
-use Rattle.fdp_collector.specs.Ready.{IsBlankBehind}
+use Rattle.fdp_keeper.specs.fdp_collector.Ready.{IsBlankBehind}
 use Rattle.fdp_flash.specs.declared.cell.Cell.{Cell}
 use Rattle.fdp_flash.specs.Cells.{IsBlankFrom}
-use Rattle.fdp_locations.specs.Stored.{HoldsWritten}
-use Rattle.fdp_locations.specs.Written.{Written}
-use Rattle.fdp_book.specs.Book.{BookSeen, point_in, written_in}
-use Rattle.fdp_book.specs.Relocating.{MovesPass}
+use Rattle.fdp_keeper.specs.fdp_locations.Stored.{HoldsWritten}
+use Rattle.fdp_keeper.specs.fdp_locations.Written.{Written}
+use Rattle.fdp_keeper.specs.fdp_book.Book.{BookSeen, point_in, written_in}
+use Rattle.fdp_keeper.specs.fdp_book.Relocating.{MovesPass}
 use Rattle.fdp_owners.specs.OwnerTable.{OwnerTable}
-use Rattle.fdp_pages.specs.Steps.{Recounts}
+use Rattle.fdp_keeper.specs.fdp_pages.Steps.{Recounts}
 use Rattle.fdp_rules.specs.Sites.{moved_blocks}
 use Rattle.fdp_units.specs.declared.data_unit.DataUnit.{DataUnit}
 use Rattle.fdp_units.specs.DataUnits.{is_lost}
 use Rattle.fdp_units.specs.UnitTable.{Cut, IsUnit, UnitTable}
-use Rattle.fdp_book.proofs.Longer.{written-one}
+use Rattle.fdp_keeper.proofs.fdp_book.Longer.{written-one}
 
 -- ---- what is held after a move
 

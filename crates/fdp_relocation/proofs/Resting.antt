@@ -6,14 +6,14 @@ use Rattle.fdp_base.specs.declared.config.DriveConfig.{DriveConfig}
 use Rattle.fdp_base.specs.declared.config.Geometry.{Geometry}
 use Rattle.fdp_base.specs.declared.entry.Entry.{Entry}
 use Rattle.fdp_base.specs.Geometry.{data_units}
-use Rattle.fdp_book.specs.Book.{BookSeen, IsLonger}
-use Rattle.fdp_book.specs.Relocating.{Relocates}
+use Rattle.fdp_keeper.specs.fdp_book.Book.{BookSeen, IsLonger}
+use Rattle.fdp_keeper.specs.fdp_book.Relocating.{Relocates}
 use Rattle.fdp_calls.specs.Calls.{MakesCalls}
 use Rattle.fdp_calls.proofs.Made.{calls-joined, counted_more-none}
-use Rattle.fdp_collector.specs.declared.step.Step.{Step}
-use Rattle.fdp_collector.specs.Ready.{Relocation}
-use Rattle.fdp_collector.specs.Step.{IsUncalled}
-use Rattle.fdp_durability.specs.Saved.{SavesEntry, SettlesDrive}
+use Rattle.fdp_keeper.specs.fdp_collector.declared.step.Step.{Step}
+use Rattle.fdp_keeper.specs.fdp_collector.Ready.{Relocation}
+use Rattle.fdp_keeper.specs.fdp_collector.Step.{IsUncalled}
+use Rattle.fdp_keeper.specs.fdp_durability.Saved.{SavesEntry, SettlesDrive}
 use Rattle.fdp_flash.specs.declared.answer.Wrote.{Wrote}
 use Rattle.fdp_flash.specs.declared.answer.Wrote.TheVariants as wrote
 use Rattle.fdp_flash.specs.declared.cell.Cell.{Cell}
@@ -23,15 +23,15 @@ use Rattle.fdp_flash.specs.Runs.{Holds, Runs}
 use Rattle.fdp_flash.proofs.Runs.{fault_after_run, runs_joined, runs_weakened}
 use Rattle.fdp_image.specs.Reading.{Reading}
 use Rattle.fdp_image.specs.Saving.{SameDataPages}
-use Rattle.fdp_journal.specs.JournalState.{JournalState}
-use Rattle.fdp_pages.specs.PageTables.{no_passes, relocation_at}
+use Rattle.fdp_keeper.specs.fdp_journal.JournalState.{JournalState}
+use Rattle.fdp_keeper.specs.fdp_pages.PageTables.{no_passes, relocation_at}
 use Rattle.fdp_relocation.specs.Collected.{StaysUncalled}
 use Rattle.fdp_rules.specs.History.{Found}
-use Rattle.fdp_saving.specs.Calls.{MakesSystemCalls}
-use Rattle.fdp_saving.specs.declared.saved.Saved.{Saved}
-use Rattle.fdp_saving.specs.declared.saved.Saved.TheVariants as answers
-use Rattle.fdp_saving.specs.Said.{AreasSay, ReadsAsOneOf}
-use Rattle.fdp_saving.specs.Saving.{EndsCheckpoint, EndsSaving}
+use Rattle.fdp_keeper.specs.fdp_saving.Calls.{MakesSystemCalls}
+use Rattle.fdp_keeper.specs.fdp_saving.declared.saved.Saved.{Saved}
+use Rattle.fdp_keeper.specs.fdp_saving.declared.saved.Saved.TheVariants as answers
+use Rattle.fdp_keeper.specs.fdp_saving.Said.{AreasSay, ReadsAsOneOf}
+use Rattle.fdp_keeper.specs.fdp_saving.Saving.{EndsCheckpoint, EndsSaving}
 
 -- ---- no call
 

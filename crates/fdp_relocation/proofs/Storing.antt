@@ -6,8 +6,8 @@ use Rattle.fdp_base.specs.declared.config.Geometry.{Geometry}
 use Rattle.fdp_base.specs.declared.entry.Entry.{Entry}
 use Rattle.fdp_base.specs.declared.entry.Spot.{Spot}
 use Rattle.fdp_base.specs.Placement.{geometry_of}
-use Rattle.fdp_book.specs.Book.{BookSeen, state_in, written_in}
-use Rattle.fdp_durability.specs.Saved.{SavesEntry, SettlesDrive}
+use Rattle.fdp_keeper.specs.fdp_book.Book.{BookSeen, state_in, written_in}
+use Rattle.fdp_keeper.specs.fdp_durability.Saved.{SavesEntry, SettlesDrive}
 use Rattle.fdp_flash.specs.declared.answer.Wrote.{Wrote}
 use Rattle.fdp_flash.specs.declared.cell.Cell.{Cell}
 use Rattle.fdp_flash.specs.FlashState.{FlashState}
@@ -15,13 +15,13 @@ use Rattle.fdp_flash.specs.Layout.{page_number}
 use Rattle.fdp_image.specs.Areas.{data_pages}
 use Rattle.fdp_image.specs.Saving.{SameDataPages}
 use Rattle.fdp_keeper.specs.Keeper.{KeeperSeen}
-use Rattle.fdp_locations.specs.Located.{AreUnitsOf}
-use Rattle.fdp_locations.specs.Stored.{HoldsWritten}
-use Rattle.fdp_locations.proofs.Others.{data-unit}
+use Rattle.fdp_keeper.specs.fdp_locations.Located.{AreUnitsOf}
+use Rattle.fdp_keeper.specs.fdp_locations.Stored.{HoldsWritten}
+use Rattle.fdp_keeper.proofs.fdp_locations.Others.{data-unit}
 use Rattle.fdp_relocation.specs.Collected.{AreasTell, SavesMove, Stage}
 use Rattle.fdp_relocation.proofs.Resting.{uncalled-same}
 use Rattle.fdp_rules.specs.Step.{IsDataUnit}
-use Rattle.fdp_saving.specs.declared.saved.Saved.{Saved}
+use Rattle.fdp_keeper.specs.fdp_saving.declared.saved.Saved.{Saved}
 
 -- ---- what is held
 

@@ -5,18 +5,18 @@ use Rattle.fdp_base.specs.declared.config.DriveConfig.{DriveConfig}
 use Rattle.fdp_base.specs.declared.entry.Copied.{Copied}
 use Rattle.fdp_base.specs.declared.entry.Entry.{Entry}
 use Rattle.fdp_base.specs.declared.entry.Entry.TheVariants as entries
-use Rattle.fdp_book.specs.Book.{BookSeen, point_in, state_in}
-use Rattle.fdp_book.specs.Relocating.{Relocates, told_by}
-use Rattle.fdp_collector.specs.declared.step.Lost.TheVariants as lost
-use Rattle.fdp_collector.specs.declared.step.Step.{Step}
-use Rattle.fdp_collector.specs.declared.step.Step.TheVariants as steps
-use Rattle.fdp_collector.specs.Ready.{IsReady, lane_at}
-use Rattle.fdp_collector.specs.Step.{IsStep}
-use Rattle.fdp_collector.proofs.Readied.{emptied-unit}
+use Rattle.fdp_keeper.specs.fdp_book.Book.{BookSeen, point_in, state_in}
+use Rattle.fdp_keeper.specs.fdp_book.Relocating.{Relocates, told_by}
+use Rattle.fdp_keeper.specs.fdp_collector.declared.step.Lost.TheVariants as lost
+use Rattle.fdp_keeper.specs.fdp_collector.declared.step.Step.{Step}
+use Rattle.fdp_keeper.specs.fdp_collector.declared.step.Step.TheVariants as steps
+use Rattle.fdp_keeper.specs.fdp_collector.Ready.{IsReady, lane_at}
+use Rattle.fdp_keeper.specs.fdp_collector.Step.{IsStep}
+use Rattle.fdp_keeper.proofs.fdp_collector.Readied.{emptied-unit}
 use Rattle.fdp_flash.specs.FlashState.{FlashState}
-use Rattle.fdp_locations.specs.Located.{AreUnitsOf}
-use Rattle.fdp_pages.specs.Joined.{AreJoined}
-use Rattle.fdp_pages.specs.PageTables.{PageTables, passes_at, relocation_at}
+use Rattle.fdp_keeper.specs.fdp_locations.Located.{AreUnitsOf}
+use Rattle.fdp_keeper.specs.fdp_pages.Joined.{AreJoined}
+use Rattle.fdp_keeper.specs.fdp_pages.PageTables.{PageTables, passes_at, relocation_at}
 use Rattle.fdp_passes.specs.Due.{IsEmptied}
 use Rattle.fdp_relocation.specs.Entries.{AreRelocationIn, IsRelocationIn}
 use Rattle.fdp_relocation.proofs.Toil.Copied.{opened-group}

@@ -2,29 +2,29 @@
 use Rattle.std.specs.Prelude.{◌≡◌, ◌≢◌, ◌⊎◌, ℕ, true, not, List, []}
 use Rattle.fdp_base.specs.declared.entry.Copied.{Copied}
 use Rattle.fdp_base.specs.declared.entry.Entry.TheVariants as entries
-use Rattle.fdp_book.specs.Book.{BookSeen, point_in}
-use Rattle.fdp_book.specs.Relocating.{MovesPass, Relocates}
-use Rattle.fdp_collector.specs.declared.step.Lost.{Lost}
-use Rattle.fdp_collector.specs.declared.step.Lost.TheVariants as lost
-use Rattle.fdp_collector.specs.declared.step.Step.{Step}
-use Rattle.fdp_collector.specs.declared.step.Step.TheVariants as steps
-use Rattle.fdp_collector.specs.Leaving.{StepMayLeave}
-use Rattle.fdp_collector.specs.Step.{IsUncalled}
+use Rattle.fdp_keeper.specs.fdp_book.Book.{BookSeen, point_in}
+use Rattle.fdp_keeper.specs.fdp_book.Relocating.{MovesPass, Relocates}
+use Rattle.fdp_keeper.specs.fdp_collector.declared.step.Lost.{Lost}
+use Rattle.fdp_keeper.specs.fdp_collector.declared.step.Lost.TheVariants as lost
+use Rattle.fdp_keeper.specs.fdp_collector.declared.step.Step.{Step}
+use Rattle.fdp_keeper.specs.fdp_collector.declared.step.Step.TheVariants as steps
+use Rattle.fdp_keeper.specs.fdp_collector.Leaving.{StepMayLeave}
+use Rattle.fdp_keeper.specs.fdp_collector.Step.{IsUncalled}
 use Rattle.fdp_flash.specs.declared.cell.Cell.{Cell}
 use Rattle.fdp_flash.specs.declared.answer.Wrote.TheVariants as wrote
 use Rattle.fdp_flash.specs.FlashState.{FlashState}
 use Rattle.fdp_flash.specs.Runs.{Runs}
 use Rattle.fdp_image.specs.Reading.{Reading}
 use Rattle.fdp_keeper.specs.Keeper.{KeepsMade, KeepsSettled, KeeperSeen}
-use Rattle.fdp_pages.specs.PageTables.{passes_at}
+use Rattle.fdp_keeper.specs.fdp_pages.PageTables.{passes_at}
 use Rattle.fdp_passes.specs.declared.due.Due.TheVariants as due
 use Rattle.fdp_passes.specs.Due.{IsDue}
 use Rattle.fdp_relocation.specs.declared.advance.Advance.{Advance}
 use Rattle.fdp_relocation.specs.declared.advance.Advance.TheVariants as answers
 use Rattle.fdp_rules.specs.Sites.{moved_blocks}
-use Rattle.fdp_saving.specs.declared.saved.Saved.{Saved}
-use Rattle.fdp_saving.specs.declared.saved.Saved.TheVariants as saved
-use Rattle.fdp_saving.specs.Said.{AreasSay}
+use Rattle.fdp_keeper.specs.fdp_saving.declared.saved.Saved.{Saved}
+use Rattle.fdp_keeper.specs.fdp_saving.declared.saved.Saved.TheVariants as saved
+use Rattle.fdp_keeper.specs.fdp_saving.Said.{AreasSay}
 
 -- before and after a step: the book, what saves it, and the flash
 pub record Stage (F : Type 0) : Type 0 where

@@ -1,6 +1,6 @@
 -- What a pass has still to do, and what it wins.
 use Rattle.std.specs.Prelude.{ℕ, ◌+◌}
-use Rattle.fdp_pages.specs.PageTables.{PageTables, passes_at}
+use Rattle.fdp_keeper.specs.fdp_pages.PageTables.{PageTables, passes_at}
 use Rattle.fdp_passes.specs.Room.{wanted_in}
 use Rattle.fdp_units.specs.UnitTable.{toil_of}
 

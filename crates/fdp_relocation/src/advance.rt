@@ -1,17 +1,14 @@
 ghost use Rattle.std.specs.Prelude.{◌≡◌, ◌+◌, ◌<◌, ◌≤◌, IsTrue, length, true, ℕ};
-ghost use Rattle.fdp_book.specs.Book.{written_in};
+ghost use Rattle.fdp_keeper.specs.fdp_book.Book.{written_in};
 ghost use Rattle.fdp_keeper.specs.Keeper.{CanSave, IsKeeperOf};
-ghost use Rattle.fdp_locations.specs.Stored.{HoldsWritten};
-ghost use Rattle.fdp_pages.specs.PageTables.{passes_at};
+ghost use Rattle.fdp_keeper.specs.fdp_locations.Stored.{HoldsWritten};
+ghost use Rattle.fdp_keeper.specs.fdp_pages.PageTables.{passes_at};
 ghost use Rattle.fdp_passes.specs.declared.due.Due.TheVariants.{Erase, Move};
 ghost use Rattle.fdp_passes.specs.Due.{IsDue};
 ghost use Rattle.fdp_relocation.specs.Collected.{AreasTell, Collects, EndsDoubt, EndsMove};
 
-use fdp_book::Book;
-use fdp_collector::{Lost, Step};
 use fdp_flash::{Flash, Wrote};
-use fdp_keeper::Keeper;
-use fdp_saving::Saved;
+use fdp_keeper::{Book, Keeper, Lost, Saved, Step};
 
 /// What a step of relocation came to.
 #[derive(Clone, Copy, Debug, PartialEq, Eq)]

@@ -4,3 +4,7 @@
 mod advance;
 
 pub use advance::{Advance, collect};
+pub use fdp_keeper::{
+    Book, Done, FirstStep, Keeper, NextPage, OpenFault, Replies, Room, Saved, Stage, Ticket,
+    WritePlace, toil_is_what_can_be_won,
+};

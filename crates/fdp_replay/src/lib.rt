@@ -4,8 +4,6 @@
 mod journal;
 mod record;
 mod replayed;
-#[cfg(test)]
-mod tests;
 
 pub use journal::replay;
 pub use replayed::{Refusal, ReplayFault, Replayed};

@@ -4,8 +4,6 @@
 mod laws;
 mod saved;
 mod saver;
-#[cfg(test)]
-mod tests;
 
 pub use laws::{
     a_checkpoint_leaves_room_for_a_journal, a_flash_without_an_area_is_that_of_a_new_saver,

@@ -19,6 +19,7 @@ mod parts;
 mod rows;
 mod update_events;
 
+pub use fdp_replay::{ReplayFault, replay};
 pub use fits::is_handle_list;
 pub use loaded::LoadedState;
 pub use names::full_budget;

@@ -7,7 +7,7 @@ use Rattle.fdp_base.specs.declared.entry.Entry.TheVariants as entries
 use Rattle.fdp_base.specs.declared.entry.Spot.{Spot}
 use Rattle.fdp_base.specs.Config.{IsValidConfig}
 use Rattle.fdp_base.specs.Placement.{geometry_of}
-use Rattle.fdp_book.specs.Book.{BookSeen, IsLonger, point_in, written_in}
+use Rattle.fdp_isolation.specs.fdp_book.Book.{BookSeen, IsLonger, point_in, written_in}
 use Rattle.fdp_durability.specs.Beginnings.{CanBeSaved}
 use Rattle.fdp_flash.specs.declared.cell.Cell.{Cell}
 use Rattle.fdp_flash.specs.declared.cell.Cell.TheVariants.{Blank}
@@ -16,12 +16,12 @@ use Rattle.fdp_flash.specs.Layout.{page_number}
 use Rattle.fdp_history.proofs.Listing.{listed-next}
 use Rattle.fdp_history.proofs.Points.{orderly-next}
 use Rattle.fdp_history.proofs.Standing.{standing-next}
-use Rattle.fdp_locations.specs.Stored.{HoldsWritten}
-use Rattle.fdp_readings.specs.Drawn.{drawn}
-use Rattle.fdp_readings.specs.Named.{KeepsNamed}
-use Rattle.fdp_readings.proofs.Drawing.{block-drawn, drawn-valid}
-use Rattle.fdp_readings.proofs.Keeping.{program-named}
-use Rattle.fdp_readings.proofs.Leading.{drawn-used, led-holds}
+use Rattle.fdp_durability.specs.fdp_locations.Stored.{HoldsWritten}
+use Rattle.fdp_durability.specs.fdp_readings.Drawn.{drawn}
+use Rattle.fdp_durability.specs.fdp_readings.Named.{KeepsNamed}
+use Rattle.fdp_durability.proofs.fdp_readings.Drawing.{block-drawn, drawn-valid}
+use Rattle.fdp_durability.proofs.fdp_readings.Keeping.{program-named}
+use Rattle.fdp_durability.proofs.fdp_readings.Leading.{drawn-used, led-holds}
 use Rattle.fdp_rules.specs.Change.{after, changed_by}
 use Rattle.fdp_rules.specs.History.{Found, point_of}
 use Rattle.fdp_rules.specs.Next.{next}

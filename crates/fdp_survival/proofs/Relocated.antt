@@ -8,14 +8,14 @@ use Rattle.fdp_base.specs.declared.entry.Entry.{Entry}
 use Rattle.fdp_base.specs.declared.entry.Spot.{Spot}
 use Rattle.fdp_base.specs.Placement.{geometry_of}
 use Rattle.fdp_base.specs.Spare.{data_spare}
-use Rattle.fdp_collector.specs.declared.step.Lost.TheVariants as lost
-use Rattle.fdp_collector.specs.declared.step.Step.{Step}
-use Rattle.fdp_collector.specs.declared.step.Step.TheVariants as steps
-use Rattle.fdp_collector.specs.Erasing.{state_after}
-use Rattle.fdp_collector.specs.Leaving.{StepMayLeave}
-use Rattle.fdp_collector.specs.Ready.{Relocation, lane_at}
-use Rattle.fdp_collector.specs.Step.{IsCopyStep, IsStep, Rests}
-use Rattle.fdp_collector.proofs.Readied.{emptied-unit}
+use Rattle.fdp_durability.specs.fdp_collector.declared.step.Lost.TheVariants as lost
+use Rattle.fdp_durability.specs.fdp_collector.declared.step.Step.{Step}
+use Rattle.fdp_durability.specs.fdp_collector.declared.step.Step.TheVariants as steps
+use Rattle.fdp_durability.specs.fdp_collector.Erasing.{state_after}
+use Rattle.fdp_durability.specs.fdp_collector.Leaving.{StepMayLeave}
+use Rattle.fdp_durability.specs.fdp_collector.Ready.{Relocation, lane_at}
+use Rattle.fdp_durability.specs.fdp_collector.Step.{IsCopyStep, IsStep, Rests}
+use Rattle.fdp_durability.proofs.fdp_collector.Readied.{emptied-unit}
 use Rattle.fdp_durability.specs.Durable.{IsDurable, UnitsMoveOn}
 use Rattle.fdp_durability.proofs.Durable.{durable-erase, durable-moves, durable-program, durable-stands}
 use Rattle.fdp_durability.proofs.Empty.{drawn-empty}
@@ -29,21 +29,21 @@ use Rattle.fdp_flash.proofs.Pages.{erased_may_leave}
 use Rattle.fdp_flash.proofs.Runs.{runs_weakened}
 use Rattle.fdp_history.specs.Standing.{IsStanding}
 use Rattle.fdp_image.specs.Kept.{StandsForBeginning}
-use Rattle.fdp_journal.specs.JournalState.{JournalState}
-use Rattle.fdp_locations.specs.Located.{AreLed, AreUnitsOf}
-use Rattle.fdp_locations.specs.Stored.{HoldsWritten}
-use Rattle.fdp_locations.specs.Written.{Written}
-use Rattle.fdp_locations.proofs.Copying.{copy-free, copy-fresh, copy-nexts, copy-to}
-use Rattle.fdp_locations.proofs.Others.{data-unit, is-group}
-use Rattle.fdp_pages.specs.Joined.{AreJoined}
-use Rattle.fdp_pages.specs.PageTables.{PageTables, relocation_at}
+use Rattle.fdp_durability.specs.fdp_journal.JournalState.{JournalState}
+use Rattle.fdp_durability.specs.fdp_locations.Located.{AreLed, AreUnitsOf}
+use Rattle.fdp_durability.specs.fdp_locations.Stored.{HoldsWritten}
+use Rattle.fdp_durability.specs.fdp_locations.Written.{Written}
+use Rattle.fdp_durability.proofs.fdp_locations.Copying.{copy-free, copy-fresh, copy-nexts, copy-to}
+use Rattle.fdp_durability.proofs.fdp_locations.Others.{data-unit, is-group}
+use Rattle.fdp_durability.specs.fdp_pages.Joined.{AreJoined}
+use Rattle.fdp_durability.specs.fdp_pages.PageTables.{PageTables, relocation_at}
 use Rattle.fdp_passes.specs.Due.{HasNoLive}
 use Rattle.fdp_passes.specs.GroupPasses.{GroupPasses}
 use Rattle.fdp_passes.specs.Targets.{UsesPage}
 use Rattle.fdp_pointers.specs.Facts.{Page}
 use Rattle.fdp_pointers.specs.Pointers.{Behind}
-use Rattle.fdp_readings.specs.Drawn.{drawn}
-use Rattle.fdp_readings.specs.Named.{NamesNone}
+use Rattle.fdp_durability.specs.fdp_readings.Drawn.{drawn}
+use Rattle.fdp_durability.specs.fdp_readings.Named.{NamesNone}
 use Rattle.fdp_rules.specs.History.{Found, point_of}
 use Rattle.fdp_survival.specs.Safe.{IsSafeAt}
 use Rattle.fdp_survival.proofs.Units.{GoOn, changed-go, next-go, same-go}

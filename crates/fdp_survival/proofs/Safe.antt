@@ -8,7 +8,7 @@ use Rattle.fdp_base.specs.declared.entry.Entry.{Entry}
 use Rattle.fdp_base.specs.declared.entry.Spot.{Spot}
 use Rattle.fdp_base.specs.Placement.{geometry_of}
 use Rattle.fdp_calls.specs.Media.{IsProgrammedTo, IsReadFrom}
-use Rattle.fdp_collector.specs.Copying.{IsDataPage}
+use Rattle.fdp_durability.specs.fdp_collector.Copying.{IsDataPage}
 use Rattle.fdp_durability.specs.Durable.{IsDurable, UnitsMoveOn}
 use Rattle.fdp_durability.specs.Firm.{completes}
 use Rattle.fdp_durability.proofs.Beginnings.{stands-grown}
@@ -24,9 +24,9 @@ use Rattle.fdp_flash.proofs.Runs.{runs_weakened}
 use Rattle.fdp_history.specs.Orderly.{IsOrderly}
 use Rattle.fdp_history.specs.Standing.{IsStanding}
 use Rattle.fdp_image.specs.Kept.{StandsForBeginning}
-use Rattle.fdp_journal.specs.JournalState.{JournalState}
+use Rattle.fdp_durability.specs.fdp_journal.JournalState.{JournalState}
 use Rattle.fdp_pointers.specs.Contents.{leaves_pages}
-use Rattle.fdp_readings.specs.Lasting.{leaves_nothing}
+use Rattle.fdp_durability.specs.fdp_readings.Lasting.{leaves_nothing}
 use Rattle.fdp_rules.specs.History.{Found, point_of}
 use Rattle.fdp_rules.specs.Step.{Follows}
 use Rattle.fdp_survival.specs.Safe.{IsSafeAt}

@@ -18,11 +18,11 @@ use Rattle.fdp_flash.specs.FlashState.{FlashState}
 use Rattle.fdp_flash.specs.Runs.{Runs}
 use Rattle.fdp_image.specs.Kept.{AreFirm, StandsForBeginning}
 use Rattle.fdp_image.specs.Saving.{SameDataPages}
-use Rattle.fdp_journal.specs.JournalState.{JournalState}
+use Rattle.fdp_durability.specs.fdp_journal.JournalState.{JournalState}
 use Rattle.fdp_rules.specs.History.{Found, point_of}
-use Rattle.fdp_saving.specs.declared.saved.Saved.{Saved}
-use Rattle.fdp_saving.specs.declared.saved.Saved.TheVariants as answers
-use Rattle.fdp_saving.specs.Saver.{after_checkpoint, after_renewal, after_saving, needs_checkpoint, renewed}
+use Rattle.fdp_durability.specs.fdp_saving.declared.saved.Saved.{Saved}
+use Rattle.fdp_durability.specs.fdp_saving.declared.saved.Saved.TheVariants as answers
+use Rattle.fdp_durability.specs.fdp_saving.Saver.{after_checkpoint, after_renewal, after_saving, needs_checkpoint, renewed}
 use Rattle.fdp_snapshot.specs.declared.state.Summary.{Summary}
 use Rattle.fdp_survival.specs.Safe.{IsSafeAt}
 use Rattle.fdp_survival.proofs.Safe.{one-none, within-on}

@@ -12,18 +12,18 @@ use Rattle.fdp_base.specs.declared.entry.Reply.{Reply}
 use Rattle.fdp_base.specs.declared.entry.Spot.{Spot}
 use Rattle.fdp_base.specs.declared.status.Status.{Status}
 use Rattle.fdp_base.specs.Placement.{geometry_of}
-use Rattle.fdp_book.specs.declared.ticket.Done.{Done}
-use Rattle.fdp_book.specs.declared.ticket.Ticket.{Ticket}
-use Rattle.fdp_book.specs.Book.{BookSeen, IsLonger, point_in, written_in}
-use Rattle.fdp_book.specs.Relocating.{MayFollow, MovesPass, Relocates, told_by}
-use Rattle.fdp_book.specs.Shutting.{ShutsAndEnds}
-use Rattle.fdp_book.specs.Steps.{Completes, Places, Starts}
-use Rattle.fdp_book.specs.Tickets.{IsNextSpot}
+use Rattle.fdp_isolation.specs.fdp_book.declared.ticket.Done.{Done}
+use Rattle.fdp_isolation.specs.fdp_book.declared.ticket.Ticket.{Ticket}
+use Rattle.fdp_isolation.specs.fdp_book.Book.{BookSeen, IsLonger, point_in, written_in}
+use Rattle.fdp_isolation.specs.fdp_book.Relocating.{MayFollow, MovesPass, Relocates, told_by}
+use Rattle.fdp_isolation.specs.fdp_book.Shutting.{ShutsAndEnds}
+use Rattle.fdp_isolation.specs.fdp_book.Steps.{Completes, Places, Starts}
+use Rattle.fdp_isolation.specs.fdp_book.Tickets.{IsNextSpot}
 use Rattle.fdp_calls.specs.Media.{IsProgrammedTo, IsReadFrom}
-use Rattle.fdp_collector.specs.declared.step.Lost.TheVariants as lost
-use Rattle.fdp_collector.specs.declared.step.Step.{Step}
-use Rattle.fdp_collector.specs.declared.step.Step.TheVariants as steps
-use Rattle.fdp_collector.specs.Leaving.{StepMayLeave}
+use Rattle.fdp_durability.specs.fdp_collector.declared.step.Lost.TheVariants as lost
+use Rattle.fdp_durability.specs.fdp_collector.declared.step.Step.{Step}
+use Rattle.fdp_durability.specs.fdp_collector.declared.step.Step.TheVariants as steps
+use Rattle.fdp_durability.specs.fdp_collector.Leaving.{StepMayLeave}
 use Rattle.fdp_durability.specs.Beginnings.{CanBeSaved}
 use Rattle.fdp_durability.specs.Durable.{IsDurable, UnitsMoveOn}
 use Rattle.fdp_durability.specs.Firm.{completes}
@@ -44,11 +44,11 @@ use Rattle.fdp_history.proofs.Points.{orderly-next}
 use Rattle.fdp_history.proofs.Standing.{standing-next}
 use Rattle.fdp_image.specs.Kept.{AreFirm, IsStopSafe, StandsForBeginning, StandsForKept, is_completed, is_owed}
 use Rattle.fdp_image.specs.Saving.{SameDataPages}
-use Rattle.fdp_journal.specs.JournalState.{JournalState}
-use Rattle.fdp_locations.specs.Stored.{HoldsWritten}
-use Rattle.fdp_pages.specs.Steps.{ChangesOwners, LeavesUnits}
+use Rattle.fdp_durability.specs.fdp_journal.JournalState.{JournalState}
+use Rattle.fdp_durability.specs.fdp_locations.Stored.{HoldsWritten}
+use Rattle.fdp_durability.specs.fdp_pages.Steps.{ChangesOwners, LeavesUnits}
 use Rattle.fdp_pointers.specs.Contents.{leaves_pages}
-use Rattle.fdp_readings.specs.Lasting.{leaves_nothing}
+use Rattle.fdp_durability.specs.fdp_readings.Lasting.{leaves_nothing}
 use Rattle.fdp_rules.specs.Answer.{bare}
 use Rattle.fdp_rules.specs.History.{Found, point_of}
 use Rattle.fdp_rules.specs.Next.{next}
@@ -57,8 +57,8 @@ use Rattle.fdp_rules.specs.Point.{Point}
 use Rattle.fdp_rules.specs.Sites.{moved_blocks}
 use Rattle.fdp_rules.specs.Step.{Follows, IsPage, IsPlaced}
 use Rattle.fdp_rules.proofs.Pushes.{point_of-push}
-use Rattle.fdp_saving.specs.declared.saved.Saved.{Saved}
-use Rattle.fdp_saving.specs.declared.saved.Saved.TheVariants as answers
+use Rattle.fdp_durability.specs.fdp_saving.declared.saved.Saved.{Saved}
+use Rattle.fdp_durability.specs.fdp_saving.declared.saved.Saved.TheVariants as answers
 use Rattle.fdp_survival.specs.Books.{IsInOrder, IsSafe, Survives}
 use Rattle.fdp_survival.specs.Safe.{IsSafeAt}
 use Rattle.fdp_survival.proofs.Orders.{book-saved, can-of, can-on, can-programmed, can-shut}

@@ -3,7 +3,7 @@ use Rattle.std.proofs.Common.{◌≡◌, ℕ, ◌+◌, ◌≤◌, true, false, r
 use Rattle.std.specs.Prelude.{◌==◌, if◌then◌else◌}
 use Rattle.fdp_base.specs.declared.entry.Spot.{Spot}
 use Rattle.fdp_owners.specs.OwnerTable.{OwnerTable}
-use Rattle.fdp_pages.specs.Steps.{IsLeft, Recounts}
+use Rattle.fdp_durability.specs.fdp_pages.Steps.{IsLeft, Recounts}
 use Rattle.fdp_pointers.specs.Facts.{with_next}
 use Rattle.fdp_units.specs.declared.data_unit.DataUnit.{DataUnit}
 use Rattle.fdp_units.specs.UnitTable.{Changes, UnitTable, unit_at}

@@ -1,13 +1,13 @@
 -- What a stop cannot lose of a drive with its book.
 use Rattle.std.specs.Prelude.{ℕ}
-use Rattle.fdp_book.specs.Book.{BookSeen, point_in, state_in}
+use Rattle.fdp_isolation.specs.fdp_book.Book.{BookSeen, point_in, state_in}
 use Rattle.fdp_flash.specs.FlashState.{FlashState}
 use Rattle.fdp_flash.specs.Runs.{Runs}
 use Rattle.fdp_history.specs.Listed.{IsListed}
 use Rattle.fdp_history.specs.Standing.{IsStanding}
 use Rattle.fdp_image.specs.Kept.{StandsForBeginning}
 use Rattle.fdp_isolation.specs.Laned.{IsKnown}
-use Rattle.fdp_journal.specs.JournalState.{JournalState}
+use Rattle.fdp_durability.specs.fdp_journal.JournalState.{JournalState}
 use Rattle.fdp_survival.specs.Safe.{IsSafeAt}
 
 -- a book is in order, its blocks stand, and the handles of its namespaces are listed

@@ -1,2 +1,5 @@
+-- passed on to the crates above
+pub use Rattle.fdp_durability.specs.fdp_collector as fdp_collector
+pub use Rattle.fdp_isolation.specs as fdp_isolation
 pub mod Safe
 pub mod Books

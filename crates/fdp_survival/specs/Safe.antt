@@ -6,7 +6,7 @@ use Rattle.fdp_base.specs.Placement.{geometry_of}
 use Rattle.fdp_durability.specs.Durable.{IsDurable}
 use Rattle.fdp_flash.specs.FlashState.{FlashState}
 use Rattle.fdp_image.specs.Kept.{AreFirm}
-use Rattle.fdp_journal.specs.JournalState.{JournalState}
+use Rattle.fdp_durability.specs.fdp_journal.JournalState.{JournalState}
 use Rattle.fdp_rules.specs.History.{Found}
 use Rattle.fdp_units.specs.UnitTable.{UnitTable}
 

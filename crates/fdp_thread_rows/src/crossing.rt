@@ -95,14 +95,14 @@ impl Crossing {
         }
     }
 
-    /// Host 2 waits before its overwrite, its second command, for the first copy.
+    /// Host 2 waits before its first command until host 1 is within its last one, and before its overwrite, its second command, for the first copy.
     fn at_second(&self, point: Point) {
         match point {
-            Point::Begun => {
-                if self.begun_second.fetch_add(1, Ordering::SeqCst) == 1 {
-                    self.hold(&self.copied, 1);
-                }
-            }
+            Point::Begun => match self.begun_second.fetch_add(1, Ordering::SeqCst) {
+                0 => self.hold(&self.ready_first, FILLING + 1),
+                1 => self.hold(&self.copied, 1),
+                _ => {}
+            },
             Point::Ended => {
                 self.ended_second.fetch_add(1, Ordering::SeqCst);
             }

@@ -6,8 +6,6 @@ mod group_units;
 mod laws;
 mod state;
 mod tally;
-#[cfg(test)]
-mod tests;
 mod units;
 
 pub use data_unit::DataUnit;

@@ -1,5 +1,9 @@
+-- passed on to the crates above
+pub use Rattle.fdp_core.proofs.fdp_durability as fdp_durability
+pub use Rattle.fdp_core.proofs.fdp_outline as fdp_outline
 pub mod Marks
 pub mod Nexts
+pub mod Pairing
 pub mod Posts
 pub mod Progressing
 pub mod Seated

@@ -9,9 +9,9 @@ use Rattle.fdp_base.specs.CommandKinds.{blocks_written, is_write}
 use Rattle.fdp_base.specs.Records.{carrying, CarriesOnly}
 use Rattle.std.proofs.Math.Seq.{drop-append_seam}
 use Rattle.fdp_base.proofs.Records.{carrying-none, prefix_length, prefix_trans}
-use Rattle.fdp_book.specs.declared.ticket.Done.{Done}
-use Rattle.fdp_book.specs.declared.ticket.Ticket.{Ticket}
-use Rattle.fdp_book.specs.Tickets.{IsTicketOf}
+use Rattle.fdp_core.specs.fdp_book.declared.ticket.Done.{Done}
+use Rattle.fdp_core.specs.fdp_book.declared.ticket.Ticket.{Ticket}
+use Rattle.fdp_core.specs.fdp_book.Tickets.{IsTicketOf}
 use Rattle.fdp_gauge.specs.declared.gauge.Gauge.{Gauge}
 use Rattle.fdp_gauge.specs.declared.gauge.Pass.{Pass}
 use Rattle.fdp_gauge.specs.Passes as passes

@@ -12,8 +12,8 @@ use Rattle.fdp_base.specs.declared.recorded.Mark.{Mark}
 use Rattle.fdp_base.specs.CommandKinds.{is_write}
 use Rattle.fdp_base.specs.Records.{carrying, CarriesNone, CarriesOnly}
 use Rattle.fdp_base.proofs.Records.{carrying-append, carrying-none, prefix_rest}
-use Rattle.fdp_book.specs.declared.ticket.Done.{Done}
-use Rattle.fdp_book.specs.declared.ticket.Ticket.{Ticket}
+use Rattle.fdp_core.specs.fdp_book.declared.ticket.Done.{Done}
+use Rattle.fdp_core.specs.fdp_book.declared.ticket.Ticket.{Ticket}
 use Rattle.fdp_rules.specs.Change.{started}
 use Rattle.fdp_rules.specs.PlainState.{Going}
 use Rattle.fdp_workers.specs.Hosting.{IsTicketIn}

@@ -6,8 +6,8 @@ use Rattle.fdp_base.specs.declared.entry.Entry.{Entry}
 use Rattle.fdp_base.specs.declared.recorded.Mark.{Mark}
 use Rattle.fdp_base.specs.CommandKinds.{blocks_written, is_write}
 use Rattle.fdp_base.specs.Records.{carrying}
-use Rattle.fdp_book.specs.declared.ticket.Done.{Done}
-use Rattle.fdp_book.specs.declared.ticket.Ticket.{Ticket}
+use Rattle.fdp_core.specs.fdp_book.declared.ticket.Done.{Done}
+use Rattle.fdp_core.specs.fdp_book.declared.ticket.Ticket.{Ticket}
 use Rattle.fdp_core.specs.declared.answer.Begun.{Begun}
 use Rattle.fdp_core.specs.declared.answer.Begun.TheVariants as begun
 use Rattle.fdp_core.specs.declared.answer.Placed.{Placed}

@@ -1,3 +1,11 @@
+-- passed on to the crates above
+pub use Rattle.fdp_core.specs.fdp_book as fdp_book
+pub use Rattle.fdp_core.specs.fdp_collector as fdp_collector
+pub use Rattle.fdp_core.specs as fdp_core
+pub use Rattle.fdp_core.specs.fdp_isolation as fdp_isolation
+pub use Rattle.fdp_core.specs.fdp_ledger as fdp_ledger
+pub use Rattle.fdp_core.specs.fdp_recovery as fdp_recovery
+pub use Rattle.fdp_core.specs.fdp_relocation as fdp_relocation
 pub mod Hosting
 pub mod Marks
 pub mod Pairs

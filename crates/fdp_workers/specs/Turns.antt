@@ -6,11 +6,11 @@ use Rattle.fdp_base.specs.declared.entry.Entry.TheVariants as entries
 use Rattle.fdp_base.specs.declared.recorded.Mark.{Mark}
 use Rattle.fdp_base.specs.CommandKinds.{IsWellFormed, blocks_written, is_write}
 use Rattle.fdp_base.specs.Records.{CarriesNone}
-use Rattle.fdp_book.specs.declared.ticket.Done.{Done}
-use Rattle.fdp_book.specs.declared.ticket.Ticket.{Ticket}
-use Rattle.fdp_book.specs.Room.{RoomSeen, room_for}
-use Rattle.fdp_book.specs.Stages.{IsFree}
-use Rattle.fdp_book.specs.Tickets.{IsTicketOf}
+use Rattle.fdp_core.specs.fdp_book.declared.ticket.Done.{Done}
+use Rattle.fdp_core.specs.fdp_book.declared.ticket.Ticket.{Ticket}
+use Rattle.fdp_core.specs.fdp_book.Room.{RoomSeen, room_for}
+use Rattle.fdp_core.specs.fdp_book.Stages.{IsFree}
+use Rattle.fdp_core.specs.fdp_book.Tickets.{IsTicketOf}
 use Rattle.fdp_core.specs.declared.answer.Begun.{Begun}
 use Rattle.fdp_core.specs.declared.answer.Begun.TheVariants as begun
 use Rattle.fdp_core.specs.declared.answer.Placed.{Placed}

@@ -10,7 +10,7 @@ ghost use Rattle.fdp_rules.specs.PlainState.{Going};
 ghost use Rattle.fdp_workers.specs.declared.ends.End.TheVariants as ends;
 ghost use Rattle.fdp_workers.specs.declared.stop.Stop.TheVariants.{Turns};
 ghost use Rattle.fdp_workers.specs.Hosting.{EndsAt, Expects, IsFlyingAt, IsIdleAt, IsPost, IsShown, IsSpent, KeepsPost, ServesAt, ServesTrace, StopsAt, WaitsAt, run_of};
-ghost use Rattle.fdp_workers.specs.Pairs.{IsEmptyPair, IsReaped};
+ghost use Rattle.fdp_workers.specs.Pairs.{IsIdlePair, IsReaped};
 ghost use Rattle.fdp_workers.specs.Queues.{Progress, Serves, ServesWhole, so_far};
 
 use crate::ends::{End, HostEnd};
@@ -20,8 +20,7 @@ use crate::steps::Steps;
 use crate::stop::Stop;
 use crate::turns::{begin, end, place};
 use fdp_base::{Command, DriveConfig, MOST_TRACE_COMMANDS};
-use fdp_book::{Done, Room, Ticket};
-use fdp_core::{Begun, Placed};
+use fdp_core::{Begun, Done, Placed, Room, Ticket};
 use fdp_gauge::{Gauge, Pass};
 use fdp_io::{Gate, Point};
 use fdp_layouts::Cqe;
@@ -151,23 +150,22 @@ fn exchange<V: Steps, G: Gate, R: Wait>(
     requires config { config.now ≡ (run_of V.origin V.run lock.now).config }
     requires formed { IsWellFormed config.now command }
     requires idle { (p : Progress) × IsIdleAt V.origin V.run V.entry V.mark lock.now p number seat.old }
-    requires empty { IsEmptyPair config.now.queue_depth pair.old }
+    requires pair { IsIdlePair config.now.queue_depth number number pair.old }
     ensures post { KeepsPost gauge.now seat.old seat.new pass.old pass.new }
     ensures served { (p : Progress) → IsIdleAt V.origin V.run V.entry V.mark lock.now p number seat.old →
         MatchResult result
         (λ e. ServesAt V.origin V.run V.entry V.mark lock.now p number command seat.new pass.new e.receipt)
         (λ stop. StopsAt V.origin V.run V.entry V.mark lock.now p seat.new) }
     ensures cause { IfErr result (λ stop. stop ≡ Turns → IsSpent V.origin V.entries V.spent lock.now seat.new) }
-    ensures empty { OnOk result (IsEmptyPair config.now.queue_depth pair.new) }
-    ensures reaped { IfOk result (λ e. IsReaped pair.old (number_of seat.new) number e.receipt.reply e.completion) }
+    ensures pair { OnOk result (IsIdlePair config.now.queue_depth (number + 1) (number + 1) pair.new) }
+    ensures reaped { IfOk result (λ e. IsReaped config.now.queue_depth (number_of seat.new) number e.receipt.reply e.completion) }
 {
     let named = deliver(pair, &command, number);
     match serve(
         rt, alloc, lock, gauge, gate, config, seat, pass, named, command,
     ) {
         Ok(receipt) => {
-            let (queue, depth) = (seat.number(), config.queue_depth);
-            let completion = complete(pair, queue, depth, named, &receipt.reply);
+            let completion = complete(pair, seat.number(), named, &receipt.reply);
             Ok(Exchanged {
                 receipt,
                 completion,
@@ -196,7 +194,7 @@ fn serve_all<V: Steps, G: Gate, R: Wait>(
     requires formed { All (IsWellFormed config.now) trace.items }
     requires few { length trace.items ≤ MOST_TRACE_COMMANDS }
     requires idle { IsIdleAt V.origin V.run V.entry V.mark lock.now (so_far trace.items 0 []) 0 seat.old }
-    requires empty { IsEmptyPair config.now.queue_depth pair.old }
+    requires pair { IsIdlePair config.now.queue_depth 0 0 pair.old }
     requires room { length trace.items ≤ vec_capacity receipts.old }
     requires none { receipts.old.items ≡ [] }
     ensures post { KeepsPost gauge.now seat.old seat.new pass.old pass.new }

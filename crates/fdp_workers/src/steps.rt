@@ -2,15 +2,13 @@ ghost use Rattle.std.specs.Prelude.{◌≡◌, ◌↔◌, ◌≢◌, ◌+◌, �
 ghost use mathlib.Core.List.{IsPrefix};
 ghost use Rattle.fdp_gauge.specs.Passes.{seen_of, IsPassOf};
 ghost use Rattle.fdp_rules.specs.PlainState.{Going};
-ghost use Rattle.fdp_book.specs.Tickets.{IsTicketOf};
+ghost use Rattle.fdp_core.specs.fdp_book.Tickets.{IsTicketOf};
 ghost use Rattle.fdp_workers.specs.Run.{IsHistory, state_by};
 ghost use Rattle.fdp_workers.specs.Turns.{AddsNone, Begins, Completes, IsFlying, IsReady, IsWaiting, MayBegin, Places};
 
 use fdp_base::{Command, Recorded};
-use fdp_book::{Done, Room, Ticket};
-use fdp_core::{Begun, Placed};
+use fdp_core::{Advance, Begun, Done, Placed, Room, Ticket};
 use fdp_gauge::{Gauge, Pass};
-use fdp_relocation::Advance;
 use std::alloc::AllocError;
 use std::sync::Wait;
 

@@ -1,7 +1,7 @@
 //! Single turns of a host: each makes one step.
 ghost use Rattle.std.specs.Prelude.{◌≡◌, ◌+◌, ◌^◌, ◌<◌, MatchResult, IfErr, OnOk};
 ghost use Rattle.fdp_base.specs.CommandKinds.{IsWellFormed, blocks_written};
-ghost use Rattle.fdp_book.specs.Room.{room_for};
+ghost use Rattle.fdp_core.specs.fdp_book.Room.{room_for};
 ghost use Rattle.fdp_lock.specs.Seats.{turns_of};
 ghost use Rattle.fdp_rules.specs.PlainState.{Going};
 ghost use Rattle.fdp_workers.specs.declared.stop.Stop.TheVariants.{Turns};
@@ -11,8 +11,7 @@ ghost use Rattle.fdp_workers.specs.Queues.{Progress};
 use crate::steps::Steps;
 use crate::stop::Stop;
 use fdp_base::Command;
-use fdp_book::{Done, Room, Ticket};
-use fdp_core::{Begun, Placed};
+use fdp_core::{Begun, Done, Placed, Room, Ticket};
 use fdp_gauge::{Gauge, Pass};
 use fdp_lock::{GroupLock, Seat, Turn};
 use std::sync::Wait;

@@ -16,7 +16,7 @@ use Rattle.fdp_rules.specs.PlainState.{Block, PlainState}
 use Rattle.fdp_rules.specs.Point.{Point}
 use Rattle.fdp_rules.specs.Sites.{traced_by}
 use Rattle.fdp_book.proofs.Kept.{IsAlike}
-use Rattle.fdp_locations.proofs.Units.{HasSameUnits}
+use Rattle.fdp_readings.proofs.fdp_locations.Units.{HasSameUnits}
 use Rattle.fdp_base.specs.declared.command.Write.{Write}
 
 -- the blocks with those of a write

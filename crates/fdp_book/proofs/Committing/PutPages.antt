@@ -11,17 +11,17 @@ use Rattle.fdp_map.specs.declared.mapped.Mapped.{Mapped}
 use Rattle.fdp_map.specs.MapTable.{IsPageOf, MapTable, mapped_at, mapped_on, size_in, with_mapped}
 use Rattle.fdp_book.specs.Flown.{place_in, with_pages}
 use Rattle.fdp_book.specs.Taking.{CanTake, MayTake, cleared_of, with_taken}
-use Rattle.fdp_locations.specs.Taken.{taken_first}
-use Rattle.fdp_locations.proofs.Taken.{IsCleared, among-not, block-before, flight-before, taken-next, taken-none}
+use Rattle.fdp_readings.specs.fdp_locations.Taken.{taken_first}
+use Rattle.fdp_readings.proofs.fdp_locations.Taken.{IsCleared, among-not, block-before, flight-before, taken-next, taken-none}
 use Rattle.fdp_owners.specs.declared.owner.Holder.TheVariants.{Block}
 use Rattle.fdp_owners.specs.declared.owner.Owner.{Owner}
 use Rattle.fdp_owners.specs.Owned.{AreOwners}
 use Rattle.fdp_owners.specs.OwnerTable.{held_by, owner_at, with_owner}
 use Rattle.fdp_owners.proofs.Owned.{owners-apart}
 use Rattle.fdp_owners.proofs.Tables.{is_spot-other}
-use Rattle.fdp_pages.specs.Joined.{AreJoined}
-use Rattle.fdp_pages.specs.PageTables.{PageTables}
-use Rattle.fdp_pages.specs.Steps.{ChangesOwners}
+use Rattle.fdp_readings.specs.fdp_pages.Joined.{AreJoined}
+use Rattle.fdp_readings.specs.fdp_pages.PageTables.{PageTables}
+use Rattle.fdp_readings.specs.fdp_pages.Steps.{ChangesOwners}
 use Rattle.fdp_pointers.specs.Facts.{Page}
 use Rattle.fdp_pointers.specs.Pointers.{Behind, Pointer, Pointer.of_block, Pointer.of_flight, renamed}
 use Rattle.fdp_units.specs.declared.data_unit.DataUnit.{DataUnit}

@@ -12,8 +12,8 @@ use Rattle.fdp_base.specs.declared.config.DriveConfig.{DriveConfig}
 use Rattle.fdp_base.specs.declared.entry.Entry.{Entry}
 use Rattle.fdp_base.specs.declared.entry.Spot.{Spot}
 use Rattle.fdp_book.proofs.Leading.{live_of, page-led}
-use Rattle.fdp_locations.specs.Located.{next_in}
-use Rattle.fdp_locations.specs.Written.{Written}
+use Rattle.fdp_readings.specs.fdp_locations.Located.{next_in}
+use Rattle.fdp_readings.specs.fdp_locations.Written.{Written}
 use Rattle.fdp_pointers.specs.Contents.{PageContent, page_of_write}
 use Rattle.fdp_pointers.specs.Pointers.{Pointer.of_flight}
 use Rattle.fdp_pointers.proofs.Tables.{from-flight, site-at}

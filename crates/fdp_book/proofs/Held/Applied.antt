@@ -20,13 +20,13 @@ use Rattle.fdp_book.specs.Held.{AreSumsOf, IsHeld, lead_in}
 use Rattle.fdp_book.proofs.Held.Next.{AreTablesOf, held-next}
 use Rattle.fdp_book.proofs.Held.Sums.{are_sums-push}
 use Rattle.fdp_book.proofs.Histories.Commanded.{applied-succeeds, success-follows}
-use Rattle.fdp_locations.specs.Located.{AreAlike, AreLed, LeadsTo, next_in}
-use Rattle.fdp_locations.specs.Written.{Written, written_by}
-use Rattle.fdp_locations.proofs.Ended.{host}
-use Rattle.fdp_locations.proofs.Kept.{WasNamed, holds-same, led-still}
+use Rattle.fdp_readings.specs.fdp_locations.Located.{AreAlike, AreLed, LeadsTo, next_in}
+use Rattle.fdp_readings.specs.fdp_locations.Written.{Written, written_by}
+use Rattle.fdp_readings.proofs.fdp_locations.Ended.{host}
+use Rattle.fdp_readings.proofs.fdp_locations.Kept.{WasNamed, holds-same, led-still}
 use Rattle.fdp_owners.specs.Owned.{AreOwners}
 use Rattle.fdp_owners.specs.OwnerTable.{owner_at}
-use Rattle.fdp_pages.specs.PageTables.{PageTables, copies_at, passes_at}
+use Rattle.fdp_readings.specs.fdp_pages.PageTables.{PageTables, copies_at, passes_at}
 use Rattle.fdp_passes.specs.GroupPasses.{Pass}
 use Rattle.fdp_pointers.specs.Contents.{ended_by}
 use Rattle.fdp_pointers.specs.Facts.{Page}
@@ -38,7 +38,7 @@ use Rattle.fdp_rules.specs.PlainState.{Going, PlainState}
 use Rattle.fdp_rules.specs.Point.{Point}
 use Rattle.fdp_rules.specs.Refusal.{refusal_of}
 use Rattle.fdp_rules.specs.Step.{Follows, IsQueue}
-use Rattle.fdp_trails.proofs.Grouping.{all-renamed}
+use Rattle.fdp_readings.proofs.fdp_trails.Grouping.{all-renamed}
 
 never : {X : Type 0} {x : X} → None ≡ Some x → ⊥
 never e = cc

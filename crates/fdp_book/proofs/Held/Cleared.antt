@@ -20,14 +20,14 @@ use Rattle.fdp_book.proofs.Held.Applied.{applied_entry, applied-going, held-appl
 use Rattle.fdp_book.proofs.Held.Ended.{passes-same}
 use Rattle.fdp_book.proofs.Kept.{IsAlike, flights-alike, setting-alike, spaces-alike}
 use Rattle.fdp_book.proofs.Leading.{pages-same}
-use Rattle.fdp_locations.specs.Located.{LeadsTo}
-use Rattle.fdp_locations.specs.Written.{Written}
-use Rattle.fdp_locations.proofs.Units.{HasSameUnits, owners-alike, owners-next, units-same}
+use Rattle.fdp_readings.specs.fdp_locations.Located.{LeadsTo}
+use Rattle.fdp_readings.specs.fdp_locations.Written.{Written}
+use Rattle.fdp_readings.proofs.fdp_locations.Units.{HasSameUnits, owners-alike, owners-next, units-same}
 use Rattle.fdp_map.specs.declared.mapped.Mapped.{Mapped}
 use Rattle.fdp_map.specs.MapTable.{MapTable, mapped_at, size_in}
 use Rattle.fdp_owners.specs.Owned.{AreOwners}
 use Rattle.fdp_owners.specs.OwnerTable.{owner_at}
-use Rattle.fdp_pages.specs.PageTables.{PageTables}
+use Rattle.fdp_readings.specs.fdp_pages.PageTables.{PageTables}
 use Rattle.fdp_pointers.specs.Contents.{ended_by}
 use Rattle.fdp_pointers.specs.Facts.{Page}
 use Rattle.fdp_pointers.specs.Pointers.{Behind, Pointer, Pointer.of_block, Pointer.of_flight, is_outside, only, renamed}

@@ -33,18 +33,18 @@ use Rattle.fdp_book.proofs.Histories.Follows.{end-follows, write-succeeds}
 use Rattle.fdp_book.proofs.Kept.{setting-alike, spaces-alike}
 use Rattle.fdp_book.proofs.Leading.{live_of, page-led, pages-same}
 use Rattle.fdp_flash.proofs.Lists.{slice_get_there}
-use Rattle.fdp_locations.specs.Located.{AreLed, LeadsTo, next_in}
-use Rattle.fdp_locations.specs.Taken.{taken_first}
-use Rattle.fdp_locations.specs.Written.{Written, written_by}
-use Rattle.fdp_locations.proofs.Ended.{host, led-committed}
-use Rattle.fdp_locations.proofs.Taken.{taken-all}
-use Rattle.fdp_locations.proofs.Units.{owners-alike, owners-next, units-same}
+use Rattle.fdp_readings.specs.fdp_locations.Located.{AreLed, LeadsTo, next_in}
+use Rattle.fdp_readings.specs.fdp_locations.Taken.{taken_first}
+use Rattle.fdp_readings.specs.fdp_locations.Written.{Written, written_by}
+use Rattle.fdp_readings.proofs.fdp_locations.Ended.{host, led-committed}
+use Rattle.fdp_readings.proofs.fdp_locations.Taken.{taken-all}
+use Rattle.fdp_readings.proofs.fdp_locations.Units.{owners-alike, owners-next, units-same}
 use Rattle.fdp_map.specs.declared.mapped.Mapped.{Mapped}
 use Rattle.fdp_map.specs.MapTable.{MapTable, mapped_at, mapped_on, size_in}
 use Rattle.fdp_owners.specs.Owned.{AreOwners}
 use Rattle.fdp_owners.specs.OwnerTable.{owner_at}
-use Rattle.fdp_pages.specs.PageTables.{passes_at}
-use Rattle.fdp_pages.specs.Steps.{ChangesOwners}
+use Rattle.fdp_readings.specs.fdp_pages.PageTables.{passes_at}
+use Rattle.fdp_readings.specs.fdp_pages.Steps.{ChangesOwners}
 use Rattle.fdp_pointers.specs.Contents.{PageContent}
 use Rattle.fdp_pointers.specs.Facts.{Page}
 use Rattle.fdp_pointers.proofs.Tables.{from-flight, site-at}
@@ -58,7 +58,7 @@ use Rattle.fdp_rules.specs.Point.{Point}
 use Rattle.fdp_rules.specs.Sites.{is_there}
 use Rattle.fdp_rules.specs.Step.{Follows, MaySucceed}
 use Rattle.fdp_spaces.specs.SpaceTable.{SpaceTable}
-use Rattle.fdp_trails.proofs.Grouping.{all-renamed}
+use Rattle.fdp_readings.proofs.fdp_trails.Grouping.{all-renamed}
 
 -- ---- the map
 

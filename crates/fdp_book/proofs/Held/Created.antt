@@ -20,9 +20,9 @@ use Rattle.fdp_book.proofs.Held.Spaced.{Unseen, at-read, flights-put, page-gone,
 use Rattle.fdp_book.proofs.Histories.Accepted.{created-few}
 use Rattle.fdp_history.proofs.Checks.{IsAcceptedCreate, accepted-create}
 use Rattle.fdp_history.proofs.Spaces.{free-is, in_force-within}
-use Rattle.fdp_locations.specs.Located.{LeadsTo}
-use Rattle.fdp_locations.specs.Written.{Written}
-use Rattle.fdp_locations.proofs.Units.{HasSameUnits, alike-self, units-same}
+use Rattle.fdp_readings.specs.fdp_locations.Located.{LeadsTo}
+use Rattle.fdp_readings.specs.fdp_locations.Written.{Written}
+use Rattle.fdp_readings.proofs.fdp_locations.Units.{HasSameUnits, alike-self, units-same}
 use Rattle.fdp_map.specs.declared.mapped.Mapped.{Mapped}
 use Rattle.fdp_map.specs.MapTable.{mapped_at, size_in}
 use Rattle.fdp_pointers.specs.Facts.{Page}

@@ -20,9 +20,9 @@ use Rattle.fdp_book.proofs.Held.Cleared.{told-mapped}
 use Rattle.fdp_book.proofs.Held.Ended.{passes-same}
 use Rattle.fdp_book.proofs.Held.Spaced.{at-read, flights-put, page-gone, page-other, spaces-put, there-put}
 use Rattle.fdp_book.proofs.Leading.{flown-known, nsid-known}
-use Rattle.fdp_locations.specs.Located.{LeadsTo}
-use Rattle.fdp_locations.specs.Written.{Written}
-use Rattle.fdp_locations.proofs.Units.{HasSameUnits, owners-alike, owners-next, units-same}
+use Rattle.fdp_readings.specs.fdp_locations.Located.{LeadsTo}
+use Rattle.fdp_readings.specs.fdp_locations.Written.{Written}
+use Rattle.fdp_readings.proofs.fdp_locations.Units.{HasSameUnits, owners-alike, owners-next, units-same}
 use Rattle.fdp_map.specs.declared.mapped.Mapped.{Mapped}
 use Rattle.fdp_map.specs.MapTable.{MapTable, mapped_at, size_in}
 use Rattle.fdp_owners.specs.Owned.{AreOwners}

@@ -25,13 +25,13 @@ use Rattle.fdp_book.proofs.Kept.{IsAlike, flight-alike, flights-alike, map-alike
 use Rattle.fdp_book.proofs.Leading.{its-pages, leads-same, leads-without, live-known, live_of}
 use Rattle.fdp_history.proofs.Points.{orderly-ended}
 use Rattle.fdp_history.proofs.Standing.{standing-ended}
-use Rattle.fdp_locations.specs.Located.{LeadsTo}
-use Rattle.fdp_locations.specs.Written.{Written, written_by}
-use Rattle.fdp_locations.proofs.Ended.{ends-as, host, owners-released}
-use Rattle.fdp_locations.proofs.Units.{HasSameUnits, alike-self, owners-alike, owners-next, units-same}
+use Rattle.fdp_readings.specs.fdp_locations.Located.{LeadsTo}
+use Rattle.fdp_readings.specs.fdp_locations.Written.{Written, written_by}
+use Rattle.fdp_readings.proofs.fdp_locations.Ended.{ends-as, host, owners-released}
+use Rattle.fdp_readings.proofs.fdp_locations.Units.{HasSameUnits, alike-self, owners-alike, owners-next, units-same}
 use Rattle.fdp_owners.specs.OwnerTable.{owner_at}
-use Rattle.fdp_pages.specs.PageTables.{PageTables, passes_at}
-use Rattle.fdp_pages.specs.Steps.{without}
+use Rattle.fdp_readings.specs.fdp_pages.PageTables.{PageTables, passes_at}
+use Rattle.fdp_readings.specs.fdp_pages.Steps.{without}
 use Rattle.fdp_passes.specs.GroupPasses.{GroupPasses}
 use Rattle.fdp_pointers.specs.Contents.{ended_by}
 use Rattle.fdp_pointers.specs.Pointers.{Pointer, is_of_another, only, renamed}
@@ -44,8 +44,8 @@ use Rattle.fdp_rules.specs.Point.{Point}
 use Rattle.fdp_rules.specs.Sites.{is_there}
 use Rattle.fdp_rules.specs.Step.{IsOnTarget, IsQueue}
 use Rattle.fdp_rules.specs.Totals.{host_blocks_of}
-use Rattle.fdp_trails.specs.Followed.{IsPassOf}
-use Rattle.fdp_trails.proofs.Grouping.{all-renamed}
+use Rattle.fdp_readings.specs.fdp_trails.Followed.{IsPassOf}
+use Rattle.fdp_readings.proofs.fdp_trails.Grouping.{all-renamed}
 
 -- the state after the end of a command whose change is not made
 abbrev ended_state : PlainState → ℕ → Command → Reply → ℕ → PlainState

@@ -18,12 +18,12 @@ use Rattle.fdp_history.proofs.Changed.{unit-kept, with-parts}
 use Rattle.fdp_history.specs.Listed.{IsListed}
 use Rattle.fdp_history.specs.Orderly.{IsOrderly}
 use Rattle.fdp_history.specs.Standing.{IsStanding}
-use Rattle.fdp_locations.specs.Located.{AreLed, handle_at}
-use Rattle.fdp_locations.specs.Written.{Written, written_by}
-use Rattle.fdp_locations.proofs.Ended.{host}
-use Rattle.fdp_locations.proofs.Histories.{written_by-push}
-use Rattle.fdp_locations.proofs.Units.{HasSameUnits, alike-self, units-same}
-use Rattle.fdp_pages.specs.PageTables.{PageTables}
+use Rattle.fdp_readings.specs.fdp_locations.Located.{AreLed, handle_at}
+use Rattle.fdp_readings.specs.fdp_locations.Written.{Written, written_by}
+use Rattle.fdp_readings.proofs.fdp_locations.Ended.{host}
+use Rattle.fdp_readings.proofs.fdp_locations.Histories.{written_by-push}
+use Rattle.fdp_readings.proofs.fdp_locations.Units.{HasSameUnits, alike-self, units-same}
+use Rattle.fdp_readings.specs.fdp_pages.PageTables.{PageTables}
 use Rattle.fdp_pointers.specs.Contents.{PageContent, content_at}
 use Rattle.fdp_pointers.specs.Facts.{Page}
 use Rattle.fdp_pointers.specs.Pointers.{Behind, Pointer, Pointer.of_block, Pointer.of_flight}

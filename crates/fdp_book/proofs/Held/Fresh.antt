@@ -16,28 +16,28 @@ use Rattle.fdp_book.specs.Book.{AreUnused}
 use Rattle.fdp_book.specs.Configured.{AreConfiguredSpaces, IsConfiguredMap, fresh_opening}
 use Rattle.fdp_base.specs.Geometry.{all_pages}
 use Rattle.fdp_base.specs.Placement.{geometry_of}
-use Rattle.fdp_locations.specs.Held.{no_pages, pages_held}
-use Rattle.fdp_locations.specs.Written.{Written}
-use Rattle.fdp_locations.proofs.Held.{held-blank}
+use Rattle.fdp_readings.specs.fdp_locations.Held.{no_pages, pages_held}
+use Rattle.fdp_readings.specs.fdp_locations.Written.{Written}
+use Rattle.fdp_readings.proofs.fdp_locations.Held.{held-blank}
 use Rattle.fdp_book.specs.Held.{AreFlightsOf, ArePagesOf, AreSumsOf, IsHeld, IsMapOf, flight_in, going_of, lead_in, page_in}
 use Rattle.fdp_history.proofs.Fresh.{orderly-fresh, standing-fresh}
 use Rattle.fdp_history.proofs.Listing.{listed-fresh}
-use Rattle.fdp_locations.specs.Located.{AreUnitsOf}
-use Rattle.fdp_locations.specs.Written.{written_by, written_from}
+use Rattle.fdp_readings.specs.fdp_locations.Located.{AreUnitsOf}
+use Rattle.fdp_readings.specs.fdp_locations.Written.{written_by, written_from}
 use Rattle.fdp_map.specs.declared.mapped.Mapped.{Mapped}
 use Rattle.fdp_map.specs.MapTable.{MapTable}
 use Rattle.fdp_owners.specs.declared.owner.Owner.{Owner}
 use Rattle.fdp_owners.specs.Owned.{AreOwners}
 use Rattle.fdp_owners.proofs.Owned.{owners-none}
-use Rattle.fdp_pages.specs.Joined.{AreJoined}
-use Rattle.fdp_pages.specs.PageTables.{PageTables, no_passes, no_targets, passes_at}
+use Rattle.fdp_readings.specs.fdp_pages.Joined.{AreJoined}
+use Rattle.fdp_readings.specs.fdp_pages.PageTables.{PageTables, no_passes, no_targets, passes_at}
 use Rattle.fdp_passes.specs.GroupPasses.{GroupPasses, Pass}
 use Rattle.fdp_passes.specs.Due.{copies_in}
 use Rattle.fdp_pointers.specs.Facts.{Page}
 use Rattle.fdp_pointers.specs.Pointers.{Pointer, Pointer.of_block, Pointer.of_flight}
 use Rattle.fdp_pointers.proofs.Opening.{table-fresh}
 use Rattle.fdp_rules.specs.History.{first_state, fresh, point_of, state_of}
-use Rattle.fdp_trails.proofs.Following.{pass-ended}
+use Rattle.fdp_readings.proofs.fdp_trails.Following.{pass-ended}
 use Rattle.fdp_units.specs.declared.data_unit.DataUnit.{DataUnit}
 use Rattle.fdp_units.specs.DataUnits.{is_lost}
 use Rattle.fdp_units.specs.UnitTable.{Cut, cut_of, unit_at}

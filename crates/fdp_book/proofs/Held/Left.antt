@@ -11,16 +11,16 @@ use Rattle.fdp_book.specs.declared.flight.Flight.{Flight}
 use Rattle.fdp_book.specs.Held.{ArePagesOf}
 use Rattle.fdp_book.proofs.Leading.{leads-same}
 use Rattle.fdp_history.specs.Orderly.{IsOrderly}
-use Rattle.fdp_locations.specs.Located.{AreAlike, AreLed, next_in}
-use Rattle.fdp_locations.specs.Written.{Written}
-use Rattle.fdp_locations.proofs.Ended.{host}
-use Rattle.fdp_locations.proofs.Kept.{WasNamed, holds-same, led-still}
-use Rattle.fdp_locations.proofs.Left.{left-next}
+use Rattle.fdp_readings.specs.fdp_locations.Located.{AreAlike, AreLed, next_in}
+use Rattle.fdp_readings.specs.fdp_locations.Written.{Written}
+use Rattle.fdp_readings.proofs.fdp_locations.Ended.{host}
+use Rattle.fdp_readings.proofs.fdp_locations.Kept.{WasNamed, holds-same, led-still}
+use Rattle.fdp_readings.proofs.fdp_locations.Left.{left-next}
 use Rattle.fdp_map.specs.MapTable.{MapTable}
 use Rattle.fdp_owners.specs.Owned.{AreOwners}
 use Rattle.fdp_owners.specs.OwnerTable.{OwnerTable, owner_at}
-use Rattle.fdp_pages.specs.PageTables.{PageTables, passes_at}
-use Rattle.fdp_pages.specs.Steps.{LeavesUnits}
+use Rattle.fdp_readings.specs.fdp_pages.PageTables.{PageTables, passes_at}
+use Rattle.fdp_readings.specs.fdp_pages.Steps.{LeavesUnits}
 use Rattle.fdp_passes.specs.GroupPasses.{Pass}
 use Rattle.fdp_pointers.specs.Contents.{ended_by}
 use Rattle.fdp_pointers.specs.Pointers.{Pointer, renamed}
@@ -28,7 +28,7 @@ use Rattle.fdp_rules.specs.Next.{next}
 use Rattle.fdp_rules.specs.PlainState.{Going, PlainState}
 use Rattle.fdp_rules.specs.Point.{Point}
 use Rattle.fdp_rules.specs.Step.{Follows}
-use Rattle.fdp_trails.proofs.Grouping.{all-renamed}
+use Rattle.fdp_readings.proofs.fdp_trails.Grouping.{all-renamed}
 
 pub pages-left : (told : Bool) (c : DriveConfig) (p : Point) (queue number : ℕ) (command : Command) (reply : Reply) (moment : ℕ) (written : Spot → Option Written) (map : MapTable) (flights : List (Option Flight)) (t now : PageTables) →
     IsOrderly c p → Follows told c p (host queue number command reply moment) → ended_by p.state queue reply.applied command ≡ Some →

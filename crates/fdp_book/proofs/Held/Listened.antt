@@ -10,8 +10,8 @@ use Rattle.fdp_book.specs.Held.{IsHeld}
 use Rattle.fdp_book.proofs.Held.Applied.{applied_entry, applied-going, held-applied}
 use Rattle.fdp_book.proofs.Kept.{IsAlike, flights-alike, map-alike, setting-alike, spaces-alike}
 use Rattle.fdp_book.proofs.Leading.{leads-same}
-use Rattle.fdp_locations.specs.Written.{Written}
-use Rattle.fdp_locations.proofs.Units.{HasSameUnits, alike-self, units-same}
+use Rattle.fdp_readings.specs.fdp_locations.Written.{Written}
+use Rattle.fdp_readings.proofs.fdp_locations.Units.{HasSameUnits, alike-self, units-same}
 use Rattle.fdp_rules.specs.Change.{after, changed_by}
 use Rattle.fdp_rules.specs.Effect.{effect_of}
 use Rattle.fdp_rules.specs.History.{Found, point_of}

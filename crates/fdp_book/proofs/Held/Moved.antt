@@ -19,19 +19,19 @@ use Rattle.fdp_book.proofs.Held.Worked.{IsQuiet}
 use Rattle.fdp_book.proofs.Kept.{flights-alike, map-alike, setting-alike, spaces-alike}
 use Rattle.fdp_book.proofs.Leading.{leads-same}
 use Rattle.fdp_book.proofs.Relocating.Leads.{leads-as, owners-same}
-use Rattle.fdp_locations.specs.Located.{AreLed, LeadsTo, next_in}
-use Rattle.fdp_locations.specs.Written.{Written, written_by}
-use Rattle.fdp_locations.proofs.Others.{ChangesPasses, copy-groups, ended-fewer, ended-left, group-same, is-group}
-use Rattle.fdp_locations.proofs.Grouped.{StayInGroups}
-use Rattle.fdp_locations.proofs.Relocated.{led-moved}
-use Rattle.fdp_locations.proofs.Units.{HasSameUnits, owners-alike, owners-next, units-same}
+use Rattle.fdp_readings.specs.fdp_locations.Located.{AreLed, LeadsTo, next_in}
+use Rattle.fdp_readings.specs.fdp_locations.Written.{Written, written_by}
+use Rattle.fdp_readings.proofs.fdp_locations.Others.{ChangesPasses, copy-groups, ended-fewer, ended-left, group-same, is-group}
+use Rattle.fdp_readings.proofs.fdp_locations.Grouped.{StayInGroups}
+use Rattle.fdp_readings.proofs.fdp_locations.Relocated.{led-moved}
+use Rattle.fdp_readings.proofs.fdp_locations.Units.{HasSameUnits, owners-alike, owners-next, units-same}
 use Rattle.fdp_map.specs.MapTable.{MapTable, size_in}
 use Rattle.fdp_owners.specs.declared.owner.Owner.{Owner}
 use Rattle.fdp_owners.specs.Owned.{AreOwners, page_of}
 use Rattle.fdp_owners.specs.OwnerTable.{owner_at, pointer_of}
-use Rattle.fdp_pages.specs.Joined.{AreJoined}
-use Rattle.fdp_pages.specs.PageTables.{PageTables, copies_at, no_passes, passes_at}
-use Rattle.fdp_pages.specs.Steps.{HasMoved, ended_move}
+use Rattle.fdp_readings.specs.fdp_pages.Joined.{AreJoined}
+use Rattle.fdp_readings.specs.fdp_pages.PageTables.{PageTables, copies_at, no_passes, passes_at}
+use Rattle.fdp_readings.specs.fdp_pages.Steps.{HasMoved, ended_move}
 use Rattle.fdp_passes.specs.declared.due.Due.TheVariants as due
 use Rattle.fdp_passes.specs.Due.{IsDue, copies_in}
 use Rattle.fdp_passes.specs.GroupPasses.{GroupPasses, Pass, without_copies}
@@ -45,10 +45,10 @@ use Rattle.fdp_rules.specs.PlainState.{Going, PlainState}
 use Rattle.fdp_rules.specs.Point.{Point}
 use Rattle.fdp_rules.specs.Sites.{group_of, is_there, moved_blocks, moved_by, pass_in}
 use Rattle.fdp_rules.specs.Step.{Follows, IsOnTarget}
-use Rattle.fdp_trails.specs.Followed.{IsCopyOf, IsFollowed}
-use Rattle.fdp_trails.specs.Moves.{AreMovable, names_of, owners_moved}
-use Rattle.fdp_trails.proofs.Grouping.{all-moved}
-use Rattle.fdp_trails.proofs.Listing.{copies-movable, pass-listed, pass-owners, pass-page, pass-to_copies}
+use Rattle.fdp_readings.specs.fdp_trails.Followed.{IsCopyOf, IsFollowed}
+use Rattle.fdp_readings.specs.fdp_trails.Moves.{AreMovable, names_of, owners_moved}
+use Rattle.fdp_readings.proofs.fdp_trails.Grouping.{all-moved}
+use Rattle.fdp_readings.proofs.fdp_trails.Listing.{copies-movable, pass-listed, pass-owners, pass-page, pass-to_copies}
 
 abbrev pub moved_entry : ℕ → List BlockName → Entry
 moved_entry rg blocks = entries.Moved (record { rg = rg; blocks = blocks })

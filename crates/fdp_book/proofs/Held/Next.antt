@@ -11,9 +11,9 @@ use Rattle.fdp_history.proofs.Listing.{listed-next}
 use Rattle.fdp_history.specs.Standing.{IsStanding}
 use Rattle.fdp_history.proofs.Points.{orderly-next}
 use Rattle.fdp_history.proofs.Standing.{standing-next}
-use Rattle.fdp_locations.specs.Located.{AreUnitsOf}
-use Rattle.fdp_locations.specs.Written.{Written, written_after, written_by}
-use Rattle.fdp_locations.proofs.Histories.{written_by-push}
+use Rattle.fdp_readings.specs.fdp_locations.Located.{AreUnitsOf}
+use Rattle.fdp_readings.specs.fdp_locations.Written.{Written, written_after, written_by}
+use Rattle.fdp_readings.proofs.fdp_locations.Histories.{written_by-push}
 use Rattle.fdp_rules.proofs.Pushes.{point_of-push}
 use Rattle.fdp_rules.specs.History.{Found, point_of}
 use Rattle.fdp_rules.specs.Next.{next}

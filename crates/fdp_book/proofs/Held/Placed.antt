@@ -24,10 +24,10 @@ use Rattle.fdp_book.proofs.Leading.{pages-same}
 use Rattle.fdp_book.proofs.Placing.Fresh.{IsFreshPage, fresh-apart}
 use Rattle.fdp_history.proofs.Placing.{going_with-is}
 use Rattle.fdp_history.specs.OrderlyState.{IsOrderlyState}
-use Rattle.fdp_locations.specs.Located.{LeadsTo, next_in}
-use Rattle.fdp_locations.specs.Written.{Written, next_spare, written_by}
-use Rattle.fdp_locations.proofs.Placed.{IsNewPage, going-placed, led-placed}
-use Rattle.fdp_locations.proofs.Units.{changed-next, puts-alike, units-referring}
+use Rattle.fdp_readings.specs.fdp_locations.Located.{LeadsTo, next_in}
+use Rattle.fdp_readings.specs.fdp_locations.Written.{Written, next_spare, written_by}
+use Rattle.fdp_readings.proofs.fdp_locations.Placed.{IsNewPage, going-placed, led-placed}
+use Rattle.fdp_readings.proofs.fdp_locations.Units.{changed-next, puts-alike, units-referring}
 use Rattle.fdp_handles.specs.HandleTable.{reference_at}
 use Rattle.fdp_map.specs.MapTable.{MapTable}
 use Rattle.fdp_base.specs.declared.spare.DataSpare.{DataSpare}
@@ -37,9 +37,9 @@ use Rattle.fdp_owners.specs.declared.owner.Holder.TheVariants as holders
 use Rattle.fdp_owners.specs.declared.owner.Owner.{Owner}
 use Rattle.fdp_owners.specs.Owned.{page_of}
 use Rattle.fdp_owners.specs.OwnerTable.{pointer_of}
-use Rattle.fdp_pages.specs.Joined.{AreJoined}
-use Rattle.fdp_pages.specs.PageTables.{copies_at, passes_at}
-use Rattle.fdp_pages.specs.Steps.{PutsPage}
+use Rattle.fdp_readings.specs.fdp_pages.Joined.{AreJoined}
+use Rattle.fdp_readings.specs.fdp_pages.PageTables.{copies_at, passes_at}
+use Rattle.fdp_readings.specs.fdp_pages.Steps.{PutsPage}
 use Rattle.fdp_passes.specs.GroupPasses.{GroupPasses, Pass}
 use Rattle.fdp_pointers.specs.Facts.{Page}
 use Rattle.fdp_pointers.specs.Pointers.{Behind, Pointer.of_block, Pointer.of_flight, pointed}
@@ -52,7 +52,7 @@ use Rattle.fdp_rules.specs.Point.{Point}
 use Rattle.fdp_rules.specs.Sites.{is_there}
 use Rattle.fdp_rules.specs.Step.{Follows, IsOnTarget, IsPlaced}
 use Rattle.fdp_spaces.specs.SpaceTable.{SpaceTable}
-use Rattle.fdp_trails.proofs.Grouping.{all-placed}
+use Rattle.fdp_readings.proofs.fdp_trails.Grouping.{all-placed}
 use Rattle.fdp_units.specs.UnitTable.{Cut}
 
 abbrev placed_entry : ℕ → ℕ → Spot → Entry

@@ -10,20 +10,20 @@ use Rattle.fdp_book.specs.declared.tables.Tables.{Tables}
 use Rattle.fdp_book.specs.Held.{IsHeld}
 use Rattle.fdp_book.specs.Relocating.{told_by}
 use Rattle.fdp_book.proofs.Held.Worked.{AreTold, held-rested, held-unsaid, held-worked, quiet-aside, quiet-copied, quiet-erased, quiet-retired, quiet-worn, sums-same, sums-told}
-use Rattle.fdp_collector.specs.declared.step.Lost.TheVariants as lost
-use Rattle.fdp_collector.specs.declared.step.Step.{Step}
-use Rattle.fdp_collector.specs.declared.step.Step.TheVariants as steps
-use Rattle.fdp_collector.specs.Ready.{lane_at}
-use Rattle.fdp_collector.specs.Step.{AddsCopy, EndsInErase, GoesAside, IsCopyStep, IsStarved, IsStep, IsUnread, Rests}
+use Rattle.fdp_readings.specs.fdp_collector.declared.step.Lost.TheVariants as lost
+use Rattle.fdp_readings.specs.fdp_collector.declared.step.Step.{Step}
+use Rattle.fdp_readings.specs.fdp_collector.declared.step.Step.TheVariants as steps
+use Rattle.fdp_readings.specs.fdp_collector.Ready.{lane_at}
+use Rattle.fdp_readings.specs.fdp_collector.Step.{AddsCopy, EndsInErase, GoesAside, IsCopyStep, IsStarved, IsStep, IsUnread, Rests}
 use Rattle.fdp_flash.specs.declared.answer.Wrote.TheVariants as wrote
 use Rattle.fdp_flash.specs.FlashState.{FlashState}
-use Rattle.fdp_locations.specs.Written.{Written, written_by}
-use Rattle.fdp_locations.proofs.Copying.{copied-led, copied-units, copy-alike, copy-follows}
-use Rattle.fdp_locations.proofs.Ending.{aside-follows, aside-led, aside-units, erase-follows, erased-led, erased-units, rests-same, retire-follows, retired-led, retired-units, skipped-led, skipped-units, worn-follows, worn-led, worn-units}
-use Rattle.fdp_locations.proofs.Others.{ChangesPasses}
-use Rattle.fdp_locations.proofs.Units.{units-same}
-use Rattle.fdp_pages.specs.Joined.{AreJoined}
-use Rattle.fdp_pages.specs.PageTables.{PageTables, passes_at, relocation_at}
+use Rattle.fdp_readings.specs.fdp_locations.Written.{Written, written_by}
+use Rattle.fdp_readings.proofs.fdp_locations.Copying.{copied-led, copied-units, copy-alike, copy-follows}
+use Rattle.fdp_readings.proofs.fdp_locations.Ending.{aside-follows, aside-led, aside-units, erase-follows, erased-led, erased-units, rests-same, retire-follows, retired-led, retired-units, skipped-led, skipped-units, worn-follows, worn-led, worn-units}
+use Rattle.fdp_readings.proofs.fdp_locations.Others.{ChangesPasses}
+use Rattle.fdp_readings.proofs.fdp_locations.Units.{units-same}
+use Rattle.fdp_readings.specs.fdp_pages.Joined.{AreJoined}
+use Rattle.fdp_readings.specs.fdp_pages.PageTables.{PageTables, passes_at, relocation_at}
 use Rattle.fdp_passes.specs.declared.due.Due.TheVariants as due
 use Rattle.fdp_passes.specs.Due.{IsDue}
 use Rattle.fdp_rules.specs.History.{Found, point_of}

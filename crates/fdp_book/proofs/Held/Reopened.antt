@@ -43,18 +43,18 @@ use Rattle.fdp_image.specs.CheckpointRows.{is_namespace_id}
 use Rattle.fdp_image.specs.Outline.{state_with}
 use Rattle.fdp_image.specs.Reading.{Reading, size_in as size_by, spot_of}
 use Rattle.fdp_image.specs.Valid.{IsValid, block_from, block_read, state_in}
-use Rattle.fdp_locations.specs.Held.{pages_held}
-use Rattle.fdp_locations.specs.Located.{LeadsTo}
-use Rattle.fdp_locations.specs.Written.{written_by}
+use Rattle.fdp_readings.specs.fdp_locations.Held.{pages_held}
+use Rattle.fdp_readings.specs.fdp_locations.Located.{LeadsTo}
+use Rattle.fdp_readings.specs.fdp_locations.Written.{written_by}
 use Rattle.fdp_map.specs.declared.mapped.Mapped.{Mapped}
 use Rattle.fdp_map.specs.MapTable.{MapTable, mapped_at, size_in}
 use Rattle.fdp_map.specs.PageLists.{placed_on, size_at, table_of}
-use Rattle.fdp_opening.proofs.Mapping.{sizes-few}
+use Rattle.fdp_found.proofs.fdp_opening.Mapping.{sizes-few}
 use Rattle.fdp_origin.specs.Opening.{Opening}
 use Rattle.fdp_owners.specs.declared.owner.Owner.{Owner}
 use Rattle.fdp_owners.specs.OwnerTable.{owner_at}
-use Rattle.fdp_pages.specs.Joined.{AreJoined}
-use Rattle.fdp_pages.specs.PageTables.{PageTables}
+use Rattle.fdp_readings.specs.fdp_pages.Joined.{AreJoined}
+use Rattle.fdp_readings.specs.fdp_pages.PageTables.{PageTables}
 use Rattle.fdp_pointers.specs.Facts.{Page}
 use Rattle.fdp_pointers.specs.Pointers.{Pointer, Pointer.of_block, Pointer.of_flight}
 use Rattle.fdp_rules.specs.Change.{after, changed_by}
@@ -64,8 +64,8 @@ use Rattle.fdp_rules.specs.Point.{Point}
 use Rattle.fdp_snapshot.specs.declared.space.Space.{Space}
 use Rattle.fdp_snapshot.specs.declared.state.State.{State}
 use Rattle.fdp_spaces.specs.SpaceTable.{SpaceTable, namespace_at}
-use Rattle.fdp_state.proofs.Loadable.{loadable}
-use Rattle.fdp_state.specs.Loaded.{IsDriveState}
+use Rattle.fdp_found.proofs.fdp_state.Loadable.{loadable}
+use Rattle.fdp_found.specs.fdp_state.Loaded.{IsDriveState}
 
 -- the tables but for those of the pages are those of a reading; no write is going
 pub record AreReadTables (c : DriveConfig) (r : Reading) (t : Tables) : Type 0 where

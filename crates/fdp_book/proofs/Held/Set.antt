@@ -23,11 +23,11 @@ use Rattle.fdp_book.proofs.Histories.Commanded.{success-follows}
 use Rattle.fdp_book.proofs.Kept.{on_target-alike, there-alike}
 use Rattle.fdp_history.proofs.Checks.{accepted-feature}
 use Rattle.fdp_history.proofs.Spaces.{none-there}
-use Rattle.fdp_locations.specs.Written.{Written, written_by}
-use Rattle.fdp_locations.proofs.Ended.{host}
-use Rattle.fdp_locations.proofs.Owned.{unowned-none}
-use Rattle.fdp_locations.proofs.Set.{units-set}
-use Rattle.fdp_pages.specs.Steps.{HasNoOwner, SetsClasses}
+use Rattle.fdp_readings.specs.fdp_locations.Written.{Written, written_by}
+use Rattle.fdp_readings.proofs.fdp_locations.Ended.{host}
+use Rattle.fdp_readings.proofs.fdp_locations.Owned.{unowned-none}
+use Rattle.fdp_readings.proofs.fdp_locations.Set.{units-set}
+use Rattle.fdp_readings.specs.fdp_pages.Steps.{HasNoOwner, SetsClasses}
 use Rattle.fdp_rules.specs.Answer.{bare}
 use Rattle.fdp_rules.specs.Change.{after, changed_by}
 use Rattle.fdp_rules.specs.Effect.{effect_of, no_reference}

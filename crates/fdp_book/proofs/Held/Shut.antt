@@ -16,13 +16,13 @@ use Rattle.fdp_book.proofs.Held.Sums.{are_sums-push}
 use Rattle.fdp_book.proofs.Kept.{IsAlike, flights-alike, map-alike, setting-alike, spaces-alike}
 use Rattle.fdp_book.proofs.Leading.{leads-same}
 use Rattle.fdp_book.proofs.Placing.Fresh.{IsFreshPage}
-use Rattle.fdp_locations.specs.Located.{next_in}
-use Rattle.fdp_locations.specs.Written.{Written, written_by}
-use Rattle.fdp_locations.proofs.Relocated.{led-shut}
-use Rattle.fdp_locations.proofs.Units.{changed-next, shuts-alike, units-referring}
+use Rattle.fdp_readings.specs.fdp_locations.Located.{next_in}
+use Rattle.fdp_readings.specs.fdp_locations.Written.{Written, written_by}
+use Rattle.fdp_readings.proofs.fdp_locations.Relocated.{led-shut}
+use Rattle.fdp_readings.proofs.fdp_locations.Units.{changed-next, shuts-alike, units-referring}
 use Rattle.fdp_owners.specs.OwnerTable.{OwnerTable, owner_at}
-use Rattle.fdp_pages.specs.PageTables.{PageTables, passes_at}
-use Rattle.fdp_pages.specs.Steps.{ShutsUnit}
+use Rattle.fdp_readings.specs.fdp_pages.PageTables.{PageTables, passes_at}
+use Rattle.fdp_readings.specs.fdp_pages.Steps.{ShutsUnit}
 use Rattle.fdp_rules.specs.Change.{after, changed_by}
 use Rattle.fdp_rules.specs.Effect.{no_reference, with_reference}
 use Rattle.fdp_rules.specs.History.{Found, point_of}
@@ -31,7 +31,7 @@ use Rattle.fdp_rules.specs.PlainState.{PlainState}
 use Rattle.fdp_rules.specs.Point.{Point}
 use Rattle.fdp_rules.specs.Room.{handles_in_force}
 use Rattle.fdp_rules.specs.Step.{Follows}
-use Rattle.fdp_trails.proofs.Grouping.{all-renamed}
+use Rattle.fdp_readings.proofs.fdp_trails.Grouping.{all-renamed}
 
 abbrev pub shut_entry : ℕ → ℕ → Entry
 shut_entry rg ruh = entries.Shut (record { rg = rg; ruh = ruh })

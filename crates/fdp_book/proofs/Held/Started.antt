@@ -20,14 +20,14 @@ use Rattle.fdp_book.proofs.Held.Next.{held-next}
 use Rattle.fdp_book.proofs.Held.Sums.{are_sums-push}
 use Rattle.fdp_book.proofs.Kept.{IsAlike, flight-alike, map-alike, setting-alike, spaces-alike}
 use Rattle.fdp_book.proofs.Leading.{its-pages, leads-without, live-known, live_of}
-use Rattle.fdp_locations.specs.Located.{LeadsTo}
-use Rattle.fdp_locations.specs.Written.{Written, written_by}
-use Rattle.fdp_locations.proofs.Ended.{led-started, owners-released}
-use Rattle.fdp_locations.proofs.Units.{HasSameUnits, owners-alike, owners-next, units-same}
+use Rattle.fdp_readings.specs.fdp_locations.Located.{LeadsTo}
+use Rattle.fdp_readings.specs.fdp_locations.Written.{Written, written_by}
+use Rattle.fdp_readings.proofs.fdp_locations.Ended.{led-started, owners-released}
+use Rattle.fdp_readings.proofs.fdp_locations.Units.{HasSameUnits, owners-alike, owners-next, units-same}
 use Rattle.fdp_map.specs.MapTable.{MapTable}
 use Rattle.fdp_owners.specs.OwnerTable.{owner_at}
-use Rattle.fdp_pages.specs.PageTables.{PageTables, copies_at, passes_at}
-use Rattle.fdp_pages.specs.Steps.{ChangesOwners, without}
+use Rattle.fdp_readings.specs.fdp_pages.PageTables.{PageTables, copies_at, passes_at}
+use Rattle.fdp_readings.specs.fdp_pages.Steps.{ChangesOwners, without}
 use Rattle.fdp_passes.specs.GroupPasses.{GroupPasses}
 use Rattle.fdp_pointers.specs.Pointers.{Pointer, is_of_another, only, renamed}
 use Rattle.fdp_rules.specs.Change.{after, changed_by, started}
@@ -38,7 +38,7 @@ use Rattle.fdp_rules.specs.Point.{Point}
 use Rattle.fdp_rules.specs.Sites.{is_there}
 use Rattle.fdp_rules.specs.Step.{Follows, IsOnTarget, IsStarted}
 use Rattle.fdp_spaces.specs.SpaceTable.{SpaceTable}
-use Rattle.fdp_trails.proofs.Grouping.{all-renamed}
+use Rattle.fdp_readings.proofs.fdp_trails.Grouping.{all-renamed}
 
 -- a flight that was started as this going write, and has no page
 pub record IsLetGo (c : DriveConfig) (p : Point) (queue number : ℕ) (command : Command) (f : Flight) : Type 0 where

@@ -10,14 +10,14 @@ use Rattle.fdp_base.specs.declared.entry.Spot.{Spot}
 use Rattle.fdp_base.specs.CommandKinds.{is_setting}
 use Rattle.fdp_base.specs.Numbers.{with_at}
 use Rattle.fdp_history.specs.OrderlyState.{IsOrderlyState}
-use Rattle.fdp_locations.specs.Located.{AreHandled, AreLed, AreNamed, next_in}
-use Rattle.fdp_locations.specs.Written.{IsWritten, Written}
-use Rattle.fdp_locations.proofs.Handled.{handled-renamed}
-use Rattle.fdp_locations.proofs.Grouped.{generation-next, units-renamed, units-same}
-use Rattle.fdp_locations.proofs.Ended.{host}
+use Rattle.fdp_readings.specs.fdp_locations.Located.{AreHandled, AreLed, AreNamed, next_in}
+use Rattle.fdp_readings.specs.fdp_locations.Written.{IsWritten, Written}
+use Rattle.fdp_readings.proofs.fdp_locations.Handled.{handled-renamed}
+use Rattle.fdp_readings.proofs.fdp_locations.Grouped.{generation-next, units-renamed, units-same}
+use Rattle.fdp_readings.proofs.fdp_locations.Ended.{host}
 use Rattle.fdp_owners.specs.Owned.{AreOwners}
 use Rattle.fdp_owners.specs.OwnerTable.{owner_at}
-use Rattle.fdp_pages.specs.PageTables.{PageTables, copies_at, passes_at}
+use Rattle.fdp_readings.specs.fdp_pages.PageTables.{PageTables, copies_at, passes_at}
 use Rattle.fdp_pointers.specs.Contents.{PageContent, content_at, ended_by}
 use Rattle.fdp_pointers.specs.Facts.{Carries, FollowsSites, IsTableOf, Page}
 use Rattle.fdp_pointers.specs.Pointers.{Behind, Pointer, Pointer.of_flight, is_of_another, only, renamed}
@@ -32,7 +32,7 @@ use Rattle.fdp_rules.specs.Next.{next}
 use Rattle.fdp_rules.specs.PlainState.{Going, PlainState}
 use Rattle.fdp_rules.specs.Point.{Point}
 use Rattle.fdp_rules.specs.Sites.{traced_by}
-use Rattle.fdp_trails.specs.Followed.{IsPassOf}
+use Rattle.fdp_readings.specs.fdp_trails.Followed.{IsPassOf}
 
 -- ---- what stands behind the pointers
 

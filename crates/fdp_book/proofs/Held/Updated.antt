@@ -21,10 +21,10 @@ use Rattle.fdp_book.proofs.Held.Sums.{are_sums-push}
 use Rattle.fdp_book.proofs.Histories.Commanded.{success-follows}
 use Rattle.fdp_book.proofs.Kept.{IsAlike, flights-alike, map-alike, setting-alike, spaces-alike}
 use Rattle.fdp_handles.specs.HandleTable.{reference_at}
-use Rattle.fdp_locations.specs.Written.{Written, written_by}
-use Rattle.fdp_locations.proofs.Ended.{host}
-use Rattle.fdp_locations.proofs.Left.{left-alike}
-use Rattle.fdp_locations.proofs.Units.{units-rows}
+use Rattle.fdp_readings.specs.fdp_locations.Written.{Written, written_by}
+use Rattle.fdp_readings.proofs.fdp_locations.Ended.{host}
+use Rattle.fdp_readings.proofs.fdp_locations.Left.{left-alike}
+use Rattle.fdp_readings.proofs.fdp_locations.Units.{units-rows}
 use Rattle.fdp_rules.specs.Answer.{bare}
 use Rattle.fdp_rules.specs.Change.{after, changed_by}
 use Rattle.fdp_rules.specs.Effect.{References, effect_of, updated_by}

@@ -15,9 +15,9 @@ use Rattle.fdp_book.proofs.Held.Next.{held-next}
 use Rattle.fdp_book.proofs.Held.Sums.{are_sums-push}
 use Rattle.fdp_book.proofs.Kept.{IsAlike, flights-alike, map-alike, setting-alike, spaces-alike}
 use Rattle.fdp_book.proofs.Leading.{leads-same}
-use Rattle.fdp_locations.specs.Located.{AreLed, AreUnitsOf}
-use Rattle.fdp_locations.specs.Written.{Written, written_after, written_by}
-use Rattle.fdp_pages.specs.PageTables.{PageTables}
+use Rattle.fdp_readings.specs.fdp_locations.Located.{AreLed, AreUnitsOf}
+use Rattle.fdp_readings.specs.fdp_locations.Written.{Written, written_after, written_by}
+use Rattle.fdp_readings.specs.fdp_pages.PageTables.{PageTables}
 use Rattle.fdp_rules.specs.Change.{after, changed_by}
 use Rattle.fdp_rules.specs.History.{Found, point_of}
 use Rattle.fdp_rules.specs.Next.{next}

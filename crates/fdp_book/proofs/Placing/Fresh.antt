@@ -2,10 +2,10 @@
 use Rattle.std.proofs.Common.{◌≡◌, ◌≢◌, ℕ, ◌+◌, ◌≤◌, ◌<◌, Option, Some, None, refl, sym, ◌∙◌, ap, subst, arith}
 use Rattle.std.specs.Prelude.{IfSome, IsFalse, IsTrue, MatchOption}
 use Rattle.fdp_base.specs.declared.entry.Spot.{Spot}
-use Rattle.fdp_locations.specs.Located.{next_in}
-use Rattle.fdp_pages.specs.Joined.{AreJoined, Fills}
-use Rattle.fdp_pages.specs.PageTables.{PageTables, left_of, passes_at, unit_of}
-use Rattle.fdp_pages.specs.Steps.{MayPut}
+use Rattle.fdp_readings.specs.fdp_locations.Located.{next_in}
+use Rattle.fdp_readings.specs.fdp_pages.Joined.{AreJoined, Fills}
+use Rattle.fdp_readings.specs.fdp_pages.PageTables.{PageTables, left_of, passes_at, unit_of}
+use Rattle.fdp_readings.specs.fdp_pages.Steps.{MayPut}
 use Rattle.fdp_passes.specs.GroupPasses.{Pass}
 use Rattle.fdp_units.specs.declared.state.UnitState.{UnitState}
 use Rattle.fdp_units.specs.declared.state.UnitState.TheVariants.{Free, Referenced, Target, Closed, Retired, Aside}

@@ -18,16 +18,16 @@ use Rattle.fdp_book.specs.Flown.{HasPageMore, IsFlightAt}
 use Rattle.fdp_book.specs.Places.{IsNextOf}
 use Rattle.fdp_book.proofs.Placing.Fresh.{fresh-page}
 use Rattle.fdp_base.specs.declared.config.DriveConfig.{DriveConfig}
-use Rattle.fdp_locations.specs.Located.{AreUnitsOf}
-use Rattle.fdp_pages.specs.Joined.{AreJoined}
-use Rattle.fdp_pages.specs.PageTables.{PageTables, left_of, unit_of}
-use Rattle.fdp_pages.specs.Steps.{MayPut}
+use Rattle.fdp_readings.specs.fdp_locations.Located.{AreUnitsOf}
+use Rattle.fdp_readings.specs.fdp_pages.Joined.{AreJoined}
+use Rattle.fdp_readings.specs.fdp_pages.PageTables.{PageTables, left_of, unit_of}
+use Rattle.fdp_readings.specs.fdp_pages.Steps.{MayPut}
 use Rattle.fdp_units.specs.declared.state.UnitState.{UnitState}
 use Rattle.fdp_units.specs.declared.state.UnitState.TheVariants.{Free, Referenced, Target, Closed, Retired, Aside}
 use Rattle.fdp_units.specs.DataUnits.{is_free}
 use Rattle.fdp_units.specs.UnitTable.{Cut, IsFreeUnit, state_at}
 use Rattle.fdp_book.specs.Held.{going_of}
-use Rattle.fdp_locations.specs.Written.{next_spare}
+use Rattle.fdp_readings.specs.fdp_locations.Written.{next_spare}
 use Rattle.fdp_book.specs.Tickets.{ComesTo, IsNextSpot, IsTicketOf}
 use Rattle.fdp_book.specs.declared.next_page.NextPage.TheVariants as next_pages
 use Rattle.fdp_base.specs.declared.command.Write.{Write}

@@ -6,7 +6,7 @@ use Rattle.fdp_base.specs.declared.entry.Spot.{Spot}
 use Rattle.fdp_rules.specs.Change.{one_more_placed}
 use Rattle.fdp_rules.specs.PlainState.{Going}
 use Rattle.fdp_owners.specs.declared.owner.Owner.{Owner}
-use Rattle.fdp_pages.specs.Steps.{PutsPage}
+use Rattle.fdp_readings.specs.fdp_pages.Steps.{PutsPage}
 use Rattle.fdp_book.specs.declared.flight.Flight.{Flight}
 use Rattle.fdp_book.specs.declared.ticket.Ticket.{Ticket}
 use Rattle.fdp_book.specs.Book.{BookSeen, IsLonger, state_in, first_in}

@@ -13,23 +13,23 @@ use Rattle.fdp_base.specs.Spare.{data_spare}
 use Rattle.fdp_book.specs.declared.tables.Tables.{Tables}
 use Rattle.fdp_book.specs.Held.{IsHeld}
 use Rattle.fdp_book.specs.Relocating.{told_by}
-use Rattle.fdp_collector.specs.declared.step.Lost.TheVariants as lost
-use Rattle.fdp_collector.specs.declared.step.Step.{Step}
-use Rattle.fdp_collector.specs.declared.step.Step.TheVariants as steps
-use Rattle.fdp_collector.specs.Copying.{IsDataPage}
-use Rattle.fdp_collector.specs.Ready.{IsBlankBehind}
-use Rattle.fdp_collector.specs.Step.{IsCopyStep, IsStep}
+use Rattle.fdp_readings.specs.fdp_collector.declared.step.Lost.TheVariants as lost
+use Rattle.fdp_readings.specs.fdp_collector.declared.step.Step.{Step}
+use Rattle.fdp_readings.specs.fdp_collector.declared.step.Step.TheVariants as steps
+use Rattle.fdp_readings.specs.fdp_collector.Copying.{IsDataPage}
+use Rattle.fdp_readings.specs.fdp_collector.Ready.{IsBlankBehind}
+use Rattle.fdp_readings.specs.fdp_collector.Step.{IsCopyStep, IsStep}
 use Rattle.fdp_flash.specs.declared.cell.Cell.TheVariants.{Blank}
 use Rattle.fdp_flash.specs.FlashState.{FlashState}
 use Rattle.fdp_flash.specs.Layout.{page_number}
 use Rattle.fdp_flash.proofs.Pages.{erased_may_leave}
-use Rattle.fdp_locations.specs.Stored.{HoldsWritten}
-use Rattle.fdp_locations.specs.Written.{Written, written_after, written_by}
-use Rattle.fdp_locations.proofs.Copying.{copy-free, copy-to}
-use Rattle.fdp_locations.proofs.Histories.{written_by-push}
-use Rattle.fdp_locations.proofs.Storing.{holds-copied, holds-erased, holds-others, holds-still}
-use Rattle.fdp_pages.specs.Joined.{AreJoined}
-use Rattle.fdp_pages.specs.PageTables.{PageTables, relocation_at}
+use Rattle.fdp_readings.specs.fdp_locations.Stored.{HoldsWritten}
+use Rattle.fdp_readings.specs.fdp_locations.Written.{Written, written_after, written_by}
+use Rattle.fdp_readings.proofs.fdp_locations.Copying.{copy-free, copy-to}
+use Rattle.fdp_readings.proofs.fdp_locations.Histories.{written_by-push}
+use Rattle.fdp_readings.proofs.fdp_locations.Storing.{holds-copied, holds-erased, holds-others, holds-still}
+use Rattle.fdp_readings.specs.fdp_pages.Joined.{AreJoined}
+use Rattle.fdp_readings.specs.fdp_pages.PageTables.{PageTables, relocation_at}
 use Rattle.fdp_rules.specs.History.{Found, point_of}
 use Rattle.fdp_rules.specs.Point.{Point}
 

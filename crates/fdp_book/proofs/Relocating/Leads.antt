@@ -12,7 +12,7 @@ use Rattle.fdp_book.specs.Held.{flight_in, going_of, lead_in, page_in}
 use Rattle.fdp_book.specs.Moving.{HasPageIn, IsMoved, IsMovedIn, KeepsFlights, KeepsGroups, KeepsLead, PutsBlock, moved_to}
 use Rattle.fdp_book.proofs.Relocating.Placing.{IsPut, IsShown, block-groups, flight-kept, flight-put, mapped-with, page-shown, shown-there}
 use Rattle.fdp_handles.proofs.Rows.{slice_get-set}
-use Rattle.fdp_locations.specs.Located.{LeadsTo}
+use Rattle.fdp_readings.specs.fdp_locations.Located.{LeadsTo}
 use Rattle.fdp_map.specs.declared.mapped.Mapped.{Mapped}
 use Rattle.fdp_map.specs.MapTable.{MapTable, mapped_at}
 use Rattle.fdp_owners.specs.declared.owner.Holder.{Holder}
@@ -21,12 +21,12 @@ use Rattle.fdp_owners.specs.declared.owner.Owner.{Owner}
 use Rattle.fdp_owners.specs.Owned.{AreOwners, page_of, with_pointer}
 use Rattle.fdp_owners.specs.OwnerTable.{owner_at, pointer_in, pointer_of}
 use Rattle.fdp_owners.proofs.Owned.{owners-moved}
-use Rattle.fdp_pages.specs.Steps.{ChangesOwners, moved}
+use Rattle.fdp_readings.specs.fdp_pages.Steps.{ChangesOwners, moved}
 use Rattle.fdp_pointers.specs.Facts.{Page}
 use Rattle.fdp_pointers.specs.Pointers.{Behind, Pointer, Pointer.of_block, Pointer.of_flight}
 use Rattle.fdp_rules.specs.PlainState.{PlainState}
 use Rattle.fdp_rules.specs.Sites.{is_there}
-use Rattle.fdp_trails.proofs.Moving.{moved-none, moved-some}
+use Rattle.fdp_readings.proofs.fdp_trails.Moving.{moved-none, moved-some}
 
 never : {X : Type 0} {x : X} → None ≡ Some x → ⊥
 never e = cc

@@ -16,12 +16,12 @@ use Rattle.fdp_book.proofs.Committing.PutPages.{changes-joined, changes-self}
 use Rattle.fdp_flash.proofs.Lists.{slice_get_there}
 use Rattle.fdp_owners.specs.declared.owner.Owner.{Owner}
 use Rattle.fdp_owners.specs.OwnerTable.{owner_at}
-use Rattle.fdp_pages.specs.Joined.{AreJoined}
-use Rattle.fdp_pages.specs.PageTables.{PageTables, copies_at, passes_at}
-use Rattle.fdp_pages.specs.Steps.{moved}
+use Rattle.fdp_readings.specs.fdp_pages.Joined.{AreJoined}
+use Rattle.fdp_readings.specs.fdp_pages.PageTables.{PageTables, copies_at, passes_at}
+use Rattle.fdp_readings.specs.fdp_pages.Steps.{moved}
 use Rattle.fdp_passes.specs.GroupPasses.{GroupPasses, Pass}
-use Rattle.fdp_trails.specs.Moves.{AreMovable, name_at, name_of, names_of, owners_moved, with_moved}
-use Rattle.fdp_trails.proofs.Moving.{owners-kept}
+use Rattle.fdp_readings.specs.fdp_trails.Moves.{AreMovable, name_at, name_of, names_of, owners_moved, with_moved}
+use Rattle.fdp_readings.proofs.fdp_trails.Moving.{owners-kept}
 use Rattle.fdp_units.specs.UnitTable.{IsGroup, IsUnit, group_in}
 
 -- ---- a copy of the pass under way

@@ -9,13 +9,13 @@ use Rattle.fdp_book.specs.Held.{lead_in}
 use Rattle.fdp_book.specs.Moving.{SharesCut, StaysIn}
 use Rattle.fdp_book.specs.Taking.{IsPageIn}
 use Rattle.fdp_book.proofs.Relocating.Moves.{LiesInGroup}
-use Rattle.fdp_locations.specs.Located.{LeadsTo}
+use Rattle.fdp_readings.specs.fdp_locations.Located.{LeadsTo}
 use Rattle.fdp_map.specs.declared.mapped.Mapped.{Mapped}
 use Rattle.fdp_map.specs.MapTable.{IsPlaced, MapTable, mapped_at}
 use Rattle.fdp_owners.specs.declared.owner.Holder.{Holder}
 use Rattle.fdp_owners.specs.declared.owner.Holder.TheVariants as holders
 use Rattle.fdp_owners.specs.OwnerTable.{pointer_in}
-use Rattle.fdp_pages.specs.PageTables.{PageTables}
+use Rattle.fdp_readings.specs.fdp_pages.PageTables.{PageTables}
 use Rattle.fdp_pointers.specs.Facts.{Page}
 use Rattle.fdp_pointers.specs.Pointers.{Behind, Pointer.of_block}
 use Rattle.fdp_rules.specs.PlainState.{PlainState}

@@ -7,17 +7,17 @@ use Rattle.fdp_book.specs.declared.tables.Tables.{Tables}
 use Rattle.fdp_book.specs.Book.{BookSeen, point_in}
 use Rattle.fdp_book.specs.Held.{IsHeld}
 use Rattle.fdp_book.specs.Relocating.{MayFollow, told_by}
-use Rattle.fdp_collector.specs.declared.step.Lost.TheVariants as lost
-use Rattle.fdp_collector.specs.declared.step.Step.{Step}
-use Rattle.fdp_collector.specs.declared.step.Step.TheVariants as steps
-use Rattle.fdp_collector.specs.Ready.{lane_at}
-use Rattle.fdp_collector.specs.Step.{IsCopyStep, IsStep, IsUnread}
+use Rattle.fdp_readings.specs.fdp_collector.declared.step.Lost.TheVariants as lost
+use Rattle.fdp_readings.specs.fdp_collector.declared.step.Step.{Step}
+use Rattle.fdp_readings.specs.fdp_collector.declared.step.Step.TheVariants as steps
+use Rattle.fdp_readings.specs.fdp_collector.Ready.{lane_at}
+use Rattle.fdp_readings.specs.fdp_collector.Step.{IsCopyStep, IsStep, IsUnread}
 use Rattle.fdp_flash.specs.FlashState.{FlashState}
-use Rattle.fdp_locations.specs.Written.{Written}
-use Rattle.fdp_locations.proofs.Copying.{copy-follows}
-use Rattle.fdp_locations.proofs.Ending.{aside-follows, erase-follows, retire-follows, worn-follows}
-use Rattle.fdp_pages.specs.Joined.{AreJoined}
-use Rattle.fdp_pages.specs.PageTables.{PageTables, relocation_at}
+use Rattle.fdp_readings.specs.fdp_locations.Written.{Written}
+use Rattle.fdp_readings.proofs.fdp_locations.Copying.{copy-follows}
+use Rattle.fdp_readings.proofs.fdp_locations.Ending.{aside-follows, erase-follows, retire-follows, worn-follows}
+use Rattle.fdp_readings.specs.fdp_pages.Joined.{AreJoined}
+use Rattle.fdp_readings.specs.fdp_pages.PageTables.{PageTables, relocation_at}
 
 module _ (b : BookSeen) (first : Spot → Option Written) (t : Tables) (pages : PageTables) (rg : ℕ) (h : IsHeld b.config b.found first b.entries t) (joined : AreJoined t.pages) (low : rg < b.config.groups) (old new : FlashState) where
   follows-copy : (copy : Copied) → IsCopyStep t.pages.owners t.pages.handles.classes rg (relocation_at t.pages rg) (relocation_at pages rg) old new (steps.Copied copy) → MayFollow b (entries.Copied copy ∷ [])

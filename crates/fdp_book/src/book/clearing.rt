@@ -10,7 +10,7 @@ ghost use Rattle.fdp_rules.specs.Effect.{is_in_ranges};
 use super::commit::clear_old;
 use fdp_base::Range;
 use fdp_map::Map;
-use fdp_pages::Pages;
+use fdp_readings::Pages;
 
 /// The blocks of these ranges of a namespace are taken away, with their pages. Ranges may overlap. It takes a step for each block of
 /// each range.

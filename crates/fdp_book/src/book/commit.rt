@@ -7,10 +7,10 @@ ghost use Rattle.fdp_book.specs.Book.{point_in, state_in};
 ghost use Rattle.fdp_book.specs.Steps.{Completes, IsReady, IsVerdict};
 ghost use Rattle.fdp_book.specs.Flown.{with_pages};
 ghost use Rattle.fdp_book.specs.Taking.{ArePages, CanTake, MayTake, cleared_of, with_taken};
-ghost use Rattle.fdp_locations.specs.Taken.{taken_first};
+ghost use Rattle.fdp_readings.specs.fdp_locations.Taken.{taken_first};
 ghost use Rattle.fdp_owners.specs.Owned.{AreOwners};
 ghost use Rattle.fdp_owners.specs.OwnerTable.{owner_at};
-ghost use Rattle.fdp_pages.specs.Steps.{ChangesOwners};
+ghost use Rattle.fdp_readings.specs.fdp_pages.Steps.{ChangesOwners};
 ghost use Rattle.fdp_pointers.specs.Facts.{Page};
 ghost use Rattle.fdp_pointers.specs.Pointers.{Behind, renamed};
 ghost use Rattle.fdp_book.specs.Tickets.{IsTicketOf};
@@ -24,7 +24,7 @@ use fdp_base::{Spot, Status};
 use fdp_commands::is_over_budget;
 use fdp_map::Map;
 use fdp_owners::Holder;
-use fdp_pages::Pages;
+use fdp_readings::Pages;
 
 impl Book {
     /// Whether a write whose pages are all placed may succeed, or the status with which it ends. It looks at each of its blocks.

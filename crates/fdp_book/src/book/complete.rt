@@ -1,7 +1,7 @@
 ghost use Rattle.std.specs.Prelude.{◌≡◌, ◌<◌, false, []};
 ghost use Rattle.fdp_rules.specs.Step.{IsQueue};
 ghost use Rattle.fdp_book.specs.Steps.{Completes};
-ghost use Rattle.fdp_pages.specs.Steps.{ChangesOwners};
+ghost use Rattle.fdp_readings.specs.fdp_pages.Steps.{ChangesOwners};
 
 use super::Book;
 use super::end::push_host;

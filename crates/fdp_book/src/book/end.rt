@@ -8,7 +8,7 @@ ghost use Rattle.fdp_book.specs.Steps.{Completes, IsFlying, IsWaiting};
 ghost use Rattle.fdp_book.specs.Held.{flight_in};
 ghost use Rattle.fdp_book.specs.Logged.{IsLogged};
 ghost use Rattle.fdp_book.specs.Tickets.{IsNextSpot, IsTicketOf};
-ghost use Rattle.fdp_pages.specs.Steps.{ChangesOwners};
+ghost use Rattle.fdp_readings.specs.fdp_pages.Steps.{ChangesOwners};
 
 use super::Book;
 use super::forget::forget;

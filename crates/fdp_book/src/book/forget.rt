@@ -2,7 +2,7 @@ ghost use Rattle.std.specs.Prelude.{◌≡◌, ◌<◌, length};
 ghost use Rattle.fdp_rules.specs.PlainState.{PlainState};
 ghost use Rattle.fdp_book.specs.Forgetting.{EndsIn, Forgets, IsThereIn, MayForget, is_there_in, live_pages};
 ghost use Rattle.fdp_book.specs.Held.{flight_in};
-ghost use Rattle.fdp_pages.specs.Steps.{ChangesOwners};
+ghost use Rattle.fdp_readings.specs.fdp_pages.Steps.{ChangesOwners};
 
 use crate::extent::extent_of;
 use crate::flight::Flight;

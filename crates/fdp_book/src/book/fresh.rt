@@ -5,7 +5,7 @@ ghost use Rattle.fdp_rules.specs.Effect.{chosen_handles};
 ghost use Rattle.fdp_rules.specs.History.{fresh};
 ghost use Rattle.fdp_book.specs.Book.{AreUnused, IsFirst};
 ghost use Rattle.fdp_book.specs.Configured.{AreConfiguredSpaces, HasFewHandles, IsConfiguredMap, fresh_opening, made_as};
-ghost use Rattle.fdp_locations.specs.Held.{pages_held};
+ghost use Rattle.fdp_readings.specs.fdp_locations.Held.{pages_held};
 ghost use Rattle.fdp_book.specs.Held.{IsHeld};
 ghost use Rattle.fdp_spaces.specs.SpaceTable.{namespace_of};
 
@@ -17,7 +17,7 @@ use arrayvec::ArrayVec;
 use fdp_base::{DriveConfig, HandleList, NamespaceConfig};
 use fdp_map::Map;
 use fdp_origin::{Began, Origin};
-use fdp_pages::Pages;
+use fdp_readings::Pages;
 use fdp_spaces::{Space, SpaceHandles, Spaces};
 use std::alloc::{AllocError, Global};
 use std::marker::Brand;

@@ -5,10 +5,10 @@ ghost use Rattle.fdp_book.specs.Saving.{AreSmall};
 ghost use Rattle.fdp_history.specs.Listed.{IsListed};
 ghost use Rattle.fdp_history.specs.Orderly.{IsOrderly};
 ghost use Rattle.fdp_history.specs.Standing.{IsStanding};
-ghost use Rattle.fdp_locations.specs.Located.{AreUnitsOf};
-ghost use Rattle.fdp_pages.specs.Joined.{AreJoined};
+ghost use Rattle.fdp_readings.specs.fdp_locations.Located.{AreUnitsOf};
+ghost use Rattle.fdp_readings.specs.fdp_pages.Joined.{AreJoined};
 ghost use Rattle.fdp_rules.specs.History.{totals_of};
-ghost use Rattle.fdp_trails.specs.Crowded.{IsCrowded};
+ghost use Rattle.fdp_readings.specs.fdp_trails.Crowded.{IsCrowded};
 ghost use Rattle.fdp_units.specs.DataUnits.{is_free};
 ghost use Rattle.fdp_units.specs.UnitTable.{HasNoVictim, count_in};
 

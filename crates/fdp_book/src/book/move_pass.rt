@@ -4,10 +4,10 @@ ghost use Rattle.fdp_book.specs.Relocating.{MovesPass};
 ghost use Rattle.fdp_book.specs.Taking.{IsPageIn};
 ghost use Rattle.fdp_map.specs.MapTable.{mapped_at, size_in, with_mapped};
 ghost use Rattle.fdp_owners.specs.OwnerTable.{owner_at};
-ghost use Rattle.fdp_pages.specs.PageTables.{copies_at, is_under_way, passes_at};
+ghost use Rattle.fdp_readings.specs.fdp_pages.PageTables.{copies_at, is_under_way, passes_at};
 ghost use Rattle.fdp_passes.specs.declared.due.Due.TheVariants.{Move};
 ghost use Rattle.fdp_passes.specs.Due.{IsDue};
-ghost use Rattle.fdp_trails.specs.Moves.{AreMovable, name_of, names_of};
+ghost use Rattle.fdp_readings.specs.fdp_trails.Moves.{AreMovable, name_of, names_of};
 ghost use Rattle.fdp_units.specs.UnitTable.{IsGroup};
 
 use super::Book;

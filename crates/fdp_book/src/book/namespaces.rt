@@ -4,7 +4,7 @@ ghost use Rattle.std.specs.Prelude.{◌≡◌, ◌<◌, ◌≤◌, All, None, le
 ghost use Rattle.fdp_base.specs.Geometry.{IsWithin};
 ghost use Rattle.fdp_book.specs.Namespaces.{ArePointed, CanCreate, Creates, Deletes, HasFlights, Releases, born, pages_to};
 ghost use Rattle.fdp_owners.specs.OwnerTable.{owner_at};
-ghost use Rattle.fdp_pages.specs.Steps.{AreOwned, ChangesOwners, without};
+ghost use Rattle.fdp_readings.specs.fdp_pages.Steps.{AreOwned, ChangesOwners, without};
 ghost use Rattle.fdp_spaces.specs.SpaceTable.{namespace_of};
 
 use super::clearing::clear_blocks;
@@ -14,7 +14,7 @@ use crate::flight::Flight;
 use crate::tables::Tables;
 use fdp_base::{Create, Spot};
 use fdp_map::PageList;
-use fdp_pages::Pages;
+use fdp_readings::Pages;
 use fdp_spaces::{Space, Spaces};
 
 /// A namespace is gone, with its blocks. The pages of these and of the writes to it have no owner any more; the writes go on, and end as

@@ -9,7 +9,7 @@ ghost use Rattle.fdp_book.specs.Places.{IsFreeSpot, IsPlaceFor};
 ghost use Rattle.fdp_units.specs.UnitTable.{IsGroup};
 ghost use Rattle.fdp_book.specs.Held.{going_of};
 ghost use Rattle.fdp_rules.specs.Sites.{is_there as is_going_there};
-ghost use Rattle.fdp_locations.specs.Written.{next_spare};
+ghost use Rattle.fdp_readings.specs.fdp_locations.Written.{next_spare};
 ghost use Rattle.fdp_book.specs.Tickets.{ComesTo, IsNextSpot, IsTicketOf};
 ghost use Rattle.fdp_base.specs.declared.command.Write.{Write};
 

@@ -2,17 +2,17 @@ ghost use Rattle.std.specs.Prelude.{◌≡◌, ◌+◌, ◌^◌, ◌<◌, ◌≤
 ghost use Rattle.fdp_base.specs.Placement.{geometry_of};
 ghost use Rattle.fdp_book.specs.Book.{written_in};
 ghost use Rattle.fdp_book.specs.Relocating.{Relocates, Tells};
-ghost use Rattle.fdp_collector.specs.Leaving.{StepMayLeave};
+ghost use Rattle.fdp_readings.specs.fdp_collector.Leaving.{StepMayLeave};
 ghost use Rattle.fdp_flash.specs.Runs.{Runs};
-ghost use Rattle.fdp_locations.specs.Stored.{HoldsWritten};
+ghost use Rattle.fdp_readings.specs.fdp_locations.Stored.{HoldsWritten};
 ghost use Rattle.fdp_units.specs.UnitTable.{toil_of};
 
 use super::Book;
 use crate::log::Log;
 use crate::tables::Sums;
 use fdp_base::{Aside, Entry, Erased, Retired, Worn};
-use fdp_collector::{Lost, Step};
 use fdp_flash::Flash;
+use fdp_readings::{Lost, Step};
 
 impl Book {
     /// The next step of relocation in a group, with the entry that tells of it. It makes at most two calls of the flash.

@@ -3,7 +3,7 @@ ghost use Rattle.fdp_book.specs.Extent.{IsExtentOf};
 ghost use Rattle.fdp_book.specs.Flown.{first_going};
 ghost use Rattle.fdp_book.specs.Held.{going_of};
 ghost use Rattle.fdp_book.specs.Steps.{MayStart, Starts};
-ghost use Rattle.fdp_pages.specs.Steps.{ChangesOwners};
+ghost use Rattle.fdp_readings.specs.fdp_pages.Steps.{ChangesOwners};
 
 use super::Book;
 use super::forget::drop_flight;

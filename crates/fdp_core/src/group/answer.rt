@@ -1,15 +1,15 @@
 ghost use Rattle.std.specs.Prelude.{◌≡◌, ◌<◌};
 ghost use Rattle.fdp_base.specs.CommandKinds.{IsWellFormed};
-ghost use Rattle.fdp_book.specs.FirstSteps.{IsAnswerable};
-ghost use Rattle.fdp_book.specs.Room.{room_for};
+ghost use Rattle.fdp_relocation.specs.fdp_book.FirstSteps.{IsAnswerable};
+ghost use Rattle.fdp_relocation.specs.fdp_book.Room.{room_for};
 ghost use Rattle.fdp_core.specs.Answers.{EndsAtOnce};
 ghost use Rattle.fdp_core.specs.Stops.{OutlastsStops};
 ghost use Rattle.fdp_rules.specs.Step.{IsQueue};
 
 use super::Group;
 use fdp_base::Command;
-use fdp_book::{Done, Room};
 use fdp_flash::Flash;
+use fdp_relocation::{Done, Room};
 
 impl<F: Flash> Group<F> {
     /// Answers a command that is not refused, and is neither a read nor a log nor saved: it changes nothing.

@@ -1,14 +1,13 @@
 ghost use Rattle.std.specs.Prelude.{◌≡◌, ◌<◌};
-ghost use Rattle.fdp_book.specs.Commanded.{MayTakeEffect};
-ghost use Rattle.fdp_book.specs.Room.{room_for};
+ghost use Rattle.fdp_relocation.specs.fdp_book.Commanded.{MayTakeEffect};
+ghost use Rattle.fdp_relocation.specs.fdp_book.Room.{room_for};
 ghost use Rattle.fdp_core.specs.Answers.{EndsAtOnce};
 ghost use Rattle.fdp_core.specs.Stops.{OutlastsStops};
 
 use super::Group;
 use fdp_base::{Command, Status};
-use fdp_book::{Done, Room};
 use fdp_flash::Flash;
-use fdp_saving::Saved;
+use fdp_relocation::{Done, Room, Saved};
 
 impl<F: Flash> Group<F> {
     /// Saves the change of a command that may take effect, and makes it: not where the saving did not get as far as its record.

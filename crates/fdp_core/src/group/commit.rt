@@ -1,7 +1,7 @@
 ghost use Rattle.std.specs.Prelude.{◌<◌};
-ghost use Rattle.fdp_book.specs.Book.{point_in, state_in};
-ghost use Rattle.fdp_book.specs.Steps.{IsReady};
-ghost use Rattle.fdp_book.specs.Tickets.{IsTicketOf};
+ghost use Rattle.fdp_relocation.specs.fdp_book.Book.{point_in, state_in};
+ghost use Rattle.fdp_relocation.specs.fdp_book.Steps.{IsReady};
+ghost use Rattle.fdp_relocation.specs.fdp_book.Tickets.{IsTicketOf};
 ghost use Rattle.fdp_core.specs.Answers.{Commits, SavesWrite};
 ghost use Rattle.fdp_core.specs.Stops.{OutlastsStops};
 ghost use Rattle.fdp_rules.specs.PlainState.{Going};
@@ -9,9 +9,8 @@ ghost use Rattle.fdp_rules.specs.Step.{MaySucceed};
 
 use super::Group;
 use fdp_base::Status;
-use fdp_book::{Done, Ticket};
 use fdp_flash::Flash;
-use fdp_saving::Saved;
+use fdp_relocation::{Done, Saved, Ticket};
 
 impl<F: Flash> Group<F> {
     /// Ends a write whose pages are placed. It makes the checks again, saves the change, and puts its blocks where they stand. While nothing is

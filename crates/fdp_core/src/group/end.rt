@@ -1,20 +1,20 @@
 ghost use Rattle.std.specs.Prelude.{◌≡◌, ◌<◌, false};
-ghost use Rattle.fdp_book.specs.Book.{state_in};
-ghost use Rattle.fdp_book.specs.Steps.{IsFlying};
-ghost use Rattle.fdp_book.specs.Tickets.{IsTicketOf};
+ghost use Rattle.fdp_relocation.specs.fdp_book.Book.{state_in};
+ghost use Rattle.fdp_relocation.specs.fdp_book.Steps.{IsFlying};
+ghost use Rattle.fdp_relocation.specs.fdp_book.Tickets.{IsTicketOf};
 ghost use Rattle.fdp_core.specs.Answers.{EndsAlone};
 ghost use Rattle.fdp_core.specs.Ending.{Ends, MayEnd};
 ghost use Rattle.fdp_rules.specs.Answer.{bare};
 ghost use Rattle.fdp_rules.specs.Change.{is_media_error, is_status};
 ghost use Rattle.fdp_base.specs.declared.status.TheConstants.Status as statuses;
 ghost use Rattle.fdp_core.specs.Stops.{Outlasts, OutlastsStops};
-ghost use Rattle.fdp_survival.specs.Books.{IsSafe};
+ghost use Rattle.fdp_loading.specs.fdp_survival.Books.{IsSafe};
 ghost use Rattle.fdp_rules.specs.PlainState.{Going};
 
 use super::Group;
 use fdp_base::Status;
-use fdp_book::{Done, Ticket};
 use fdp_flash::Flash;
+use fdp_relocation::{Done, Ticket};
 
 impl<F: Flash> Group<F> {
     /// A step ends a going write with this status, and changes nothing else.

@@ -6,9 +6,8 @@ use super::Group;
 use crate::loaded::NotLoaded;
 use fdp_base::DriveConfig;
 use fdp_flash::Flash;
-use fdp_ledger::counts_of;
-use fdp_loading::{Loaded, load as load_drive};
-use fdp_recovery::OpenFault;
+use fdp_loading::{Loaded, counts_of, load as load_drive};
+use fdp_relocation::OpenFault;
 use std::alloc::{AllocError, Global};
 
 impl<F: Flash> Group<F> {

@@ -1,9 +1,9 @@
 ghost use Rattle.std.specs.Prelude.{◌≡◌, ◌<◌, None};
 ghost use Rattle.fdp_base.specs.declared.command.Command.TheVariants as commands;
 ghost use Rattle.fdp_base.specs.CommandKinds.{IsWellFormed};
-ghost use Rattle.fdp_book.specs.Book.{point_in, state_in};
-ghost use Rattle.fdp_book.specs.Room.{IsTwice, read_reply, room_for};
-ghost use Rattle.fdp_book.specs.Stages.{IsFree};
+ghost use Rattle.fdp_relocation.specs.fdp_book.Book.{point_in, state_in};
+ghost use Rattle.fdp_relocation.specs.fdp_book.Room.{IsTwice, read_reply, room_for};
+ghost use Rattle.fdp_relocation.specs.fdp_book.Stages.{IsFree};
 ghost use Rattle.fdp_core.specs.Answers.{EndsAtOnce};
 ghost use Rattle.fdp_core.specs.Stops.{OutlastsStops};
 ghost use Rattle.fdp_log_pages.specs.Told.{Tells};
@@ -13,10 +13,10 @@ ghost use Rattle.fdp_rules.specs.Step.{IsQueue};
 
 use super::Group;
 use fdp_base::{Command, GetLog, Status};
-use fdp_book::{Done, Replies, Room};
 use fdp_commands::refusal;
 use fdp_flash::Flash;
 use fdp_log_pages::LogView;
+use fdp_relocation::{Done, Replies, Room};
 
 impl<F: Flash> Group<F> {
     /// Refuses a log, or answers it with so much of its page as it asks for. It takes no memory, and a step for each configuration, handle or

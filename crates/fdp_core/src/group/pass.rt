@@ -2,13 +2,13 @@ ghost use Rattle.std.specs.Prelude.{◌+◌, ◌≤◌, ◌<◌, IsTrue, length}
 ghost use Rattle.fdp_core.specs.Passes.{EndsPass, EndsRest, MayBeginPass, MayEndPass};
 ghost use Rattle.fdp_core.specs.Seen.{Stands, stage_of};
 ghost use Rattle.fdp_core.specs.Stops.{Outlasts};
-ghost use Rattle.fdp_isolation.specs.Laned.{IsKnown};
-ghost use Rattle.fdp_pages.specs.PageTables.{passes_at};
+ghost use Rattle.fdp_loading.specs.fdp_isolation.Laned.{IsKnown};
+ghost use Rattle.fdp_relocation.specs.fdp_pages.PageTables.{passes_at};
 ghost use Rattle.fdp_passes.specs.declared.due.Due.TheVariants.{Move};
 ghost use Rattle.fdp_passes.specs.Due.{IsDue};
 ghost use Rattle.fdp_core.specs.Advancing.{Advances, TellsMore};
 ghost use Rattle.fdp_relocation.specs.Collected.{Collects};
-ghost use Rattle.fdp_survival.specs.Books.{IsSafe};
+ghost use Rattle.fdp_loading.specs.fdp_survival.Books.{IsSafe};
 
 use super::Group;
 use fdp_flash::Flash;

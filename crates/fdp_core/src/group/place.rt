@@ -1,7 +1,7 @@
 ghost use Rattle.std.specs.Prelude.{◌<◌};
-ghost use Rattle.fdp_book.specs.Book.{state_in};
-ghost use Rattle.fdp_book.specs.Steps.{IsWaiting};
-ghost use Rattle.fdp_book.specs.Tickets.{ComesTo, IsTicketOf, WantsUnit};
+ghost use Rattle.fdp_relocation.specs.fdp_book.Book.{state_in};
+ghost use Rattle.fdp_relocation.specs.fdp_book.Steps.{IsWaiting};
+ghost use Rattle.fdp_relocation.specs.fdp_book.Tickets.{ComesTo, IsTicketOf, WantsUnit};
 ghost use Rattle.fdp_core.specs.Answers.{Places};
 ghost use Rattle.fdp_core.specs.Stops.{OutlastsStops};
 ghost use Rattle.fdp_rules.specs.PlainState.{Going};
@@ -10,9 +10,9 @@ use super::Group;
 use super::pass::PassEnd;
 use crate::answer::Placed;
 use fdp_base::{Spot, Status};
-use fdp_book::{NextPage, Ticket, WritePlace};
 use fdp_calls::{MediaError, program};
 use fdp_flash::Flash;
+use fdp_relocation::{NextPage, Ticket, WritePlace};
 
 impl<F: Flash> Group<F> {
     /// Programs the next page of a going write; where that wants a unit it makes a relocation pass in its group instead, or ends the one

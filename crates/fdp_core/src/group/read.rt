@@ -2,8 +2,8 @@ ghost use Rattle.std.specs.Prelude.{◌≡◌, ◌+◌, ◌*◌, ◌^◌, ◌<�
 ghost use Rattle.fdp_base.specs.declared.command.Command.TheVariants as commands;
 ghost use Rattle.fdp_base.specs.CommandKinds.{IsWellFormed};
 ghost use Rattle.fdp_base.specs.Placement.{geometry_of};
-ghost use Rattle.fdp_book.specs.Book.{point_in, state_in};
-ghost use Rattle.fdp_book.specs.Room.{room_for};
+ghost use Rattle.fdp_relocation.specs.fdp_book.Book.{point_in, state_in};
+ghost use Rattle.fdp_relocation.specs.fdp_book.Room.{room_for};
 ghost use Rattle.fdp_calls.specs.Calls.{MakesCalls};
 ghost use Rattle.fdp_calls.specs.Media.{IsReadFrom};
 ghost use Rattle.fdp_core.specs.Answers.{EndsAtOnce};
@@ -17,9 +17,9 @@ ghost use Rattle.fdp_rules.specs.Step.{IsQueue};
 
 use super::Group;
 use fdp_base::{Command, Read, Status};
-use fdp_book::{Book, Done, Replies, Room};
 use fdp_calls::{MediaError, fetch};
 use fdp_flash::Flash;
+use fdp_relocation::{Book, Done, Replies, Room};
 
 impl<F: Flash> Group<F> {
     /// Reads blocks that a read asks for, which is not refused.

@@ -1,7 +1,7 @@
 ghost use Rattle.std.specs.Prelude.{◌≡◌, ◌<◌, Some};
 ghost use Rattle.fdp_base.specs.CommandKinds.{IsWellFormed};
-ghost use Rattle.fdp_book.specs.Book.{point_in, state_in};
-ghost use Rattle.fdp_book.specs.Stages.{IsFree};
+ghost use Rattle.fdp_relocation.specs.fdp_book.Book.{point_in, state_in};
+ghost use Rattle.fdp_relocation.specs.fdp_book.Stages.{IsFree};
 ghost use Rattle.fdp_core.specs.Answers.{EndsAtOnce};
 ghost use Rattle.fdp_core.specs.Stops.{OutlastsStops};
 ghost use Rattle.fdp_rules.specs.Refusal.{refusal_of};
@@ -9,8 +9,8 @@ ghost use Rattle.fdp_rules.specs.Step.{IsQueue};
 
 use super::Group;
 use fdp_base::{Command, Status};
-use fdp_book::{Done, Room};
 use fdp_flash::Flash;
+use fdp_relocation::{Done, Room};
 
 impl<F: Flash> Group<F> {
     /// Completes a command with its refusal. It changes nothing, but that a write which is refused ends what its queue had going.

@@ -6,8 +6,8 @@ ghost use Rattle.fdp_core.specs.Steps.{MayBegin};
 use super::Group;
 use crate::answer::Begun;
 use fdp_base::Command;
-use fdp_book::{FirstStep, Room};
 use fdp_flash::Flash;
+use fdp_relocation::{FirstStep, Room};
 
 impl<F: Flash> Group<F> {
     /// The first step of a command: it refuses it, reads for it, answers it, saves its change and makes it, or, where it is a write, starts it.

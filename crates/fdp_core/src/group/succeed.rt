@@ -1,6 +1,6 @@
 ghost use Rattle.std.specs.Prelude.{◌≡◌, ◌<◌, Bool, IsFalse, None, false};
 ghost use Rattle.fdp_base.specs.CommandKinds.{IsWellFormed, is_saved, is_write};
-ghost use Rattle.fdp_book.specs.Book.{point_in};
+ghost use Rattle.fdp_relocation.specs.fdp_book.Book.{point_in};
 ghost use Rattle.fdp_core.specs.Answers.{EndsAtOnce};
 ghost use Rattle.fdp_core.specs.Stops.{OutlastsStops};
 ghost use Rattle.fdp_rules.specs.Answer.{IsSuccess};
@@ -9,8 +9,8 @@ ghost use Rattle.fdp_rules.specs.Step.{IsQueue};
 
 use super::Group;
 use fdp_base::Command;
-use fdp_book::{Done, Replies};
 use fdp_flash::Flash;
+use fdp_relocation::{Done, Replies};
 
 impl<F: Flash> Group<F> {
     /// Completes a command that is not refused, and neither read nor saved, with its success. It changes nothing.

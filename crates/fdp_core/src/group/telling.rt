@@ -1,5 +1,5 @@
 ghost use Rattle.std.specs.Prelude.{◌≡◌, if◌then◌else◌, slice_get};
-ghost use Rattle.fdp_book.specs.Book.{point_in, state_in};
+ghost use Rattle.fdp_relocation.specs.fdp_book.Book.{point_in, state_in};
 ghost use Rattle.fdp_log_pages.specs.Told.{usage_told};
 
 use super::Group;

@@ -4,11 +4,11 @@ use Rattle.std.specs.Prelude.{IsFalse, IsTrue, MatchOption, if◌then◌else◌,
 use Rattle.fdp_base.specs.declared.config.Class.{Class}
 use Rattle.fdp_base.specs.declared.entry.Copied.{Copied}
 use Rattle.fdp_base.specs.declared.entry.Spot.{Spot}
-use Rattle.fdp_collector.specs.Ready.{IsReady, Relocation, lane_at}
-use Rattle.fdp_collector.specs.Step.{AddsCopy}
-use Rattle.fdp_collector.proofs.Kept.{group-kept, unit-kept}
-use Rattle.fdp_collector.proofs.Opening.{open-counts}
-use Rattle.fdp_collector.proofs.Readied.{open-cut, open-pass, open-unit, target-of}
+use Rattle.fdp_keeper.specs.fdp_collector.Ready.{IsReady, Relocation, lane_at}
+use Rattle.fdp_keeper.specs.fdp_collector.Step.{AddsCopy}
+use Rattle.fdp_keeper.proofs.fdp_collector.Kept.{group-kept, unit-kept}
+use Rattle.fdp_keeper.proofs.fdp_collector.Opening.{open-counts}
+use Rattle.fdp_keeper.proofs.fdp_collector.Readied.{open-cut, open-pass, open-unit, target-of}
 use Rattle.fdp_owners.specs.declared.owner.Owner.{Owner}
 use Rattle.fdp_owners.specs.OwnerTable.{OwnerTable, live_in, owner_at}
 use Rattle.fdp_owners.proofs.Tables.{owned-within}
@@ -20,7 +20,7 @@ use Rattle.fdp_passes.specs.Room.{live_among, wanted_in}
 use Rattle.fdp_passes.specs.Targets.{HasTarget, OpensPage, OpensTarget, TakesTarget, pass_in, with_target}
 use Rattle.fdp_passes.proofs.Opened.{opened-unit}
 use Rattle.fdp_relocation.proofs.Toil.Wanted.{less-live, some-live, wanted-by}
-use Rattle.fdp_trails.proofs.Gaining.{gain-taken, gain-used, toil-one}
+use Rattle.fdp_keeper.proofs.fdp_trails.Gaining.{gain-taken, gain-used, toil-one}
 use Rattle.fdp_units.specs.declared.data_unit.DataUnit.{DataUnit}
 use Rattle.fdp_units.specs.declared.state.UnitState.{UnitState}
 use Rattle.fdp_units.specs.declared.state.UnitState.TheVariants.{Free, Referenced, Target, Closed, Retired, Aside}

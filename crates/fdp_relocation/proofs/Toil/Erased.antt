@@ -1,12 +1,12 @@
 -- What the erase of a victim makes of the toil of its group.
 use Rattle.std.proofs.Common.{◌≡◌, ℕ, ◌+◌, List, refl, ap, arith}
 use Rattle.fdp_base.specs.declared.config.Class.{Class}
-use Rattle.fdp_collector.specs.Ready.{IsReady, Relocation}
-use Rattle.fdp_collector.proofs.Readied.{emptied-unit, emptied-unused}
+use Rattle.fdp_keeper.specs.fdp_collector.Ready.{IsReady, Relocation}
+use Rattle.fdp_keeper.proofs.fdp_collector.Readied.{emptied-unit, emptied-unused}
 use Rattle.fdp_owners.specs.OwnerTable.{OwnerTable}
 use Rattle.fdp_passes.specs.declared.due.Due.TheVariants as due
 use Rattle.fdp_passes.specs.Due.{IsDue}
-use Rattle.fdp_trails.proofs.Gaining.{gain-erased, toil-one}
+use Rattle.fdp_keeper.proofs.fdp_trails.Gaining.{gain-erased, toil-one}
 use Rattle.fdp_units.specs.declared.data_unit.DataUnit.{DataUnit}
 use Rattle.fdp_units.specs.declared.state.UnitState.TheVariants.{Free}
 use Rattle.fdp_units.specs.DataUnits.{turned}

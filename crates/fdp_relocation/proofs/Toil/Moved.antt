@@ -6,16 +6,16 @@ use Rattle.fdp_base.specs.declared.entry.Copied.{Copied}
 use Rattle.fdp_base.specs.declared.entry.Spot.{Spot}
 use Rattle.fdp_owners.specs.declared.owner.Owner.{Owner}
 use Rattle.fdp_owners.specs.OwnerTable.{owner_at, with_owner}
-use Rattle.fdp_pages.specs.Joined.{AreJoined}
-use Rattle.fdp_pages.specs.PageTables.{PageTables, copies_at, passes_at}
-use Rattle.fdp_pages.specs.Steps.{Recounts}
+use Rattle.fdp_keeper.specs.fdp_pages.Joined.{AreJoined}
+use Rattle.fdp_keeper.specs.fdp_pages.PageTables.{PageTables, copies_at, passes_at}
+use Rattle.fdp_keeper.specs.fdp_pages.Steps.{Recounts}
 use Rattle.fdp_passes.specs.Due.{HasNoLive, copies_in}
 use Rattle.fdp_passes.specs.GroupPasses.{Pass}
 use Rattle.fdp_rules.specs.Sites.{is_spot}
-use Rattle.fdp_trails.specs.Moves.{AreMovable, owners_moved, with_moved}
-use Rattle.fdp_trails.specs.Toil.{AreTallied, IsRelocated}
-use Rattle.fdp_trails.proofs.Moving.{cases_owner, moved-none, moved-some, owner-there}
-use Rattle.fdp_trails.proofs.Recounting.{moves-keep}
+use Rattle.fdp_keeper.specs.fdp_trails.Moves.{AreMovable, owners_moved, with_moved}
+use Rattle.fdp_keeper.specs.fdp_trails.Toil.{AreTallied, IsRelocated}
+use Rattle.fdp_keeper.proofs.fdp_trails.Moving.{cases_owner, moved-none, moved-some, owner-there}
+use Rattle.fdp_keeper.proofs.fdp_trails.Recounting.{moves-keep}
 use Rattle.fdp_units.specs.declared.data_unit.DataUnit.{DataUnit}
 use Rattle.fdp_units.specs.DataUnits.{is_closed, is_target}
 use Rattle.fdp_units.specs.UnitTable.{IsGroup, toil_of}

@@ -2,18 +2,18 @@
 use Rattle.std.proofs.Common.{◌≡◌, ℕ, ◌+◌, ◌≤◌, ◌<◌, Bool, [], Option, Some, None, refl, ap, sym, ◌∙◌, subst, arith}
 use Rattle.std.specs.Prelude.{IsFalse, IsTrue, is_some, option_map}
 use Rattle.fdp_base.specs.declared.entry.Copied.{Copied}
-use Rattle.fdp_book.specs.Book.{BookSeen, IsLed}
-use Rattle.fdp_book.specs.Relocating.{MovesPass, Relocates}
-use Rattle.fdp_collector.specs.declared.step.Step.TheVariants as steps
-use Rattle.fdp_collector.specs.Ready.{lane_at}
-use Rattle.fdp_collector.specs.Step.{AddsCopy}
+use Rattle.fdp_keeper.specs.fdp_book.Book.{BookSeen, IsLed}
+use Rattle.fdp_keeper.specs.fdp_book.Relocating.{MovesPass, Relocates}
+use Rattle.fdp_keeper.specs.fdp_collector.declared.step.Step.TheVariants as steps
+use Rattle.fdp_keeper.specs.fdp_collector.Ready.{lane_at}
+use Rattle.fdp_keeper.specs.fdp_collector.Step.{AddsCopy}
 use Rattle.fdp_flash.specs.FlashState.{FlashState}
-use Rattle.fdp_locations.specs.Located.{next_in as next_of_unit}
+use Rattle.fdp_keeper.specs.fdp_locations.Located.{next_in as next_of_unit}
 use Rattle.fdp_owners.specs.OwnerTable.{OwnerTable, live_in, owner_at}
-use Rattle.fdp_pages.specs.Joined.{AreJoined}
-use Rattle.fdp_pages.specs.PageTables.{PageTables, copies_at, is_under_way, passes_at, relocation_at}
-use Rattle.fdp_pages.specs.Steps.{ended_move}
-use Rattle.fdp_pages.proofs.Regrouped.{group-low, passes-here}
+use Rattle.fdp_keeper.specs.fdp_pages.Joined.{AreJoined}
+use Rattle.fdp_keeper.specs.fdp_pages.PageTables.{PageTables, copies_at, is_under_way, passes_at, relocation_at}
+use Rattle.fdp_keeper.specs.fdp_pages.Steps.{ended_move}
+use Rattle.fdp_keeper.proofs.fdp_pages.Regrouped.{group-low, passes-here}
 use Rattle.fdp_passes.specs.declared.due.Due.TheVariants as due
 use Rattle.fdp_passes.specs.Due.{HasNoLive, IsDue, copies_in, next_in}
 use Rattle.fdp_passes.specs.GroupPasses.{GroupPasses, Pass, without_copies}
@@ -23,7 +23,7 @@ use Rattle.fdp_relocation.proofs.Toil.Copied.{CopiesIn, IsOneCopy, copied-in}
 use Rattle.fdp_relocation.proofs.Toil.Erased.{erased-toil}
 use Rattle.fdp_relocation.proofs.Toil.Moved.{moved-toil, none-left}
 use Rattle.fdp_relocation.proofs.Toil.Wanted.{none-live, some-live, wanted-by, wanted-none}
-use Rattle.fdp_trails.proofs.Listing.{copies-movable}
+use Rattle.fdp_keeper.proofs.fdp_trails.Listing.{copies-movable}
 use Rattle.fdp_units.specs.UnitTable.{IsGroup, toil_of, unit_at}
 
 -- ---- what is wanted

@@ -1,5 +1,5 @@
 use Rattle.std.proofs.Common.{◌≤◌, ◌∙◌, arith, if◌then◌else◌, sym}
-use Rattle.fdp_book.specs.Book.{point_in}
+use Rattle.fdp_drive.specs.fdp_book.Book.{point_in}
 use Rattle.fdp_cli.proofs.Telling.{event_more, latest_ended}
 use Rattle.fdp_cli.proofs.closing.events_of.Goals as goal
 

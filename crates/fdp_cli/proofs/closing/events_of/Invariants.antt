@@ -1,5 +1,5 @@
 use Rattle.std.proofs.Common.{◌≡◌, if◌then◌else◌, take}
-use Rattle.fdp_book.specs.Book.{point_in}
+use Rattle.fdp_drive.specs.fdp_book.Book.{point_in}
 use Rattle.fdp_cli.proofs.closing.events_of.Given as goal
 
 abbrev pub invariant-loop-index : goal.invariant-loop-index

@@ -1,5 +1,5 @@
 use Rattle.std.proofs.Common.{nat_lt}
-use Rattle.fdp_book.specs.Book.{state_in}
+use Rattle.fdp_drive.specs.fdp_book.Book.{state_in}
 use Rattle.fdp_rules.specs.LogPages.{usage_of}
 use Rattle.fdp_rules.specs.Room.{handles_in_force}
 use Rattle.fdp_cli.proofs.Telling.{numbers_none, usage_more}

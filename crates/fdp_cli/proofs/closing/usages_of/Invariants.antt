@@ -1,6 +1,6 @@
 use Rattle.std.proofs.Common.{◌≡◌, map}
 use Rattle.fdp_base.specs.Numbers.{numbers_below}
-use Rattle.fdp_book.specs.Book.{state_in}
+use Rattle.fdp_drive.specs.fdp_book.Book.{state_in}
 use Rattle.fdp_rules.specs.LogPages.{usage_of}
 use Rattle.fdp_cli.proofs.closing.usages_of.Given as goal
 

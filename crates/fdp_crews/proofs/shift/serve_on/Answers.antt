@@ -81,4 +81,4 @@ returns-clause-shift g c =
     let receipts = ap (map (λ r. r.items)) (c.dismiss_hosts-end.ensures.receipts ∙ ap (λ rs. rs ++ map (λ w. w.receipts) ws) c.requires.rooms.receipts) ∙ mapped-items ws in
     subst (λ (rs : List (List Receipt)). IsShift (run_of g.V.Recorded.origin g.V.Steps.run c.args.lock) traces rs (map g.V.Steps.entry (g.V.Recorded.entries value)) (g.V.Steps.spent value) c.end_of-end.result) (sym receipts)
     (shift-made g.V.Recorded.origin g.V.Recorded.entries g.V.Steps.run g.V.Steps.entry g.V.Recorded.mark c.args.lock c.args.gauge.now traces c.hire_collectors-sweepers.new.seat ws ss value c.dismiss_hosts-end.result c.end_of-end.result (g.V.Steps.spent value) back
-    (record { whole = c.dismiss_hosts-end.ensures.whole; left = c.dismiss_hosts-end.ensures.left; end_whole = c.end_of-end.ensures.whole; end_spent = c.end_of-end.ensures.spent }))
+    (record { whole = c.dismiss_hosts-end.ensures.whole; left = c.dismiss_hosts-end.ensures.left; end_whole = c.end_of-end.ensures.whole; end_left = c.end_of-end.ensures.left; end_spent = c.end_of-end.ensures.spent }))

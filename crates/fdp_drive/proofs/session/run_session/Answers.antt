@@ -4,9 +4,9 @@ use Rattle.std.proofs.lemmas.List.{length-map}
 use Rattle.fdp_base.specs.declared.config.DriveConfig.{DriveConfig}
 use Rattle.fdp_base.specs.Records.{CarriesNone}
 use Rattle.fdp_board.specs.Board.{BoardSeen, items_of}
-use Rattle.fdp_core.specs.Seen.{Seen}
+use Rattle.fdp_crews.specs.fdp_core.Seen.{Seen}
 use Rattle.fdp_crews.specs.Crews.{IsTrace}
-use Rattle.fdp_workers.specs.Marks.{mark_in}
+use Rattle.fdp_crews.specs.fdp_workers.Marks.{mark_in}
 use Rattle.fdp_drive.specs.Session.{IsSession}
 use Rattle.fdp_drive.proofs.Made.{ended-early, first-unmarked, session-made}
 use Rattle.fdp_drive.proofs.session.run_session.Goals as goal

@@ -3,8 +3,8 @@ use Rattle.fdp_base.specs.declared.entry.Entry.{Entry}
 use Rattle.fdp_base.specs.declared.entry.Totals.{Totals}
 use Rattle.fdp_book.specs.Book.{point_in}
 use Rattle.fdp_outline.specs.Outline.{IsOutlineOf}
-use Rattle.fdp_readings.specs.Changes.{Saves, completed}
-use Rattle.fdp_readings.specs.Drawn.{drawn}
+use Rattle.fdp_durability.specs.fdp_readings.Changes.{Saves, completed}
+use Rattle.fdp_durability.specs.fdp_readings.Drawn.{drawn}
 use Rattle.fdp_rules.specs.History.{point_of}
 use Rattle.fdp_rules.specs.Next.{totals_with}
 use Rattle.fdp_snapshot.specs.declared.state.Summary.{Summary}

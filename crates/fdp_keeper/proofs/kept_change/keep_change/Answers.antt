@@ -2,7 +2,7 @@ use Rattle.std.proofs.Common.{List, ℕ, length, ◌≤◌, arith, subst, sym}
 use Rattle.fdp_book.specs.Book.{point_in}
 use Rattle.fdp_keeper.proofs.Behind.{kept-created, kept-updated}
 use Rattle.fdp_outline.proofs.Applying.{outline-cleared}
-use Rattle.fdp_readings.specs.Drawn.{drawn}
+use Rattle.fdp_durability.specs.fdp_readings.Drawn.{drawn}
 use Rattle.fdp_keeper.proofs.kept_change.keep_change.Goals as goal
 
 pub keep_closed-requires : goal.keep_closed-requires

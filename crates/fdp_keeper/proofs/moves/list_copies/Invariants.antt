@@ -1,6 +1,6 @@
 use Rattle.std.proofs.Common.{◌≡◌, ◌≤◌, map, take, vec_capacity, vec_len}
 use Rattle.fdp_owners.specs.OwnerTable.{owner_at}
-use Rattle.fdp_readings.specs.Changes.{copies_of_blocks}
+use Rattle.fdp_durability.specs.fdp_readings.Changes.{copies_of_blocks}
 use Rattle.fdp_keeper.specs.Moves.{moved_of}
 use Rattle.fdp_keeper.proofs.moves.list_copies.Given as goal
 

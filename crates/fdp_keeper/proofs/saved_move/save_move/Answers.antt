@@ -10,9 +10,9 @@ use Rattle.fdp_outline.specs.Events.{with_events}
 use Rattle.fdp_outline.specs.Outline.{IsOutlineOf}
 use Rattle.fdp_outline.proofs.Saying.{outline-more, outline-totals}
 use Rattle.fdp_owners.specs.OwnerTable.{owner_at}
-use Rattle.fdp_pages.specs.PageTables.{PageTables, copies_at}
-use Rattle.fdp_readings.specs.Changes.{Saves, copies_of_blocks}
-use Rattle.fdp_readings.specs.Drawn.{drawn}
+use Rattle.fdp_durability.specs.fdp_pages.PageTables.{PageTables, copies_at}
+use Rattle.fdp_durability.specs.fdp_readings.Changes.{Saves, copies_of_blocks}
+use Rattle.fdp_durability.specs.fdp_readings.Drawn.{drawn}
 use Rattle.fdp_base.specs.Placement.{handle_count}
 use Rattle.fdp_image.specs.Changed.{changed}
 use Rattle.fdp_records.specs.declared.change.Change.{Change}

@@ -1,15 +1,15 @@
 use Rattle.std.proofs.Common.{◌≡◌, ◌∙◌, ap, subst, sym}
 use Rattle.fdp_book.specs.Book.{point_in}
 use Rattle.fdp_outline.specs.Outline.{IsOutlineOf}
-use Rattle.fdp_readings.specs.Drawn.{drawn}
+use Rattle.fdp_durability.specs.fdp_readings.Drawn.{drawn}
 use Rattle.fdp_snapshot.specs.declared.state.Summary.{Summary}
 use Rattle.fdp_keeper.proofs.Given.{IsGiven, drawn-pages, given, room-for-record}
 use Rattle.fdp_base.specs.declared.entry.Totals.{Totals}
-use Rattle.fdp_checkpoint.specs.Writing.{with_pages}
+use Rattle.fdp_durability.specs.fdp_checkpoint.Writing.{with_pages}
 use Rattle.fdp_flash.specs.Runs.{Holds}
-use Rattle.fdp_saving.specs.Said.{ReadsAsOneOf}
-use Rattle.fdp_saving.specs.Saver.{needs_checkpoint}
-use Rattle.fdp_saving.specs.Saving.{IsOfDrive, SayAfterSaving, base_of, within_saved}
+use Rattle.fdp_durability.specs.fdp_saving.Said.{ReadsAsOneOf}
+use Rattle.fdp_durability.specs.fdp_saving.Saver.{needs_checkpoint}
+use Rattle.fdp_durability.specs.fdp_saving.Saving.{IsOfDrive, SayAfterSaving, base_of, within_saved}
 use Rattle.fdp_keeper.proofs.saving.save.Goals as goal
 
 pub save-requires-clause-state : goal.save-requires-clause-state

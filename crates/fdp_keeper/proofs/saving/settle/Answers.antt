@@ -1,11 +1,11 @@
 use Rattle.std.proofs.Common.{◌≡◌, ◌∙◌, ap, subst, sym}
 use Rattle.fdp_book.specs.Book.{point_in}
 use Rattle.fdp_outline.specs.Outline.{IsOutlineOf}
-use Rattle.fdp_readings.specs.Drawn.{drawn}
+use Rattle.fdp_durability.specs.fdp_readings.Drawn.{drawn}
 use Rattle.fdp_snapshot.specs.declared.state.Summary.{Summary}
 use Rattle.fdp_keeper.proofs.Given.{IsGiven, drawn-pages, given, room-for-seal}
-use Rattle.fdp_checkpoint.specs.Writing.{with_pages}
-use Rattle.fdp_saving.specs.Saving.{IsOfDrive}
+use Rattle.fdp_durability.specs.fdp_checkpoint.Writing.{with_pages}
+use Rattle.fdp_durability.specs.fdp_saving.Saving.{IsOfDrive}
 use Rattle.fdp_keeper.proofs.saving.settle.Goals as goal
 
 pub settle-requires-clause-state : goal.settle-requires-clause-state

@@ -7,9 +7,9 @@ use Rattle.fdp_book.specs.Book.{point_in}
 use Rattle.fdp_outline.specs.Events.{with_events}
 use Rattle.fdp_outline.specs.Outline.{IsOutlineOf}
 use Rattle.fdp_outline.proofs.Saying.{outline-more, outline-totals}
-use Rattle.fdp_readings.specs.Changes.{Saves}
-use Rattle.fdp_readings.specs.Drawn.{drawn}
-use Rattle.fdp_readings.proofs.Saving.{shut-drawn}
+use Rattle.fdp_durability.specs.fdp_readings.Changes.{Saves}
+use Rattle.fdp_durability.specs.fdp_readings.Drawn.{drawn}
+use Rattle.fdp_durability.proofs.fdp_readings.Saving.{shut-drawn}
 use Rattle.fdp_records.specs.Limits.{is_within_limits}
 use Rattle.fdp_records.specs.declared.change.Change.TheVariants as changes
 use Rattle.fdp_rules.specs.Events.{events_of_entry, handle_event}

@@ -2,7 +2,7 @@ use Rattle.std.proofs.Common.{◌+◌, ◌*◌, ◌∙◌, ℕ, subst, sym}
 use Rattle.fdp_book.specs.Book.{state_in}
 use Rattle.fdp_keeper.proofs.Marking.{tells-more, tells-none}
 use Rattle.fdp_passes.proofs.Counted.{byte-is}
-use Rattle.fdp_readings.specs.Changes.{TellsClosed}
+use Rattle.fdp_durability.specs.fdp_readings.Changes.{TellsClosed}
 use Rattle.fdp_rules.specs.Effect.{updated_by}
 use Rattle.fdp_keeper.proofs.updated.+closed_by.Goals as goal
 

@@ -3,7 +3,7 @@ use Rattle.std.specs.Prelude.{◌&&◌, nat_lt}
 use Rattle.fdp_base.specs.declared.config.DriveConfig.{DriveConfig}
 use Rattle.fdp_book.specs.Book.{state_in}
 use Rattle.fdp_handles.specs.HandleTable.{HandleTable, reference_at}
-use Rattle.fdp_pages.specs.PageTables.{PageTables}
+use Rattle.fdp_durability.specs.fdp_pages.PageTables.{PageTables}
 use Rattle.fdp_rules.specs.PlainState.{Reference}
 use Rattle.fdp_keeper.proofs.updated.is_partly_written.Goals as goal
 

@@ -6,7 +6,7 @@ use Rattle.fdp_keeper.specs.Commands.{LendsPids}
 use Rattle.fdp_keeper.proofs.Accepted.{few-pids}
 use Rattle.fdp_keeper.proofs.Marking.{unmarked}
 use Rattle.fdp_keeper.proofs.Writing.{within-most}
-use Rattle.fdp_readings.specs.Changes.{TellsClosed}
+use Rattle.fdp_durability.specs.fdp_readings.Changes.{TellsClosed}
 use Rattle.fdp_records.specs.declared.change.Change.TheVariants as changes
 use Rattle.fdp_records.specs.Limits.{is_within, is_within_limits}
 use Rattle.fdp_keeper.proofs.updated.updated_change.Goals as goal

@@ -9,9 +9,9 @@ use Rattle.fdp_book.specs.Book.{point_in}
 use Rattle.fdp_flash.specs.Layout.{page_number}
 use Rattle.fdp_outline.specs.Outline.{IsOutlineOf}
 use Rattle.fdp_outline.proofs.Saying.{outline-totals}
-use Rattle.fdp_readings.specs.Changes.{Saves, change_of_write, completed}
-use Rattle.fdp_readings.specs.Drawn.{drawn}
-use Rattle.fdp_readings.proofs.Saving.{write-drawn}
+use Rattle.fdp_durability.specs.fdp_readings.Changes.{Saves, change_of_write, completed}
+use Rattle.fdp_durability.specs.fdp_readings.Drawn.{drawn}
+use Rattle.fdp_durability.proofs.fdp_readings.Saving.{write-drawn}
 use Rattle.fdp_records.specs.declared.change.Change.{Change}
 use Rattle.fdp_rules.specs.History.{point_of}
 use Rattle.fdp_rules.specs.Next.{totals_with}

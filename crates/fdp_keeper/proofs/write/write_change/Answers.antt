@@ -8,7 +8,7 @@ use Rattle.fdp_book.specs.Book.{point_in}
 use Rattle.fdp_book.specs.declared.write_names.WriteNames.{WriteNames}
 use Rattle.fdp_book.specs.Saving.{names_of}
 use Rattle.fdp_flash.specs.Layout.{page_number}
-use Rattle.fdp_readings.specs.Changes.{AreItsPages}
+use Rattle.fdp_durability.specs.fdp_readings.Changes.{AreItsPages}
 use Rattle.fdp_records.specs.declared.change.Change.TheVariants as changes
 use Rattle.fdp_records.specs.Limits.{is_within_limits}
 use Rattle.fdp_rules.specs.Step.{IsPage}

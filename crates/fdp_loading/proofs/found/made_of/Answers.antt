@@ -1,11 +1,11 @@
 use Rattle.std.proofs.Common.{◌≡◌, ◌<◌, length, sym, subst}
-use Rattle.fdp_book.specs.Reopened.{IsReopened, WasFound, cells_found}
+use Rattle.fdp_keeper.specs.fdp_book.Reopened.{IsReopened, WasFound, cells_found}
 use Rattle.fdp_image.specs.Checkpoint.{reading_of_state}
 use Rattle.fdp_image.specs.Valid.{IsValid}
 use Rattle.fdp_loading.proofs.Reopening.{index-found, position-found, writable-found}
-use Rattle.fdp_outline.specs.Outline.{IsOutlineOf, IsWritable}
-use Rattle.fdp_pages.specs.PageTables.{PageTables}
-use Rattle.fdp_readings.specs.Drawn.{drawn}
+use Rattle.fdp_keeper.specs.fdp_outline.Outline.{IsOutlineOf, IsWritable}
+use Rattle.fdp_keeper.specs.fdp_pages.PageTables.{PageTables}
+use Rattle.fdp_keeper.specs.fdp_readings.Drawn.{drawn}
 use Rattle.fdp_snapshot.specs.declared.state.Summary.{Summary}
 use Rattle.fdp_loading.proofs.found.made_of.Goals as goal
 

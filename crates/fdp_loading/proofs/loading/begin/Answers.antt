@@ -2,8 +2,8 @@ use Rattle.std.proofs.Common.{Ok, subst}
 use Rattle.std.specs.Prelude.{IsTrue}
 use Rattle.fdp_loading.proofs.Looked.{looks-joined, looks-of}
 use Rattle.fdp_loading.proofs.Over.{begun-unwritten, err-opened, ok-opened}
-use Rattle.fdp_recovery.specs.declared.opened.Opened.{Opened}
-use Rattle.fdp_recovery.specs.Opened.{GoesOn, TellsOpened, most_looks}
+use Rattle.fdp_keeper.specs.fdp_recovery.declared.opened.Opened.{Opened}
+use Rattle.fdp_keeper.specs.fdp_recovery.Opened.{GoesOn, TellsOpened, most_looks}
 use Rattle.fdp_loading.proofs.loading.begin.Goals as goal
 
 pub returns-in-Ok-clause-begun : goal.returns-in-Ok-clause-begun

@@ -3,7 +3,7 @@ use Rattle.fdp_base.proofs.Sums.{sum_from}
 use Rattle.fdp_flash.specs.declared.cell.Cell.{Cell}
 use Rattle.fdp_flash.proofs.OnlyReads.{before_reads, reads_fewer, reads_joined}
 use Rattle.fdp_image.specs.Checkpoint.{reading_of_state}
-use Rattle.fdp_state.specs.Parts.{listed}
+use Rattle.fdp_recovery.specs.fdp_state.Parts.{listed}
 use Rattle.fdp_opening.specs.Walking.{AreFoundBefore}
 use Rattle.fdp_opening.proofs.Looking.{all-listed, listed-more, listed-most}
 use Rattle.fdp_opening.specs.Found.{IsFirstAstray}

@@ -2,7 +2,7 @@ use Rattle.std.proofs.Common.{◌≡◌, ◌-◌}
 use Rattle.fdp_base.proofs.Sums.{sum_from}
 use Rattle.fdp_flash.specs.OnlyReads.{ReadsOnly}
 use Rattle.fdp_image.specs.Checkpoint.{reading_of_state}
-use Rattle.fdp_state.specs.Parts.{listed}
+use Rattle.fdp_recovery.specs.fdp_state.Parts.{listed}
 use Rattle.fdp_opening.specs.Walking.{AreFoundBefore}
 use Rattle.fdp_opening.proofs.blocks.find_blocks.Given as goal
 

@@ -6,7 +6,7 @@ use Rattle.fdp_flash.specs.declared.cell.Cell.{Cell}
 use Rattle.fdp_flash.proofs.OnlyReads.{before_reads, reads_fewer, reads_joined}
 use Rattle.fdp_image.specs.Checkpoint.{reading_of_state}
 use Rattle.fdp_recovery.proofs.Kept.{entry_is, past_list, rows_of}
-use Rattle.fdp_state.specs.Parts.{listed}
+use Rattle.fdp_recovery.specs.fdp_state.Parts.{listed}
 use Rattle.fdp_opening.proofs.Owning.{found-row}
 use Rattle.fdp_opening.specs.Found.{IsFirstAstray}
 use Rattle.fdp_opening.proofs.blocks.find_blocks_in.Goals as goal

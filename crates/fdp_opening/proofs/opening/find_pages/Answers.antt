@@ -8,7 +8,7 @@ use Rattle.fdp_image.specs.Checkpoint.{reading_of_state}
 use Rattle.fdp_pages.specs.PageTables.{no_targets}
 use Rattle.fdp_opening.specs.Found.{IsFirstAstray}
 use Rattle.fdp_opening.specs.declared.fault.PagesFault.TheVariants as faults
-use Rattle.fdp_state.proofs.Loadable.{loadable}
+use Rattle.fdp_recovery.proofs.fdp_state.Loadable.{loadable}
 use Rattle.fdp_opening.proofs.Owning.{classes-are, found-all, found-first, index-known, none-astray, some-classes}
 use Rattle.fdp_opening.proofs.opening.find_pages.Goals as goal
 

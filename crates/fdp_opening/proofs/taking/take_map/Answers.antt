@@ -3,7 +3,7 @@ use Rattle.std.specs.Prelude.{IfSome, option_map}
 use Rattle.fdp_base.specs.declared.config.Geometry.{Geometry}
 use Rattle.fdp_base.specs.Placement.{geometry_of}
 use Rattle.fdp_map.specs.PageLists.{data_pages, page_at, placed_on, size_at}
-use Rattle.fdp_state.proofs.Loadable.{loadable}
+use Rattle.fdp_recovery.proofs.fdp_state.Loadable.{loadable}
 use Rattle.fdp_opening.proofs.Mapping.{pages-are, pages-within, sizes-few}
 use Rattle.fdp_opening.proofs.taking.take_map.Goals as goal
 

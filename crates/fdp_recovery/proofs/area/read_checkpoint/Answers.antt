@@ -1,8 +1,8 @@
 use Rattle.std.proofs.Common.{◌*◌, ◌≤◌, ℕ, Err, sym, subst}
 use Rattle.std.specs.Prelude.{IfOk}
 use Rattle.std.specs.List.{concat}
-use Rattle.fdp_areas.specs.Seals.{LiesIn}
-use Rattle.fdp_areas.proofs.Walking.{current_is_sealed}
+use Rattle.fdp_checkpoint.specs.fdp_areas.Seals.{LiesIn}
+use Rattle.fdp_checkpoint.proofs.fdp_areas.Walking.{current_is_sealed}
 use Rattle.fdp_base.specs.declared.config.Geometry.{Geometry}
 use Rattle.fdp_checkpoint.specs.declared.fault.ContentFault.{ContentFault}
 use Rattle.fdp_checkpoint.specs.Ends.{EndsContent}

@@ -1,8 +1,8 @@
 use Rattle.std.proofs.Common.{◌≡◌, ◌+◌, List, Option, None, arith, length, subst}
 use Rattle.std.specs.Prelude.{IfOk, IfSome}
 use Rattle.std.proofs.lemmas.Grind.{common_steps}
-use Rattle.fdp_areas.specs.declared.seal.Current.{Current}
-use Rattle.fdp_areas.specs.Seals.{IsCurrentSeal, LiesIn, TellsCurrent}
+use Rattle.fdp_checkpoint.specs.fdp_areas.declared.seal.Current.{Current}
+use Rattle.fdp_checkpoint.specs.fdp_areas.Seals.{IsCurrentSeal, LiesIn, TellsCurrent}
 use Rattle.fdp_base.specs.declared.config.Geometry.{Geometry}
 use Rattle.fdp_flash.specs.declared.cell.Cell.{Cell}
 use Rattle.fdp_base.specs.Geometry.{area_pages}

@@ -1,5 +1,5 @@
 use Rattle.std.proofs.Common.{ap, inl, not}
-use Rattle.fdp_collector.specs.declared.step.Step.TheVariants as steps
+use Rattle.fdp_keeper.specs.fdp_collector.declared.step.Step.TheVariants as steps
 use Rattle.fdp_relocation.proofs.Ends.{collects-doubt, collects-move, steps-of, still-due}
 use Rattle.fdp_relocation.proofs.Kept.{keeper-told}
 use Rattle.fdp_relocation.proofs.advance.collect.Goals as goal

@@ -1,7 +1,7 @@
 use Rattle.std.proofs.Common.{◌∙◌, subst, sym}
-use Rattle.fdp_collector.specs.declared.step.Step.TheVariants as steps
-use Rattle.fdp_book.specs.Book.{written_in}
-use Rattle.fdp_locations.specs.Stored.{HoldsWritten}
+use Rattle.fdp_keeper.specs.fdp_collector.declared.step.Step.TheVariants as steps
+use Rattle.fdp_keeper.specs.fdp_book.Book.{written_in}
+use Rattle.fdp_keeper.specs.fdp_locations.Stored.{HoldsWritten}
 use Rattle.fdp_relocation.proofs.Erasing.{not-of-erase}
 use Rattle.fdp_relocation.proofs.Kept.{keeper-told}
 use Rattle.fdp_relocation.proofs.Storing.{held-on, settled-same}

@@ -2,8 +2,8 @@ use Rattle.std.proofs.Common.{◌≡◌, ◌∙◌, sym, subst}
 use Rattle.fdp_relocation.specs.Collected.{Moves, Stage}
 use Rattle.fdp_relocation.proofs.Ends.{move-epoch, move-keeper, move-stored, moves-of}
 use Rattle.fdp_relocation.proofs.Storing.{move-geometry}
-use Rattle.fdp_saving.specs.declared.saved.Saved.{Saved}
-use Rattle.fdp_saving.specs.declared.saved.Saved.TheVariants as saved
+use Rattle.fdp_keeper.specs.fdp_saving.declared.saved.Saved.{Saved}
+use Rattle.fdp_keeper.specs.fdp_saving.declared.saved.Saved.TheVariants as saved
 use Rattle.fdp_relocation.proofs.advance.move_saved.Goals as goal
 
 pub returns-in-Done-clause-step : goal.returns-in-Done-clause-step

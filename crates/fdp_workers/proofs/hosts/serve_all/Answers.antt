@@ -3,6 +3,7 @@ use Rattle.std.proofs.lemmas.Iterator.Adapters.{YieldsList-from_vec}
 use Rattle.std.proofs.lemmas.Iterator.Consumers.{YieldsList-at, YieldsList-end, YieldsList-from_enumerate, YieldsList-turn}
 use Rattle.std.proofs.lemmas.List.FromFn.{length-enumerate_from}
 use Rattle.fdp_workers.specs.Hosting.{IsAt, IsIdleAt, run_of}
+use Rattle.fdp_workers.specs.Pairs.{IsIdlePair}
 use Rattle.fdp_workers.specs.Queues.{so_far}
 use Rattle.fdp_workers.proofs.Posts.{post-first, post-more, post-still}
 use Rattle.fdp_workers.proofs.Serving.{first-more, next-command}
@@ -12,7 +13,7 @@ pub loop-number-init : goal.loop-number-init
 loop-number-init g c = record {
   post = post-first c.args.gauge.now c.args.seat.now c.args.pass.now c.requires.post.pass_is;
   idle = subst (λ rs. IsIdleAt g.V.Recorded.origin g.V.Steps.run g.V.Steps.entry g.V.Recorded.mark c.args.lock.now (so_far c.args.trace.items 0 rs) 0 c.args.seat.now) (sym c.requires.none) c.requires.idle;
-  empty = c.requires.empty;
+  pair = c.requires.pair;
   room = c.requires.room;
   count = ap length c.requires.none;
   shown = λ low. absurd (omega (arith, low));
@@ -53,7 +54,7 @@ loop-number-preserved g c =
     record {
       post = post-more c.args.gauge.now c.args.seat.now c.loop-number.seat c.exchange.new.seat c.args.pass.now c.loop-number.pass c.exchange.new.pass c.loop-number.invariant.post c.exchange.ensures.post;
       idle = subst (λ k. IsIdleAt g.V.Recorded.origin g.V.Steps.run g.V.Steps.entry g.V.Recorded.mark c.args.lock.now (so_far c.args.trace.items k c.push_reserved.new.self.items) k c.exchange.new.seat) (sym one) (subst (λ rs. IsIdleAt g.V.Recorded.origin g.V.Steps.run g.V.Steps.entry g.V.Recorded.mark c.args.lock.now (so_far c.args.trace.items (length c.loop-number.yielded + 1) rs) (length c.loop-number.yielded + 1) c.exchange.new.seat) (sym c.push_reserved.ensures.items) more);
-      empty = c.in-Ok.ensures.empty;
+      pair = subst (λ k. IsIdlePair c.args.config.now.queue_depth k k c.exchange.new.pair) (ap (λ k. k + 1) t.1 ∙ sym one) c.in-Ok.ensures.pair;
       room = omega (arith, c.loop-number.invariant.room, c.push_reserved.ensures.capacity);
       count = omega (arith, ap length c.push_reserved.ensures.items, length-append c.loop-number.receipts.items (c.in-Ok.exchanged.receipt ∷ []), one, c.loop-number.invariant.count);
       shown = λ low. h.shown;
@@ -72,5 +73,7 @@ returns-clause-serves g c =
       shown = λ low. c.loop-number.invariant.shown (omega (arith, low, all));
     }
 
-pub exchange-requires-clause-empty : goal.exchange-requires-clause-empty
-exchange-requires-clause-empty g c = c.loop-number.invariant.empty
+pub exchange-requires-clause-pair : goal.exchange-requires-clause-pair
+exchange-requires-clause-pair g c =
+    let t = next-command c.args.trace.items (length c.loop-number.yielded) c.in-Some.number c.in-Some.command (YieldsList-turn (YieldsList-at c.into_iter-number-iterator.ensures.into_iter_gives (YieldsList-from_enumerate (YieldsList-at c.enumerate-number-items.ensures.source (YieldsList-from_vec c.args.trace.items c.into_iter.ensures.rest (omega (arith, c.into_iter.ensures.len, c.args.trace.ok)))) c.enumerate-number-items.ensures.count)) c.loop-number.yielded c.loop-number.number-iterator c.loop-number.yielded_by c.next.result c.next.new.self (c.in-Some.number, c.in-Some.command) c.in-Some.is c.next.ensures.steps) in
+    subst (λ k. IsIdlePair c.args.config.now.queue_depth k k c.loop-number.pair) (sym t.1) c.loop-number.invariant.pair

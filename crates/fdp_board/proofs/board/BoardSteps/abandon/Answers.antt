@@ -1,5 +1,5 @@
 use Rattle.std.proofs.Common.{subst, sym}
-use Rattle.fdp_book.specs.Steps.{IsFlying}
+use Rattle.fdp_workers.specs.fdp_book.Steps.{IsFlying}
 use Rattle.fdp_board.specs.Board.{BoardSeen}
 use Rattle.fdp_board.proofs.Stepping.{ticket-there}
 use Rattle.fdp_board.proofs.board.BoardSteps.abandon.Goals as goal

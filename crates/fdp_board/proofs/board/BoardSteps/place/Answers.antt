@@ -1,7 +1,7 @@
 use Rattle.std.proofs.Common.{◌∙◌, ap, subst, sym}
-use Rattle.fdp_book.specs.Book.{state_in}
-use Rattle.fdp_book.specs.Steps.{IsWaiting}
-use Rattle.fdp_book.specs.Tickets.{IsTicketOf}
+use Rattle.fdp_workers.specs.fdp_book.Book.{state_in}
+use Rattle.fdp_workers.specs.fdp_book.Steps.{IsWaiting}
+use Rattle.fdp_workers.specs.fdp_book.Tickets.{IsTicketOf}
 use Rattle.fdp_gauge.specs.Passes.{told_of}
 use Rattle.fdp_rules.specs.PlainState.{PlainState}
 use Rattle.fdp_workers.specs.Turns as turns

@@ -1,5 +1,5 @@
 use Rattle.std.proofs.Common.{subst, sym}
-use Rattle.fdp_core.specs.Seen.{Seen}
+use Rattle.fdp_workers.specs.fdp_core.Seen.{Seen}
 use Rattle.fdp_gauge.specs.Passes.{told_of}
 use Rattle.fdp_board.specs.Board.{IsBoard}
 use Rattle.fdp_board.proofs.board.BoardSteps.reserve.Goals as goal

@@ -1,10 +1,10 @@
 use Rattle.std.proofs.Common.{subst, sym}
-use Rattle.fdp_core.specs.Steps.{MayBegin}
+use Rattle.fdp_workers.specs.fdp_core.Steps.{MayBegin}
 use Rattle.fdp_board.specs.Board.{BoardSeen, items_of}
 use Rattle.fdp_workers.specs.Marks.{entry_in, mark_in}
 use Rattle.fdp_board.proofs.Came.{begins-goes, begins-told}
 use Rattle.fdp_board.proofs.Stepping.{board-after, state-told}
-use Rattle.fdp_book.specs.Stages.{IsFree}
+use Rattle.fdp_workers.specs.fdp_book.Stages.{IsFree}
 use Rattle.fdp_gauge.specs.Passes.{told_of}
 use Rattle.fdp_rules.specs.PlainState.{PlainState}
 use Rattle.fdp_workers.specs.Turns as turns

@@ -1,6 +1,6 @@
 use Rattle.std.proofs.Common.{List, [], length, ap, sym, ◌∙◌}
 use Rattle.fdp_base.specs.declared.entry.Entry.{Entry}
-use Rattle.fdp_core.specs.Seen.{Seen}
+use Rattle.fdp_workers.specs.fdp_core.Seen.{Seen}
 use Rattle.fdp_board.proofs.Items.{length-marked}
 use Rattle.fdp_board.proofs.record.RecordRecorded.length.Goals as goal
 

@@ -17,9 +17,9 @@ use Rattle.fdp_book.proofs.Applying.{behind-now, may-change}
 use Rattle.fdp_book.proofs.Ending.{completes-told}
 use Rattle.fdp_book.proofs.Held.Faulted.{held-told}
 use Rattle.fdp_book.proofs.Numbers.{numbers-risen}
-use Rattle.fdp_locations.proofs.Ended.{host}
-use Rattle.fdp_locations.specs.Held.{pages_held}
-use Rattle.fdp_locations.specs.Written.{Written}
+use Rattle.fdp_readings.proofs.fdp_locations.Ended.{host}
+use Rattle.fdp_readings.specs.fdp_locations.Held.{pages_held}
+use Rattle.fdp_readings.specs.fdp_locations.Written.{Written}
 use Rattle.fdp_rules.specs.Answer.{dword0_of}
 use Rattle.fdp_rules.specs.Change.{is_status}
 use Rattle.fdp_book.proofs.book.Book.apply.Goals as goal

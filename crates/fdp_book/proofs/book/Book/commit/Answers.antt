@@ -14,15 +14,15 @@ use Rattle.fdp_book.specs.Taking.{CanTake, MayTake}
 use Rattle.fdp_book.proofs.Ending.{IsCommitting, committing, ended-entry}
 use Rattle.fdp_book.proofs.Held.Committed.{flight-lies, held-committed, may-take}
 use Rattle.fdp_book.proofs.Held.Faulted.{held-made}
-use Rattle.fdp_locations.proofs.Ended.{host}
-use Rattle.fdp_locations.specs.Taken.{taken_first}
+use Rattle.fdp_readings.proofs.fdp_locations.Ended.{host}
+use Rattle.fdp_readings.specs.fdp_locations.Taken.{taken_first}
 use Rattle.fdp_owners.specs.Owned.{AreOwners}
 use Rattle.fdp_owners.specs.OwnerTable.{owner_at}
 use Rattle.fdp_pointers.specs.Facts.{Page}
 use Rattle.fdp_pointers.specs.Pointers.{Behind, renamed}
 use Rattle.fdp_book.proofs.Numbers.{numbers-logged}
 use Rattle.fdp_book.proofs.book.Book.commit.Goals as goal
-use Rattle.fdp_locations.specs.Held.{pages_held}
+use Rattle.fdp_readings.specs.fdp_locations.Held.{pages_held}
 
 abbrev flight : goal.After-as_slice → Flight
 flight c = c.take_flight-flight.result

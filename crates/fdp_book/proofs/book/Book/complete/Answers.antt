@@ -8,7 +8,7 @@ use Rattle.fdp_book.proofs.Ending.{held-completed}
 use Rattle.fdp_book.proofs.Forgetting.{may-forget}
 use Rattle.fdp_book.proofs.Numbers.{ends-setting, numbers-logged}
 use Rattle.fdp_book.proofs.book.Book.complete.Goals as goal
-use Rattle.fdp_locations.specs.Held.{pages_held}
+use Rattle.fdp_readings.specs.fdp_locations.Held.{pages_held}
 
 pub end_in-requires : goal.end_in-requires
 end_in-requires c =

@@ -2,7 +2,7 @@ use Rattle.std.proofs.Common.{◌≤◌, ◌<◌, subst, sym}
 use Rattle.fdp_book.specs.Book.{BookSeen, point_in, state_in, written_in}
 use Rattle.fdp_book.specs.Held.{book_of}
 use Rattle.fdp_book.proofs.Crowding.{crowded}
-use Rattle.fdp_trails.specs.Crowded.{IsCrowded}
+use Rattle.fdp_readings.specs.fdp_trails.Crowded.{IsCrowded}
 use Rattle.fdp_units.specs.DataUnits.{is_free}
 use Rattle.fdp_units.specs.UnitTable.{HasNoVictim, count_in}
 use Rattle.fdp_book.proofs.book.Book.crowded.Goals as goal

@@ -9,10 +9,10 @@ use Rattle.fdp_book.specs.Steps.{Completes}
 use Rattle.fdp_book.specs.Tickets.{IsTicketOf}
 use Rattle.fdp_book.proofs.Ending.{completed, completes-by, ended-entry, ending, flying-queue, held-ending}
 use Rattle.fdp_book.proofs.Forgetting.{may-forget}
-use Rattle.fdp_locations.proofs.Ended.{host}
+use Rattle.fdp_readings.proofs.fdp_locations.Ended.{host}
 use Rattle.fdp_book.proofs.Numbers.{numbers-logged}
 use Rattle.fdp_book.proofs.book.Book.end.Goals as goal
-use Rattle.fdp_locations.specs.Held.{pages_held}
+use Rattle.fdp_readings.specs.fdp_locations.Held.{pages_held}
 
 pub forget-requires : goal.forget-requires
 forget-requires c =

@@ -5,7 +5,7 @@ use Rattle.fdp_rules.specs.History.{fresh}
 use Rattle.fdp_book.specs.Configured.{fresh_opening}
 use Rattle.fdp_book.specs.Held.{IsBook, IsHeld}
 use Rattle.fdp_book.specs.Logged.{Logged}
-use Rattle.fdp_locations.specs.Held.{pages_held}
+use Rattle.fdp_readings.specs.fdp_locations.Held.{pages_held}
 use Rattle.fdp_origin.specs.Opening.{Opening}
 use Rattle.fdp_book.proofs.book.Book.fresh.Goals as goal
 

@@ -8,9 +8,9 @@ use Rattle.fdp_book.specs.Held.{IsHeld, book_of}
 use Rattle.fdp_book.specs.Logged.{Logged}
 use Rattle.fdp_book.specs.Relocating.{MovesPass}
 use Rattle.fdp_book.proofs.Held.Moved.{all-moved-out, held-moved, moved_entry, owners-are, pass-blocks, pass-follows, pass-movable}
-use Rattle.fdp_pages.specs.PageTables.{PageTables, passes_at}
+use Rattle.fdp_readings.specs.fdp_pages.PageTables.{PageTables, passes_at}
 use Rattle.fdp_owners.specs.OwnerTable.{owner_at}
-use Rattle.fdp_pages.specs.Steps.{HasSize, Recounts, ended_move}
+use Rattle.fdp_readings.specs.fdp_pages.Steps.{HasSize, Recounts, ended_move}
 use Rattle.fdp_passes.specs.declared.due.Due.TheVariants.{Move}
 use Rattle.fdp_passes.specs.Due.{IsDue}
 use Rattle.fdp_passes.specs.GroupPasses.{GroupPasses}
@@ -19,7 +19,7 @@ use Rattle.fdp_rules.specs.History.{point_of}
 use Rattle.fdp_rules.specs.Sites.{moved_blocks}
 use Rattle.fdp_book.proofs.Numbers.{numbers-logged, numbers-on}
 use Rattle.fdp_book.proofs.book.Book.move_pass.Goals as goal
-use Rattle.fdp_locations.specs.Held.{pages_held}
+use Rattle.fdp_readings.specs.fdp_locations.Held.{pages_held}
 
 pub move_copies-requires-clause-movable : goal.move_copies-requires-clause-movable
 move_copies-requires-clause-movable c =

@@ -14,15 +14,15 @@ use Rattle.fdp_book.proofs.Held.Placed.{held-placed}
 use Rattle.fdp_book.proofs.Placing.Fresh.{IsFreshPage, fresh-page}
 use Rattle.fdp_book.proofs.Placing.Nexts.{extent-low, write-there}
 use Rattle.fdp_book.proofs.Placing.Steps.{flight_in-put, places-step, placing, slot-is}
-use Rattle.fdp_locations.specs.Written.{next_spare}
+use Rattle.fdp_readings.specs.fdp_locations.Written.{next_spare}
 use Rattle.fdp_owners.specs.declared.owner.Holder.TheVariants as holders
 use Rattle.fdp_owners.specs.declared.owner.Owner.{Owner}
-use Rattle.fdp_pages.specs.Steps.{MayPut, PutsPage}
+use Rattle.fdp_readings.specs.fdp_pages.Steps.{MayPut, PutsPage}
 use Rattle.fdp_rules.specs.PlainState.{Going}
 use Rattle.fdp_rules.specs.Step.{Follows}
 use Rattle.fdp_book.proofs.Numbers.{numbers-logged}
 use Rattle.fdp_book.proofs.book.Book.place.Goals as goal
-use Rattle.fdp_locations.specs.Held.{pages_held}
+use Rattle.fdp_readings.specs.fdp_locations.Held.{pages_held}
 
 pub next_spare-requires-clause-lba : goal.next_spare-requires-clause-lba
 next_spare-requires-clause-lba c =

@@ -9,16 +9,16 @@ use Rattle.fdp_book.specs.Relocating.{Relocates}
 use Rattle.fdp_book.proofs.Held.Relocated.{held-step}
 use Rattle.fdp_book.proofs.Relocating.Cells.{step-holds}
 use Rattle.fdp_book.proofs.Relocating.Steps.{step-follows}
-use Rattle.fdp_collector.specs.Leaving.{StepMayLeave}
+use Rattle.fdp_readings.specs.fdp_collector.Leaving.{StepMayLeave}
 use Rattle.fdp_flash.specs.Runs.{Runs}
-use Rattle.fdp_locations.specs.Stored.{HoldsWritten}
-use Rattle.fdp_locations.specs.Written.{written_by}
-use Rattle.fdp_locations.proofs.Owned.{stored-before}
-use Rattle.fdp_locations.proofs.Others.{is-group}
+use Rattle.fdp_readings.specs.fdp_locations.Stored.{HoldsWritten}
+use Rattle.fdp_readings.specs.fdp_locations.Written.{written_by}
+use Rattle.fdp_readings.proofs.fdp_locations.Owned.{stored-before}
+use Rattle.fdp_readings.proofs.fdp_locations.Others.{is-group}
 use Rattle.fdp_rules.specs.History.{point_of}
 use Rattle.fdp_book.proofs.Numbers.{numbers-on}
 use Rattle.fdp_book.proofs.book.Book.relocate.Goals as goal
-use Rattle.fdp_locations.specs.Held.{pages_held}
+use Rattle.fdp_readings.specs.fdp_locations.Held.{pages_held}
 
 pub advance-step-requires-clause-stored : goal.advance-step-requires-clause-stored
 advance-step-requires-clause-stored g c = λ told.

@@ -8,7 +8,7 @@ use Rattle.fdp_book.proofs.Held.Reopened.{book-as, early-found, narrow-found, ta
 use Rattle.fdp_found.specs.Opened.{AreOpened}
 use Rattle.fdp_image.specs.Checkpoint.{reading_of_state}
 use Rattle.fdp_origin.specs.Opening.{Opening}
-use Rattle.fdp_pages.specs.PageTables.{PageTables}
+use Rattle.fdp_readings.specs.fdp_pages.PageTables.{PageTables}
 use Rattle.fdp_book.proofs.book.Book.reopened.Goals as goal
 
 pub reopened-requires : goal.reopened-requires

@@ -11,11 +11,11 @@ use Rattle.fdp_book.proofs.Held.Shut.{held-shut, shut-follows, shut_entry}
 use Rattle.fdp_book.proofs.Placing.Fresh.{fresh-page}
 use Rattle.fdp_book.proofs.Shutting.{IsWaitingFor, still-going, waiting-for}
 use Rattle.fdp_history.specs.OrderlyState.{IsOrderlyState}
-use Rattle.fdp_pages.specs.Steps.{MayPut}
+use Rattle.fdp_readings.specs.fdp_pages.Steps.{MayPut}
 use Rattle.fdp_rules.specs.Room.{handles_in_force}
 use Rattle.fdp_book.proofs.Numbers.{numbers-logged}
 use Rattle.fdp_book.proofs.book.Book.shut.Goals as goal
-use Rattle.fdp_locations.specs.Held.{pages_held}
+use Rattle.fdp_readings.specs.fdp_locations.Held.{pages_held}
 
 may-put : (b : BookSeen) (ticket : Ticket) (rg ruh : ℕ) (spot : Spot) → IsWaitingFor b ticket rg ruh spot → MayPut b.pages rg ruh spot
 may-put b ticket rg ruh spot w = subst (λ (k : ℕ). MayPut b.pages rg k spot) (sym w.next.ruh_is) (subst (λ (k : ℕ). MayPut b.pages k w.going.ruh spot) (sym w.next.rg_is) w.next.next.may)

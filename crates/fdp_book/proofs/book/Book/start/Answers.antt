@@ -26,7 +26,7 @@ use Rattle.fdp_rules.specs.Step.{IsQueue}
 use Rattle.std.specs.Vec.{with_item}
 use Rattle.fdp_book.proofs.Numbers.{numbers-logged}
 use Rattle.fdp_book.proofs.book.Book.start.Goals as goal
-use Rattle.fdp_locations.specs.Held.{pages_held}
+use Rattle.fdp_readings.specs.fdp_locations.Held.{pages_held}
 
 birth-read : (o p : Option Namespace) → o ≡ p → unwrap_or (option_map (λ (x : Namespace). x.birth) p) 0 ≡ option_map_or (λ (x : Namespace). x.birth) o 0
 birth-read None None e = refl

@@ -1,5 +1,5 @@
 use Rattle.std.proofs.Common.{◌≡◌, ◌∙◌, ◌+◌, ℕ, Some, ap, arith, subst, sym}
-use Rattle.fdp_locations.specs.Taken.{taken_first}
+use Rattle.fdp_readings.specs.fdp_locations.Taken.{taken_first}
 use Rattle.fdp_owners.specs.Owned.{AreOwners}
 use Rattle.fdp_owners.specs.OwnerTable.{owner_at}
 use Rattle.fdp_pointers.specs.Pointers.{renamed}

@@ -6,7 +6,7 @@ use Rattle.fdp_base.specs.Geometry.{data_units}
 use Rattle.fdp_base.specs.Placement.{geometry_of}
 use Rattle.fdp_handles.specs.HandleTable.{blank, reference_at}
 use Rattle.fdp_owners.specs.OwnerTable.{owner_at}
-use Rattle.fdp_pages.specs.PageTables.{PageTables, no_targets}
+use Rattle.fdp_readings.specs.fdp_pages.PageTables.{PageTables, no_targets}
 use Rattle.fdp_units.specs.DataUnits.{free_unit}
 use Rattle.fdp_units.specs.UnitTable.{is_worn_at, unit_at}
 use Rattle.fdp_book.specs.Book.{AreUnused}

@@ -2,7 +2,7 @@ use Rattle.std.proofs.Common.{◌≡◌, ◌∙◌, ◌<◌, ◌≤◌, List, ap
 use Rattle.std.specs.Prelude.{IsTrue}
 use Rattle.fdp_base.specs.declared.config.Geometry.{Geometry}
 use Rattle.fdp_book.proofs.Relocating.Moves.{copies-stay, moved-first, moved-next, names-below}
-use Rattle.fdp_pages.specs.PageTables.{copies_at, is_under_way}
+use Rattle.fdp_readings.specs.fdp_pages.PageTables.{copies_at, is_under_way}
 use Rattle.fdp_passes.specs.GroupPasses.{GroupPasses}
 use Rattle.fdp_units.specs.UnitTable.{Cut}
 use Rattle.fdp_book.proofs.book.move_pass.move_copies.Goals as goal

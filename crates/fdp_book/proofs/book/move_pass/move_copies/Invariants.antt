@@ -1,6 +1,6 @@
 use Rattle.std.proofs.Common.{◌≡◌, length, vec_capacity}
 use Rattle.fdp_book.proofs.Relocating.Moves.{IsMovedTo}
-use Rattle.fdp_pages.specs.PageTables.{copies_at}
+use Rattle.fdp_readings.specs.fdp_pages.PageTables.{copies_at}
 use Rattle.fdp_book.proofs.book.move_pass.move_copies.Given as goal
 
 abbrev pub invariant-loop-index : goal.invariant-loop-index

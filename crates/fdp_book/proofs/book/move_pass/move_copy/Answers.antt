@@ -9,7 +9,7 @@ use Rattle.fdp_book.proofs.Relocating.Staying.{stays-in}
 use Rattle.fdp_owners.specs.declared.owner.Owner.{Owner}
 use Rattle.fdp_owners.specs.Owned.{page_of}
 use Rattle.fdp_owners.specs.OwnerTable.{owner_at}
-use Rattle.fdp_pages.specs.Steps.{moved}
+use Rattle.fdp_readings.specs.fdp_pages.Steps.{moved}
 use Rattle.fdp_book.proofs.book.move_pass.move_copy.Goals as goal
 
 pub put_owned-requires-clause-page : goal.put_owned-requires-clause-page

@@ -6,7 +6,7 @@ use Rattle.fdp_book.specs.Held.{flight_in}
 use Rattle.fdp_book.specs.Namespaces.{Releases, pages_to}
 use Rattle.fdp_book.proofs.Releasing.{next-owned, releases-next, releases-none}
 use Rattle.fdp_owners.specs.OwnerTable.{owner_at}
-use Rattle.fdp_pages.specs.Steps.{AreOwned, without}
+use Rattle.fdp_readings.specs.fdp_pages.Steps.{AreOwned, without}
 use Rattle.fdp_book.proofs.book.namespaces.release_writes.Goals as goal
 
 pub loop-queue-init : goal.loop-queue-init

@@ -10,16 +10,16 @@ use Rattle.fdp_core.proofs.Outlasting.{outlasts-part}
 use Rattle.fdp_core.proofs.Placing.{filled-buffer}
 use Rattle.fdp_core.proofs.Relocated.{sound-collected, told-collected}
 use Rattle.fdp_core.proofs.Wholes.{low-faults}
-use Rattle.fdp_keeper.specs.Keeper.{CanSave}
-use Rattle.fdp_locations.proofs.Others.{is-group}
+use Rattle.fdp_relocation.specs.fdp_keeper.Keeper.{CanSave}
+use Rattle.fdp_relocation.proofs.fdp_locations.Others.{is-group}
 use Rattle.fdp_relocation.specs.Collected.{Collects}
-use Rattle.fdp_survival.specs.Books.{IsInOrder}
-use Rattle.fdp_survival.proofs.Steps.{HoldsBook}
-use Rattle.fdp_book.specs.Book.{state_in, written_in}
+use Rattle.fdp_loading.specs.fdp_survival.Books.{IsInOrder}
+use Rattle.fdp_loading.proofs.fdp_survival.Steps.{HoldsBook}
+use Rattle.fdp_relocation.specs.fdp_book.Book.{state_in, written_in}
 use Rattle.fdp_core.proofs.group.Group.advance.Given.{Over}
 use Rattle.fdp_core.proofs.group.Group.advance.Goals as goal
 use Rattle.fdp_base.specs.declared.config.Geometry.{Geometry}
-use Rattle.fdp_locations.specs.Stored.{HoldsWritten}
+use Rattle.fdp_relocation.specs.fdp_locations.Stored.{HoldsWritten}
 use Rattle.fdp_relocation.specs.declared.advance.Advance.{Advance}
 
 pub collect-advance-requires-clause-can : goal.collect-advance-requires-clause-can

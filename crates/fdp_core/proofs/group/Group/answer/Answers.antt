@@ -1,5 +1,5 @@
 use Rattle.std.proofs.Common.{subst}
-use Rattle.fdp_book.specs.Book.{point_in}
+use Rattle.fdp_relocation.specs.fdp_book.Book.{point_in}
 use Rattle.fdp_core.specs.Seen.{Seen}
 use Rattle.fdp_core.proofs.Begins.{answered-other, answered-unsaved}
 use Rattle.fdp_rules.specs.Answer.{IsSuccess}

@@ -1,8 +1,8 @@
 use Rattle.std.proofs.Common.{arith, subst}
 use Rattle.fdp_core.specs.Seen.{Seen}
-use Rattle.fdp_keeper.specs.Keeper.{CanSave}
+use Rattle.fdp_relocation.specs.fdp_keeper.Keeper.{CanSave}
 use Rattle.fdp_rules.specs.History.{totals_of}
-use Rattle.fdp_survival.specs.Books.{IsInOrder}
+use Rattle.fdp_loading.specs.fdp_survival.Books.{IsInOrder}
 use Rattle.fdp_core.proofs.group.Group.can_save.Goals as goal
 
 pub returns-clause-order : goal.returns-clause-order

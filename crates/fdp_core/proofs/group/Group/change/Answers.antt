@@ -1,10 +1,10 @@
 use Rattle.std.proofs.Common.{◌<◌, ℕ, [], true, false, refl, sym, ap, subst, inr}
 use Rattle.fdp_base.specs.declared.entry.Reply.{Reply}
 use Rattle.fdp_base.specs.declared.status.TheConstants.Status as statuses
-use Rattle.fdp_book.specs.declared.ticket.Done.{Done}
-use Rattle.fdp_book.specs.Book.{BookSeen, state_in}
-use Rattle.fdp_book.specs.Commanded.{AppliesTo, MayTakeEffect, applied_reply}
-use Rattle.fdp_book.specs.Steps as book
+use Rattle.fdp_relocation.specs.fdp_book.declared.ticket.Done.{Done}
+use Rattle.fdp_relocation.specs.fdp_book.Book.{BookSeen, state_in}
+use Rattle.fdp_relocation.specs.fdp_book.Commanded.{AppliesTo, MayTakeEffect, applied_reply}
+use Rattle.fdp_relocation.specs.fdp_book.Steps as book
 use Rattle.fdp_core.specs.Answers.{EndsAtOnce}
 use Rattle.fdp_core.specs.Seen.{Seen}
 use Rattle.fdp_core.specs.Sound.{IsWhole}
@@ -14,11 +14,11 @@ use Rattle.fdp_core.proofs.Commanded.{command-unmade, effect-completes, effect-w
 use Rattle.fdp_core.proofs.Grown.{host}
 use Rattle.fdp_core.proofs.Made.{unmade-completes}
 use Rattle.fdp_core.proofs.Sound.{begun}
-use Rattle.fdp_keeper.specs.Keeper.{CanSave, KeepsEntry}
-use Rattle.fdp_pages.specs.Steps.{ChangesOwners}
+use Rattle.fdp_relocation.specs.fdp_keeper.Keeper.{CanSave, KeepsEntry}
+use Rattle.fdp_relocation.specs.fdp_pages.Steps.{ChangesOwners}
 use Rattle.fdp_rules.specs.Answer.{bare}
-use Rattle.fdp_saving.specs.declared.saved.Saved.TheVariants as savings
-use Rattle.fdp_survival.specs.Books.{IsInOrder}
+use Rattle.fdp_relocation.specs.fdp_saving.declared.saved.Saved.TheVariants as savings
+use Rattle.fdp_loading.specs.fdp_survival.Books.{IsInOrder}
 use Rattle.fdp_core.proofs.group.Group.change.Given.{Over}
 use Rattle.fdp_core.proofs.group.Group.change.Goals as goal
 

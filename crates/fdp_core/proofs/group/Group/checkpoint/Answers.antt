@@ -1,12 +1,12 @@
 use Rattle.std.proofs.Common.{◌<◌, sym, subst}
-use Rattle.fdp_book.specs.Book.{BookSeen}
+use Rattle.fdp_relocation.specs.fdp_book.Book.{BookSeen}
 use Rattle.fdp_core.specs.Answers.{FailsToSave, SavesAll}
 use Rattle.fdp_core.specs.Seen.{Seen}
 use Rattle.fdp_core.specs.Sound.{IsWhole}
 use Rattle.fdp_core.specs.Stops.{OutlastsStops}
 use Rattle.fdp_core.proofs.Checkpoints.{fails-to-save, saves-all, unwritten-stops, unwritten-whole, written-stops, written-whole}
-use Rattle.fdp_keeper.specs.Keeper.{CanSave}
-use Rattle.fdp_survival.specs.Books.{IsInOrder}
+use Rattle.fdp_relocation.specs.fdp_keeper.Keeper.{CanSave}
+use Rattle.fdp_loading.specs.fdp_survival.Books.{IsInOrder}
 use Rattle.fdp_core.proofs.group.Group.checkpoint.Goals as goal
 
 pub checkpoint-requires : goal.checkpoint-requires

@@ -1,6 +1,6 @@
 use Rattle.std.proofs.Common.{◌≡◌, ◌<◌, ℕ, true, false, refl, sym, subst, ap, ◌∙◌, List}
 use Rattle.std.specs.Prelude.{IsTrue, ◌==◌, ◌+◌, ◌≤◌, length}
-use Rattle.fdp_book.specs.Book.{BookSeen, IsLonger, state_in}
+use Rattle.fdp_relocation.specs.fdp_book.Book.{BookSeen, IsLonger, state_in}
 use Rattle.fdp_core.specs.Advancing.{Advances, TellsMore}
 use Rattle.fdp_core.specs.Answers as answers
 use Rattle.fdp_core.specs.Seen.{Seen, stage_of}
@@ -18,7 +18,7 @@ use Rattle.fdp_core.proofs.group.Group.collect.Goals as goal
 use Rattle.fdp_image.specs.Kept.{AreFirm, IsStopSafe}
 use Rattle.fdp_base.specs.declared.entry.Entry.{Entry}
 use Rattle.fdp_flash.specs.FlashState.{FlashState}
-use Rattle.fdp_keeper.specs.Keeper.{KeeperSeen}
+use Rattle.fdp_relocation.specs.fdp_keeper.Keeper.{KeeperSeen}
 
 pub invariant_of-self : goal.invariant_of-self
 invariant_of-self g c =

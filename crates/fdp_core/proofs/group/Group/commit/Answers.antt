@@ -1,7 +1,7 @@
 use Rattle.std.proofs.Common.{sym, subst, Err, inr}
-use Rattle.fdp_book.specs.Book.{point_in, state_in}
-use Rattle.fdp_book.specs.Steps as book
-use Rattle.fdp_book.specs.Tickets.{IsTicketOf}
+use Rattle.fdp_relocation.specs.fdp_book.Book.{point_in, state_in}
+use Rattle.fdp_relocation.specs.fdp_book.Steps as book
+use Rattle.fdp_relocation.specs.fdp_book.Tickets.{IsTicketOf}
 use Rattle.fdp_core.specs.Seen.{Seen}
 use Rattle.fdp_core.proofs.Commits.{commits-err}
 use Rattle.fdp_core.proofs.group.Group.commit.Goals as goal

@@ -1,7 +1,7 @@
 use Rattle.std.proofs.Common.{ℕ, [], false, refl, sym, subst, arith}
-use Rattle.fdp_book.specs.Book.{state_in}
-use Rattle.fdp_book.specs.Steps.{Completes}
-use Rattle.fdp_book.specs.Tickets.{IsTicketOf}
+use Rattle.fdp_relocation.specs.fdp_book.Book.{state_in}
+use Rattle.fdp_relocation.specs.fdp_book.Steps.{Completes}
+use Rattle.fdp_relocation.specs.fdp_book.Tickets.{IsTicketOf}
 use Rattle.fdp_core.specs.Ending.{Ends, MayEnd}
 use Rattle.fdp_core.specs.Seen.{Seen}
 use Rattle.fdp_core.specs.Sound.{IsKept}
@@ -12,7 +12,7 @@ use Rattle.fdp_core.proofs.Refusals.{uncompleted}
 use Rattle.fdp_core.proofs.Wholes.{answered-kept, outlasts-entry, survives-uncalled}
 use Rattle.fdp_rules.specs.Answer.{bare}
 use Rattle.fdp_rules.specs.PlainState.{Going}
-use Rattle.fdp_survival.specs.Books.{IsInOrder}
+use Rattle.fdp_loading.specs.fdp_survival.Books.{IsInOrder}
 use Rattle.fdp_core.proofs.group.Group.end.Given.{Over}
 use Rattle.fdp_core.proofs.group.Group.end.Goals as goal
 

@@ -1,6 +1,6 @@
 use Rattle.std.proofs.Common.{◌<◌, false, sym, subst}
-use Rattle.fdp_book.specs.Book.{BookSeen, state_in}
-use Rattle.fdp_book.specs.Tickets.{IsTicketOf}
+use Rattle.fdp_relocation.specs.fdp_book.Book.{BookSeen, state_in}
+use Rattle.fdp_relocation.specs.fdp_book.Tickets.{IsTicketOf}
 use Rattle.fdp_core.specs.Answers.{EndsAlone}
 use Rattle.fdp_core.specs.Ending.{Ends, MayEnd}
 use Rattle.fdp_core.specs.Seen.{Seen}

@@ -1,12 +1,12 @@
 use Rattle.std.proofs.Common.{subst}
 use Rattle.std.specs.Prelude.{IsTrue}
-use Rattle.fdp_book.specs.Book.{point_in}
+use Rattle.fdp_relocation.specs.fdp_book.Book.{point_in}
 use Rattle.fdp_core.specs.Seen.{Seen}
 use Rattle.fdp_core.proofs.Apart.{apart-isolated}
-use Rattle.fdp_durability.proofs.Durable.{durable-stands}
+use Rattle.fdp_relocation.proofs.fdp_durability.Durable.{durable-stands}
 use Rattle.fdp_image.specs.Kept.{AreFirm, StandsForBeginning}
-use Rattle.fdp_isolation.specs.Begun.{OpenedApart}
-use Rattle.fdp_isolation.specs.Isolated.{IsIsolatedDrive}
+use Rattle.fdp_loading.specs.fdp_isolation.Begun.{OpenedApart}
+use Rattle.fdp_loading.specs.fdp_isolation.Isolated.{IsIsolatedDrive}
 use Rattle.fdp_core.proofs.group.Group.entries.Goals as goal
 
 pub returns-clause-apart : goal.returns-clause-apart

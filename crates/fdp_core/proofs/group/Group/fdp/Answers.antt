@@ -1,4 +1,4 @@
-use Rattle.fdp_book.specs.Book.{point_in}
+use Rattle.fdp_relocation.specs.fdp_book.Book.{point_in}
 use Rattle.fdp_core.proofs.group.Group.fdp.Goals as goal
 
 pub returns-clause-enabled : goal.returns-clause-enabled

@@ -1,5 +1,5 @@
 use Rattle.std.proofs.Common.{subst, sym}
-use Rattle.fdp_ledger.specs.declared.counts.Counts.{Counts}
+use Rattle.fdp_loading.specs.fdp_ledger.declared.counts.Counts.{Counts}
 use Rattle.fdp_core.specs.Seen.{Seen}
 use Rattle.fdp_core.specs.Sound.{IsWhole}
 use Rattle.fdp_core.proofs.Loading.{group-loaded, whole-loaded}

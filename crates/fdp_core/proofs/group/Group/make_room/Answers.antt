@@ -1,7 +1,7 @@
 use Rattle.std.proofs.Common.{◌≡◌, ◌⊎◌, ◌+◌, ◌<◌, ◌≤◌, ℕ, arith, refl, sym, subst, inl, inr}
 use Rattle.fdp_base.specs.declared.status.TheConstants.Status as statuses
-use Rattle.fdp_book.specs.Book.{BookSeen, state_in}
-use Rattle.fdp_book.specs.Tickets.{IsTicketOf, WantsUnit}
+use Rattle.fdp_relocation.specs.fdp_book.Book.{BookSeen, state_in}
+use Rattle.fdp_relocation.specs.fdp_book.Tickets.{IsTicketOf, WantsUnit}
 use Rattle.fdp_core.specs.declared.group.pass.PassEnd.{PassEnd}
 use Rattle.fdp_core.specs.declared.group.pass.PassEnd.TheVariants as ends
 use Rattle.fdp_core.specs.Answers.{EndsInPlacing, MakesRoom, PlacesPage}
@@ -16,12 +16,12 @@ use Rattle.fdp_core.proofs.Wholes.{unbegun, whole-begun}
 use Rattle.fdp_core.proofs.Rooms.{begun_seen, crowded-may, ends-crowded, ends-in-pass, ends-starved, failed-may, makes-room, starved-may}
 use Rattle.fdp_core.proofs.Sound.{begun}
 use Rattle.fdp_base.specs.CommandKinds.{blocks_written}
-use Rattle.fdp_book.proofs.Placing.Nexts.{one-going}
+use Rattle.fdp_relocation.proofs.fdp_book.Placing.Nexts.{one-going}
 use Rattle.fdp_flash.specs.FlashState.{FlashState}
-use Rattle.fdp_ledger.proofs.Alike.{ledger-alike}
+use Rattle.fdp_loading.proofs.fdp_ledger.Alike.{ledger-alike}
 use Rattle.fdp_relocation.proofs.Keeping.{keeps-ticket}
 use Rattle.fdp_rules.specs.PlainState.{Going}
-use Rattle.fdp_trails.specs.Crowded.{IsCrowded}
+use Rattle.fdp_relocation.specs.fdp_trails.Crowded.{IsCrowded}
 use Rattle.fdp_units.specs.DataUnits.{is_free}
 use Rattle.fdp_units.specs.UnitTable.{HasNoVictim, count_in}
 use Rattle.fdp_core.proofs.group.Group.make_room.Goals as goal

@@ -1,7 +1,7 @@
 use Rattle.std.proofs.Common.{inl, subst}
 use Rattle.std.specs.Prelude.{IsFalse}
-use Rattle.fdp_book.specs.Book.{state_in}
-use Rattle.fdp_book.specs.Tickets.{IsTicketOf}
+use Rattle.fdp_relocation.specs.fdp_book.Book.{state_in}
+use Rattle.fdp_relocation.specs.fdp_book.Tickets.{IsTicketOf}
 use Rattle.fdp_core.specs.Seen.{Seen}
 use Rattle.fdp_rules.specs.Sites.{is_there}
 use Rattle.fdp_core.proofs.group.Group.place.Goals as goal

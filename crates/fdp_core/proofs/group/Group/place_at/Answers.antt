@@ -2,11 +2,11 @@ use Rattle.std.proofs.Common.{arith, ◌≡◌, take, drop, ◌++◌, ◌<◌, �
 use Rattle.fdp_base.specs.declared.entry.Entry.TheVariants as entries
 use Rattle.fdp_base.specs.declared.status.TheConstants.Status as statuses
 use Rattle.fdp_base.specs.Pattern.{HasBlock, payload_block}
-use Rattle.fdp_book.specs.declared.next_page.NextPage.TheVariants as next
-use Rattle.fdp_book.specs.Book.{BookSeen, state_in}
-use Rattle.fdp_book.specs.Shutting.{ShutsAndEnds}
-use Rattle.fdp_book.specs.Steps as book
-use Rattle.fdp_book.specs.Tickets.{ComesTo, IsNextSpot, IsTicketOf}
+use Rattle.fdp_relocation.specs.fdp_book.declared.next_page.NextPage.TheVariants as next
+use Rattle.fdp_relocation.specs.fdp_book.Book.{BookSeen, state_in}
+use Rattle.fdp_relocation.specs.fdp_book.Shutting.{ShutsAndEnds}
+use Rattle.fdp_relocation.specs.fdp_book.Steps as book
+use Rattle.fdp_relocation.specs.fdp_book.Tickets.{ComesTo, IsNextSpot, IsTicketOf}
 use Rattle.fdp_calls.specs.Calls.{FailedAt}
 use Rattle.fdp_calls.specs.Media.{IsProgrammedTo}
 use Rattle.fdp_calls.proofs.Made.{failed-last}
@@ -17,22 +17,22 @@ use Rattle.fdp_core.proofs.Placing.{asked-as, filled-buffer, next-block, sound-p
 use Rattle.fdp_core.proofs.Sound.{begun}
 use Rattle.fdp_flash.specs.declared.cell.Cell.TheVariants.{Whole}
 use Rattle.fdp_flash.specs.Layout.{page_number}
-use Rattle.fdp_isolation.specs.Laned.{IsKnown}
-use Rattle.fdp_ledger.proofs.Blank.{emptied-placed, emptied-shut}
+use Rattle.fdp_loading.specs.fdp_isolation.Laned.{IsKnown}
+use Rattle.fdp_loading.proofs.fdp_ledger.Blank.{emptied-placed, emptied-shut}
 use Rattle.fdp_rules.specs.PlainState.{Going}
 use Rattle.fdp_core.proofs.group.Group.place_at.Given.{Over}
 use Rattle.fdp_core.proofs.group.Group.place_at.Goals as goal
 use Rattle.fdp_core.proofs.group.Group.place_at.Goals.{then-last, else-last}
-use Rattle.fdp_keeper.specs.Keeper.{CanSave, KeeperSeen, KeepsMade}
-use Rattle.fdp_ledger.specs.Calls.{FailsToProgram}
+use Rattle.fdp_relocation.specs.fdp_keeper.Keeper.{CanSave, KeeperSeen, KeepsMade}
+use Rattle.fdp_loading.specs.fdp_ledger.Calls.{FailsToProgram}
 use Rattle.fdp_flash.specs.FlashState.{FlashState}
-use Rattle.fdp_survival.specs.Books.{IsInOrder}
+use Rattle.fdp_loading.specs.fdp_survival.Books.{IsInOrder}
 use Rattle.fdp_core.specs.Sound.{IsSound, IsWhole}
 use Rattle.fdp_core.specs.Stops.{OutlastsStops}
-use Rattle.fdp_saving.specs.declared.saved.Saved.{Saved}
-use Rattle.fdp_book.specs.declared.write_place.WritePlace.{WritePlace}
+use Rattle.fdp_relocation.specs.fdp_saving.declared.saved.Saved.{Saved}
+use Rattle.fdp_relocation.specs.fdp_book.declared.write_place.WritePlace.{WritePlace}
 use Rattle.fdp_core.proofs.Pages.{fails-to-place, page-kept, page-stops, shut-stops, shut-whole}
-use Rattle.fdp_survival.proofs.Steps.{safe-unplaced}
+use Rattle.fdp_loading.proofs.fdp_survival.Steps.{safe-unplaced}
 
 pub program-programmed-requires-clause-payload : goal.program-programmed-requires-clause-payload
 program-programmed-requires-clause-payload g c =

@@ -7,16 +7,16 @@ use Rattle.fdp_core.proofs.Grown.{host}
 use Rattle.fdp_core.proofs.Kept.{kept-begun}
 use Rattle.fdp_core.proofs.Wholes.{answered-kept, entry-stops, order-begun}
 use Rattle.fdp_image.specs.Kept.{is_completed}
-use Rattle.fdp_survival.specs.Books.{IsInOrder}
-use Rattle.fdp_survival.proofs.Steps.{survives-fetched}
-use Rattle.fdp_book.specs.Book.{BookSeen, point_in}
-use Rattle.fdp_book.specs.Steps.{Completes}
-use Rattle.fdp_book.proofs.Histories.Follows.{accepted-few}
+use Rattle.fdp_loading.specs.fdp_survival.Books.{IsInOrder}
+use Rattle.fdp_loading.proofs.fdp_survival.Steps.{survives-fetched}
+use Rattle.fdp_relocation.specs.fdp_book.Book.{BookSeen, point_in}
+use Rattle.fdp_relocation.specs.fdp_book.Steps.{Completes}
+use Rattle.fdp_relocation.proofs.fdp_book.Histories.Follows.{accepted-few}
 use Rattle.fdp_core.specs.Answers.{EndsAtOnce}
 use Rattle.fdp_core.specs.Seen.{Seen}
 use Rattle.fdp_core.proofs.Begins.{IsRead, read-completes, read-unapplied, sound-read}
 use Rattle.fdp_core.proofs.Sound.{begun}
-use Rattle.fdp_pages.specs.Steps.{ChangesOwners}
+use Rattle.fdp_relocation.specs.fdp_pages.Steps.{ChangesOwners}
 use Rattle.fdp_rules.specs.Refusal.{refusal_of}
 use Rattle.fdp_core.proofs.group.Group.read.Given.{Over}
 use Rattle.fdp_core.proofs.group.Group.read.Goals as goal

@@ -3,9 +3,9 @@ use Rattle.std.specs.Prelude.{IsFalse}
 use Rattle.fdp_base.specs.declared.entry.Reply.{Reply}
 use Rattle.fdp_base.specs.declared.status.TheConstants.Status as statuses
 use Rattle.fdp_base.specs.CommandKinds.{IsWellFormed}
-use Rattle.fdp_book.specs.Book.{BookSeen, point_in, state_in}
-use Rattle.fdp_book.specs.Stages.{IsFree}
-use Rattle.fdp_book.specs.Steps as book
+use Rattle.fdp_relocation.specs.fdp_book.Book.{BookSeen, point_in, state_in}
+use Rattle.fdp_relocation.specs.fdp_book.Stages.{IsFree}
+use Rattle.fdp_relocation.specs.fdp_book.Steps as book
 use Rattle.fdp_core.specs.Answers.{EndsAtOnce}
 use Rattle.fdp_core.specs.Seen.{Seen}
 use Rattle.fdp_core.specs.Sound.{IsKept}
@@ -18,11 +18,11 @@ use Rattle.fdp_core.proofs.Refusals.{refused-status, uncompleted}
 use Rattle.fdp_core.proofs.Sound.{begun}
 use Rattle.fdp_core.proofs.Wholes.{answered-kept, entry-stops, order-begun, survives-uncalled}
 use Rattle.fdp_image.specs.Kept.{is_completed}
-use Rattle.fdp_pages.specs.Steps.{ChangesOwners}
+use Rattle.fdp_relocation.specs.fdp_pages.Steps.{ChangesOwners}
 use Rattle.fdp_rules.specs.Change.{is_status}
 use Rattle.fdp_rules.specs.Refusal.{refusal_of}
 use Rattle.fdp_rules.specs.Step.{IsQueue}
-use Rattle.fdp_survival.specs.Books.{IsInOrder}
+use Rattle.fdp_loading.specs.fdp_survival.Books.{IsInOrder}
 use Rattle.fdp_core.proofs.group.Group.refuse.Given.{Over}
 use Rattle.fdp_core.proofs.group.Group.refuse.Goals as goal
 

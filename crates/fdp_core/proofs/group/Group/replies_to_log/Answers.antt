@@ -1,9 +1,9 @@
 use Rattle.std.proofs.Common.{◌≡◌, ℕ, ◌*◌, List, length, ◌∙◌, ap, sym, subst}
 use Rattle.std.proofs.lemmas.List.{length-replicate}
 use Rattle.fdp_base.specs.declared.config.DriveConfig.{DriveConfig}
-use Rattle.fdp_book.specs.Book.{point_in}
-use Rattle.fdp_book.specs.Room.{IsTwice, read_reply}
-use Rattle.fdp_book.proofs.Answering.{kept-buffer}
+use Rattle.fdp_relocation.specs.fdp_book.Book.{point_in}
+use Rattle.fdp_relocation.specs.fdp_book.Room.{IsTwice, read_reply}
+use Rattle.fdp_relocation.proofs.fdp_book.Answering.{kept-buffer}
 use Rattle.fdp_pieces.proofs.Putting.{part_length}
 use Rattle.fdp_rules.specs.LogPages.{log_page, transfer_of, zeros}
 use Rattle.fdp_core.proofs.Views.{logged-bytes}

@@ -1,9 +1,9 @@
 use Rattle.std.proofs.Common.{refl, subst, sym}
-use Rattle.fdp_book.specs.Book.{BookSeen}
+use Rattle.fdp_relocation.specs.fdp_book.Book.{BookSeen}
 use Rattle.fdp_core.specs.Sound.{IsWhole}
 use Rattle.fdp_core.proofs.Kept.{kept-alike}
-use Rattle.fdp_isolation.proofs.Alike.{laned-alike}
-use Rattle.fdp_ledger.proofs.Alike.{ledger-alike}
+use Rattle.fdp_loading.proofs.fdp_isolation.Alike.{laned-alike}
+use Rattle.fdp_loading.proofs.fdp_ledger.Alike.{ledger-alike}
 use Rattle.fdp_core.proofs.group.Group.reserve.Goals as goal
 
 pub invariant_of-self : goal.invariant_of-self

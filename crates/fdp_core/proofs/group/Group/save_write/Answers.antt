@@ -4,30 +4,30 @@ use Rattle.fdp_base.specs.declared.command.Command.TheVariants as commands
 use Rattle.fdp_base.specs.declared.command.Write.{Write}
 use Rattle.fdp_base.specs.declared.status.TheConstants.Status as statuses
 use Rattle.fdp_base.specs.CommandKinds.{is_write}
-use Rattle.fdp_book.specs.Book.{BookSeen, point_in, state_in}
-use Rattle.fdp_book.specs.Steps as book
-use Rattle.fdp_book.specs.Steps.{IsReady}
-use Rattle.fdp_book.specs.Tickets.{IsTicketOf}
+use Rattle.fdp_relocation.specs.fdp_book.Book.{BookSeen, point_in, state_in}
+use Rattle.fdp_relocation.specs.fdp_book.Steps as book
+use Rattle.fdp_relocation.specs.fdp_book.Steps.{IsReady}
+use Rattle.fdp_relocation.specs.fdp_book.Tickets.{IsTicketOf}
 use Rattle.fdp_core.specs.Answers.{SavesWrite}
 use Rattle.fdp_core.specs.Seen.{Seen}
 use Rattle.fdp_core.specs.Stops.{OutlastsStops}
 use Rattle.fdp_core.proofs.Grown.{host}
 use Rattle.fdp_core.proofs.Saves.{doubtful-ends, doubtful-whole, saved-ends, saved-whole, unsaved-ends, unsaved-whole}
 use Rattle.fdp_core.proofs.Sound.{begun}
-use Rattle.fdp_keeper.specs.Keeper.{CanSave, KeeperSeen, KeepsEntry}
-use Rattle.fdp_pages.specs.Steps.{ChangesOwners}
+use Rattle.fdp_relocation.specs.fdp_keeper.Keeper.{CanSave, KeeperSeen, KeepsEntry}
+use Rattle.fdp_relocation.specs.fdp_pages.Steps.{ChangesOwners}
 use Rattle.fdp_rules.specs.Answer.{bare}
 use Rattle.fdp_rules.specs.PlainState.{Going}
 use Rattle.fdp_rules.specs.Step.{MaySucceed}
-use Rattle.fdp_saving.specs.declared.saved.Saved.TheVariants as savings
-use Rattle.fdp_survival.specs.Books.{IsInOrder}
+use Rattle.fdp_relocation.specs.fdp_saving.declared.saved.Saved.TheVariants as savings
+use Rattle.fdp_loading.specs.fdp_survival.Books.{IsInOrder}
 use Rattle.fdp_core.proofs.group.Group.save_write.Given.{Over}
 use Rattle.fdp_core.proofs.group.Group.save_write.Goals as goal
 use Rattle.fdp_flash.specs.FlashState.{FlashState}
 use Rattle.fdp_core.specs.Sound.{IsWhole}
 use Rattle.fdp_base.specs.declared.entry.Reply.{Reply}
-use Rattle.fdp_saving.specs.declared.saved.Saved.{Saved}
-use Rattle.fdp_book.specs.declared.ticket.Ticket.{Ticket}
+use Rattle.fdp_relocation.specs.fdp_saving.declared.saved.Saved.{Saved}
+use Rattle.fdp_relocation.specs.fdp_book.declared.ticket.Ticket.{Ticket}
 
 -- ---- before the saving
 

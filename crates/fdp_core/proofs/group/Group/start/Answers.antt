@@ -3,17 +3,17 @@ use Rattle.fdp_core.specs.Sound.{IsKept}
 use Rattle.fdp_core.specs.Stops.{OutlastsStops}
 use Rattle.fdp_core.proofs.Kept.{kept-begun}
 use Rattle.fdp_core.proofs.Wholes.{entry-stops, order-begun, started-kept, survives-uncalled}
-use Rattle.fdp_survival.specs.Books.{IsInOrder}
+use Rattle.fdp_loading.specs.fdp_survival.Books.{IsInOrder}
 use Rattle.fdp_base.specs.declared.command.Command.{Command}
-use Rattle.fdp_book.specs.Book.{BookSeen, point_in}
-use Rattle.fdp_book.specs.FirstSteps.{IsAdmitted}
-use Rattle.fdp_book.specs.Steps as book
+use Rattle.fdp_relocation.specs.fdp_book.Book.{BookSeen, point_in}
+use Rattle.fdp_relocation.specs.fdp_book.FirstSteps.{IsAdmitted}
+use Rattle.fdp_relocation.specs.fdp_book.Steps as book
 use Rattle.fdp_commands.specs.declared.admission.Admission.{Admission}
 use Rattle.fdp_core.specs.Answers.{Starts}
 use Rattle.fdp_core.specs.Seen.{Seen}
 use Rattle.fdp_core.proofs.Begins.{begins-started, sound-started}
 use Rattle.fdp_core.proofs.Sound.{begun}
-use Rattle.fdp_pages.specs.Steps.{ChangesOwners}
+use Rattle.fdp_relocation.specs.fdp_pages.Steps.{ChangesOwners}
 use Rattle.fdp_rules.specs.Refusal.{refusal_of}
 use Rattle.fdp_core.proofs.group.Group.start.Given.{Over}
 use Rattle.fdp_core.proofs.group.Group.start.Goals as goal

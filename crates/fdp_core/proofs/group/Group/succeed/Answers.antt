@@ -2,8 +2,8 @@ use Rattle.std.proofs.Common.{◌≡◌, ◌<◌, ◌∙◌, ap, sym, subst, [],
 use Rattle.std.specs.Prelude.{IsFalse}
 use Rattle.fdp_base.specs.declared.status.TheConstants.Status as statuses
 use Rattle.fdp_base.specs.CommandKinds.{IsWellFormed}
-use Rattle.fdp_book.specs.Book.{BookSeen, point_in}
-use Rattle.fdp_book.specs.Steps.{Completes}
+use Rattle.fdp_relocation.specs.fdp_book.Book.{BookSeen, point_in}
+use Rattle.fdp_relocation.specs.fdp_book.Steps.{Completes}
 use Rattle.fdp_core.specs.Answers.{EndsAtOnce}
 use Rattle.fdp_core.specs.Seen.{Seen}
 use Rattle.fdp_core.specs.Sound.{IsKept}
@@ -15,12 +15,12 @@ use Rattle.fdp_core.proofs.Kept.{kept-begun}
 use Rattle.fdp_core.proofs.Sound.{begun}
 use Rattle.fdp_core.proofs.Wholes.{answered-kept, entry-stops, order-begun, survives-uncalled}
 use Rattle.fdp_image.specs.Kept.{is_completed}
-use Rattle.fdp_pages.specs.Steps.{ChangesOwners}
+use Rattle.fdp_relocation.specs.fdp_pages.Steps.{ChangesOwners}
 use Rattle.fdp_rules.specs.Change.{is_status}
 use Rattle.fdp_rules.specs.Answer.{IsSuccess}
 use Rattle.fdp_rules.specs.Refusal.{refusal_of}
 use Rattle.fdp_rules.specs.Step.{IsQueue}
-use Rattle.fdp_survival.specs.Books.{IsInOrder}
+use Rattle.fdp_loading.specs.fdp_survival.Books.{IsInOrder}
 use Rattle.fdp_core.proofs.group.Group.succeed.Given.{Over}
 use Rattle.fdp_core.proofs.group.Group.succeed.Goals as goal
 

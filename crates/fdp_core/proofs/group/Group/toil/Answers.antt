@@ -1,7 +1,7 @@
 use Rattle.std.proofs.Common.{◌<◌, ◌≤◌, ℕ, not, subst, sym, ◌∙◌}
 use Rattle.fdp_core.specs.Seen.{Seen}
 use Rattle.fdp_relocation.proofs.Toil.Moved.{tallied-of}
-use Rattle.fdp_trails.specs.Toil.{is_live, is_stale, pages_where}
+use Rattle.fdp_relocation.specs.fdp_trails.Toil.{is_live, is_stale, pages_where}
 use Rattle.fdp_units.specs.UnitTable.{Cut, IsGroup}
 use Rattle.fdp_core.proofs.group.Group.toil.Given.{Over}
 use Rattle.fdp_core.proofs.group.Group.toil.Goals as goal

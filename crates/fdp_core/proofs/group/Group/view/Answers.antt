@@ -1,8 +1,8 @@
 use Rattle.std.proofs.Common.{◌∙◌, sym, subst}
-use Rattle.fdp_book.specs.Book.{point_in}
+use Rattle.fdp_relocation.specs.fdp_book.Book.{point_in}
 use Rattle.fdp_core.specs.Seen.{Seen}
 use Rattle.fdp_log_pages.specs.Told.{CanTell, Tells, Told}
-use Rattle.fdp_outline.specs.Outline.{IsWritable}
+use Rattle.fdp_relocation.specs.fdp_outline.Outline.{IsWritable}
 use Rattle.fdp_snapshot.specs.declared.state.Summary.{Summary}
 use Rattle.fdp_core.proofs.Views.{keeper-can-tell, keeper-tells, told-by, told-same}
 use Rattle.fdp_core.proofs.group.Group.view.Goals as goal

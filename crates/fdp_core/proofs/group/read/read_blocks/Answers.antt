@@ -3,7 +3,7 @@ use Rattle.std.proofs.lemmas.List.{length-replicate}
 use borrow.Rule.Slice.PartMut.{put_mid}
 use Rattle.fdp_base.specs.declared.config.DriveConfig.{DriveConfig}
 use Rattle.fdp_rules.specs.Answer.{read_block}
-use Rattle.fdp_book.specs.Book.{state_in}
+use Rattle.fdp_relocation.specs.fdp_book.Book.{state_in}
 use Rattle.fdp_calls.specs.Calls.{MakesCalls}
 use Rattle.fdp_core.specs.Fetches.{FailsToFetch, fetches_of, pages_of}
 use Rattle.fdp_core.specs.ReadSteps.{blocks_from}

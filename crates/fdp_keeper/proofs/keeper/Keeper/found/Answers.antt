@@ -5,7 +5,7 @@ use Rattle.fdp_base.specs.Numbers.{numbers_below}
 use Rattle.fdp_outline.specs.Events.{with_events}
 use Rattle.fdp_outline.specs.Outline.{IsOutlineOf}
 use Rattle.fdp_outline.proofs.Saying.{outline-more}
-use Rattle.fdp_readings.specs.Drawn.{drawn}
+use Rattle.fdp_durability.specs.fdp_readings.Drawn.{drawn}
 use Rattle.fdp_rules.specs.Events.{events_of_entry, handle_event}
 use Rattle.fdp_rules.specs.Next.{next}
 use Rattle.fdp_snapshot.specs.declared.state.Summary.{Summary}

@@ -1,4 +1,4 @@
-use Rattle.fdp_readings.specs.Changes.{completed}
+use Rattle.fdp_durability.specs.fdp_readings.Changes.{completed}
 use Rattle.fdp_keeper.proofs.Parts.{can-keep, kept-entry}
 use Rattle.fdp_keeper.proofs.keeper.Keeper.save_command.Goals as goal
 

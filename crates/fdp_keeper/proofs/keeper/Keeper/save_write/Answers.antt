@@ -1,5 +1,5 @@
 use Rattle.fdp_base.specs.declared.command.Command.TheVariants as commands
-use Rattle.fdp_readings.specs.Changes.{completed}
+use Rattle.fdp_durability.specs.fdp_readings.Changes.{completed}
 use Rattle.fdp_keeper.proofs.Parts.{can-keep, kept-entry}
 use Rattle.fdp_keeper.proofs.keeper.Keeper.save_write.Goals as goal
 
