@@ -1,5 +1,5 @@
 -- A fetch and a program, one after the other, as the copy of a page.
-use Rattle.std.proofs.Common.{◌≡◌, ℕ, ◌<◌, false, true, List, [], ◌∷◌, refl, ap, sym, ◌∙◌, subst, set, inl, inr}
+use Rattle.std.proofs.Common.{◌≡◌, ℕ, ◌<◌, false, true, List, [], ◌∷◌, refl, ap, sym, ◌∙◌, subst, set, inl, inr, ⊎_elim}
 use Rattle.std.specs.Prelude.{◌⊎◌, IsTrue, slice_get}
 use Rattle.fdp_base.specs.declared.config.Geometry.{Geometry}
 use Rattle.fdp_base.specs.declared.entry.Spot.{Spot}
@@ -7,7 +7,7 @@ use Rattle.fdp_base.specs.Counts.{counted}
 use Rattle.fdp_base.specs.Geometry.{data_units}
 use Rattle.fdp_calls.specs.Calls.{MakesCalls, fetch_at, program_at}
 use Rattle.fdp_calls.proofs.Made.{calls-joined, fetched-whole, kept-made, programmed-done, programmed-failed}
-use Rattle.fdp_collector.specs.Copying.{Copies, FailsToFetch, IsSameBut}
+use Rattle.fdp_collector.specs.Copying.{Copies, FailsToFetch, IsSameBut, MayBeLeft}
 use Rattle.fdp_flash.specs.declared.answer.Fetched.{Fetched}
 use Rattle.fdp_flash.specs.declared.answer.Fetched.TheVariants as fetched
 use Rattle.fdp_flash.specs.declared.answer.Wrote.{Wrote}
@@ -20,7 +20,7 @@ use Rattle.fdp_flash.specs.FlashState.{Begins, FlashState}
 use Rattle.fdp_flash.specs.Layout.{page_number}
 use Rattle.fdp_flash.specs.Runs.{Runs}
 use Rattle.fdp_flash.proofs.Lists.{slice_get-set_other}
-use Rattle.fdp_flash.proofs.Runs.{fault_after_run, run_of_fetch, run_of_program, runs_joined}
+use Rattle.fdp_flash.proofs.Runs.{fault_after_run, run_of_fetch, run_of_program, runs_joined, runs_weakened}
 
 -- what a fetch and a program of a page may leave: the cells as they were, or what the program may
 abbrev pub CopyMayLeave : FlashState → Spot → List ℕ → List ℕ → List Cell → Type 0
@@ -64,6 +64,12 @@ module _ (a b c : FlashState) (from to : Spot) (spare bytes : List ℕ) (fetch :
       (fetch-run a b from to spare bytes fetched.Whole fetch read)
       (run_of_program b c to spare bytes result (λ m image. CopyMayLeave a to spare bytes image) begins answer (λ told later image left. inr (moved-left image (sym fetch.told ∙ told) left)))
 
+  -- with the spare alone
+  copy-stops : CopyRun a c to spare bytes → Runs a c (λ m image. (image ≡ a.cells) ⊎ MayBeLeft a.geometry a.cells to spare image)
+  copy-stops run =
+      runs_weakened a c (λ m image. CopyMayLeave a to spare bytes image) (λ m image. (image ≡ a.cells) ⊎ MayBeLeft a.geometry a.cells to spare image) run
+      (λ told m image above most left. ⊎_elim (λ same. inl same) (λ programmed. inr (bytes, programmed)) left)
+
   pub copies-unprogrammed : Begins b c → Programs b c to spare bytes wrote.Failed → CopyRun a c to spare bytes × Copies a c from to spare wrote.Failed
   copies-unprogrammed begins answer = (
     program-run wrote.Failed begins answer,
@@ -75,6 +81,7 @@ module _ (a b c : FlashState) (from to : Spot) (spare bytes : List ℕ) (fetch :
       others = λ told. same-but c.cells told (answer.failed (fetch.told ∙ told) refl);
       left = λ e told. (bytes, moved-left c.cells told (answer.failed (fetch.told ∙ told) refl));
       made = calls-joined a b c (fetch_at from false ∷ []) (program_at to true ∷ []) (fetched-whole a b from spare bytes fetch read) (programmed-failed b c to spare bytes begins answer);
+      stops = copy-stops (program-run wrote.Failed begins answer);
     },
   ) where
     never : wrote.Failed ≡ wrote.Done → ⊥
@@ -92,6 +99,7 @@ module _ (a b c : FlashState) (from to : Spot) (spare bytes : List ℕ) (fetch :
           others = λ told k ne. ap (λ (cs : List Cell). slice_get cs k) (now told) ∙ slice_get-set_other a.cells (page_number a.geometry to) k (Whole spare bytes) ne;
           left = λ e. absurd (apart e);
           made = calls-joined a b c (fetch_at from false ∷ []) (program_at to false ∷ []) (fetched-whole a b from spare bytes fetch read) (programmed-done b c to spare bytes begins answer);
+          stops = copy-stops (program-run wrote.Done begins answer);
         },
       ) where
         apart : wrote.Done ≡ wrote.Failed → ⊥

@@ -1,5 +1,5 @@
 -- What the copy of one page does to a flash.
-use Rattle.std.specs.Prelude.{◌≡◌, ◌≢◌, ℕ, ◌<◌, false, true, IsTrue, List, [], ◌∷◌, Some, slice_get, slice_set}
+use Rattle.std.specs.Prelude.{◌≡◌, ◌≢◌, ◌⊎◌, ℕ, ◌<◌, false, true, IsTrue, List, [], ◌∷◌, Some, slice_get, slice_set}
 use Rattle.fdp_base.specs.declared.config.Geometry.{Geometry}
 use Rattle.fdp_base.specs.declared.entry.Spot.{Spot}
 use Rattle.fdp_base.specs.Counts.{counted}
@@ -14,6 +14,7 @@ use Rattle.fdp_flash.specs.Answers.{wrote_failed}
 use Rattle.fdp_flash.specs.Cells.{ProgramMayLeave}
 use Rattle.fdp_flash.specs.FlashState.{Call, Faulted, FlashState}
 use Rattle.fdp_flash.specs.Layout.{page_number}
+use Rattle.fdp_flash.specs.Runs.{Runs}
 
 -- a page of a data unit
 pub record IsDataPage (g : Geometry) (spot : Spot) : Type 0 where
@@ -43,7 +44,8 @@ abbrev pub MayBeLeft : Geometry → List Cell → Spot → List ℕ → List Cel
 MayBeLeft g old to spare new = (bytes : List ℕ) × ProgramMayLeave g old to spare bytes new
 
 -- A copy that is done has the spare and the bytes of its page, and one program of a data unit more was done. One whose program failed
--- is a fault that was counted, and no such program was done. Only the page of the copy changes. Just these calls were made.
+-- is a fault that was counted, and no such program was done. Only the page of the copy changes. Just these calls were made, and a stop in one
+-- leaves the cells as they were, or what the program may leave.
 pub record Copies (old new : FlashState) (from to : Spot) (spare : List ℕ) (result : Wrote) : Type 0 where
   pub done : result ≡ wrote.Done → IsTrue old.told → IsCopied old.geometry from to spare old.cells new.cells
   pub programs : result ≡ wrote.Done → new.programs ≡ counted old.programs
@@ -52,6 +54,7 @@ pub record Copies (old new : FlashState) (from to : Spot) (spare : List ℕ) (re
   pub others : IsTrue old.told → IsSameBut old.geometry to old.cells new.cells
   pub left : result ≡ wrote.Failed → IsTrue old.told → MayBeLeft old.geometry old.cells to spare new.cells
   pub made : MakesCalls old new (calls_of from to result)
+  pub stops : Runs old new (λ m image. (image ≡ old.cells) ⊎ MayBeLeft old.geometry old.cells to spare image)
 
 -- a page could not be fetched: that one call was made, and was counted as a fault; nothing changes
 pub record FailsToFetch (old new : FlashState) (at : Spot) : Type 0 where
