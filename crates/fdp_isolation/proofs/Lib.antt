@@ -18,3 +18,6 @@ pub mod Found
 pub mod Leaving
 pub mod LeftAlone
 pub mod LeftByRelocation
+pub mod Generations
+pub mod Stopped
+pub mod Readings

@@ -30,7 +30,7 @@ use Rattle.fdp_isolation.specs.Isolated.{sets_placement, since_setting}
 use Rattle.fdp_isolation.specs.Laned.{AreLaned, StandsOver, IsKnown, IsLaned, IsTaken}
 use Rattle.fdp_isolation.proofs.Entries.{AreQuiet, and-false, only-placed-host, put-before, put-cases, quiet-one}
 use Rattle.fdp_isolation.proofs.Filling.{NamesHandle, fills-unit, filled-by, filled-pages, handle-pages, handle-way}
-use Rattle.fdp_isolation.proofs.Keeping.{laned-got, laned-longer, taken-kept}
+use Rattle.fdp_isolation.proofs.Keeping.{GoesWay, laned-got, laned-longer, taken-kept}
 use Rattle.fdp_isolation.proofs.Owning.{KeepsOwners, StoodBehind, book-owners, host-site, shut-content, shut-site, stood-unmade}
 use Rattle.fdp_isolation.proofs.Pages.{program-others}
 use Rattle.fdp_book.specs.fdp_locations.Written.{next_spare}
@@ -102,6 +102,10 @@ module _ (old : BookSeen) (ticket : Ticket) (g : Going) (w : Write) (spot : Spot
   pages = filled-pages old.config generation cells now spot (next_spare (state_in old) g w) bytes is-write.group is-write.small refl kept.known.generation is-write.inside left
       (handle-pages old.config (state_in old) generation old.entries (since_setting old.entries) old.pages cells g.rg g.ruh spot kept.known.units kept.known.joined kept.holds.blank next.kept next.is_unit next.may h.laned)
 
+  -- so do those that a stop in it leaves: they go the way of the handle
+  pub next-pages : GoesWay old.config generation old.pages.handles.classes now spot.unit way
+  next-pages = handle-way old.config generation old.pages.handles.classes now spot.unit g.ruh pages
+
   -- what is kept apart after it, with one reference changed
   pub program-laned : (later more : List Entry) (t : PageTables) (r : Reference) → t.handles.classes ≡ old.pages.handles.classes → t.passes ≡ old.pages.passes → reference_at t.handles ≡ with_reference (reference_at old.pages.handles) g.rg g.ruh r → ((u : ℕ) → r.unit ≡ Some u → u ≡ spot.unit)
       → ((other : ℕ) → other ≢ spot.unit → IsTaken t later other → IsTaken old.pages old.entries other)
@@ -111,8 +115,7 @@ module _ (old : BookSeen) (ticket : Ticket) (g : Going) (w : Write) (spot : Spot
       (fills-unit old.config generation old.pages t now g.rg g.ruh spot kept.known.joined is-next classes passes (filled-by old.config old.pages t g.rg g.ruh spot r kept.known.joined is-next references own) pages)
       taken
       (program-others old.config cells now spot (data_spare (next_spare (state_in old) g w)) bytes left is-write.inside)
-      (handle-way old.config generation old.pages.handles.classes now spot.unit g.ruh pages)
-      puts h.laned
+      next-pages puts h.laned
 
 -- ---- the page was placed
 

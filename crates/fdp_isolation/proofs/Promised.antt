@@ -1,6 +1,6 @@
 -- What is kept apart at first, and what it promises.
 use Rattle.std.proofs.Common.{◌≡◌, ℕ, zero, suc, ◌*◌, ◌<◌, true, false, List, [], Option, Some, None, slice_get, refl, sym, ◌∙◌, ap, subst, arith, inl, inr, ⊎_elim, div-lt_iff_lt-mul}
-use Rattle.std.specs.Prelude.{IsTrue, slice_index_or}
+use Rattle.std.specs.Prelude.{Contains, IsTrue, replicate, slice_index_or}
 use Rattle.std.specs.List.{list_any}
 use Rattle.std.specs.Option.{option_map_or}
 use Rattle.std.proofs.lemmas.Option.{get_or_from_slice_get}
@@ -10,15 +10,20 @@ use Rattle.fdp_base.specs.declared.config.DriveConfig.{DriveConfig}
 use Rattle.fdp_base.specs.declared.entry.Entry.{Entry}
 use Rattle.fdp_base.specs.declared.entry.Spot.{Spot}
 use Rattle.fdp_base.specs.declared.spare.DataSpare.{DataSpare}
+use Rattle.fdp_base.specs.Geometry.{all_pages}
 use Rattle.fdp_base.specs.Placement.{geometry_of}
 use Rattle.fdp_base.specs.Spare.{data_spare}
 use Rattle.fdp_base.specs.EntryKinds.{puts_into}
+use Rattle.fdp_book.specs.Configured.{fresh_opening}
 use Rattle.fdp_book.specs.Book.{BookSeen, IsFirst, point_in, state_in, written_in}
 use Rattle.fdp_flash.specs.declared.cell.Cell.{Cell}
+use Rattle.fdp_flash.specs.declared.cell.Cell.TheVariants.{Blank, Whole}
 use Rattle.fdp_flash.specs.Cells.{IsBlankUnit}
+use Rattle.fdp_flash.specs.Layout.{page_number}
 use Rattle.fdp_image.specs.CheckpointFields.{is_persistent}
 use Rattle.fdp_image.specs.Isolation.{EachPage, IsIsolated}
 use Rattle.fdp_image.specs.Roomy.{page_in}
+use Rattle.fdp_isolation.specs.Begun.{OpenedApart}
 use Rattle.fdp_isolation.specs.Isolated.{IsIsolatedDrive, has_live, is_in_use, since_setting}
 use Rattle.fdp_isolation.specs.Laned.{AreLaned, IsKeptApart, IsKnown, IsTaken, StandsOver}
 use Rattle.fdp_isolation.proofs.Entries.{put-whole}
@@ -34,7 +39,7 @@ use Rattle.fdp_pointers.specs.Facts.{HasOnlyPlaced}
 use Rattle.fdp_pointers.proofs.Live.{live-is}
 use Rattle.fdp_pointers.proofs.Rows.{any-found, or-cases}
 use Rattle.fdp_pointers.proofs.Unplaced.{only-placed-first}
-use Rattle.fdp_rules.specs.History.{point_of}
+use Rattle.fdp_rules.specs.History.{Found, FoundBlock, fresh, point_of}
 use Rattle.fdp_rules.specs.Sites.{group_of, is_live}
 use Rattle.fdp_rules.specs.Step.{IsDataUnit}
 
@@ -67,6 +72,31 @@ laned-fresh c b cells known first blank = record {
 
   none : (unit : ℕ) → IsDataUnit b.config unit → HasNoPage b.config cells unit
   none unit is = blank-unit-none b.config cells unit (subst (λ (d : DriveConfig). IsBlankUnit (geometry_of d) cells unit) (sym first.config_is) (blank unit (subst (λ (d : DriveConfig). IsDataUnit d unit) first.config_is is)))
+
+-- a page of cells that are all the same
+one-of-many : {X : Type 0} (n k : ℕ) (x y : X) → slice_get (replicate n x) k ≡ Some y → y ≡ x
+one-of-many zero k x y e = absurd cc
+one-of-many (suc n) zero x y e = let same : y ≡ x = cc in same
+one-of-many (suc n) (suc k) x y e = one-of-many n k x y e
+
+fresh-opened : (c : DriveConfig) → OpenedApart c (fresh_opening c).found (fresh_opening c).cells
+unfolding fresh
+fresh-opened c = record {
+  grouped = λ unit is. record { generation = 0; pages = each-none c unit (fresh_opening c).cells _ (λ page spare bytes low whole. blank-whole spare bytes (one-of-many (all_pages (geometry_of c)) (page_number (geometry_of c) (page_in unit page)) Blank (Whole spare bytes) whole)) };
+  apart = λ unit is x among. absurd (nothing among);
+} where
+  blank-whole : (spare bytes : List ℕ) → Whole spare bytes ≡ Blank → ⊥
+  blank-whole spare bytes e = cc
+
+  nothing : {x : FoundBlock} → Contains [] x → ⊥
+  nothing among = let low = among.1 in omega (arith, low)
+
+-- a fresh drive began with cells that keep data apart
+pub opened-fresh : (c : DriveConfig) (b : BookSeen) → IsFirst c b → OpenedApart b.config b.found b.opened
+opened-fresh c b first =
+    subst (λ (d : DriveConfig). OpenedApart d b.found b.opened) (sym first.config_is)
+    (subst (λ (f : Found). OpenedApart c f b.opened) (sym first.found_is)
+    (subst (OpenedApart c (fresh_opening c).found) (sym first.opened_is) (fresh-opened c)))
 
 -- ---- lanes
 

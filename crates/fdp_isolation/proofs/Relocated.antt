@@ -31,7 +31,7 @@ use Rattle.fdp_isolation.specs.Isolated.{sets_placement, since_setting}
 use Rattle.fdp_isolation.specs.Laned.{AreLaned, StandsOver}
 use Rattle.fdp_isolation.proofs.Copying.{KeepsTargets, copied-fills, copied-pages, same-targets, used-targets, went-targets}
 use Rattle.fdp_isolation.proofs.Entries.{IsQuietStep, put-before, put-cases, quiet-none, quiet-one}
-use Rattle.fdp_isolation.proofs.Keeping.{FillsNoMore, laned-got, laned-longer, laned-still, taken-kept}
+use Rattle.fdp_isolation.proofs.Keeping.{FillsNoMore, GoesWay, laned-got, laned-longer, laned-still, taken-kept}
 use Rattle.fdp_isolation.proofs.Pages.{KeepsPages, erase-keeps, program-others}
 use Rattle.fdp_book.proofs.fdp_locations.Others.{ChangesPasses, passes-other}
 use Rattle.fdp_book.proofs.fdp_locations.Owned.{owned-units}
@@ -112,11 +112,17 @@ module _ (old new : BookSeen) (before after : FlashState) (rg : ℕ) (may_erase 
         let within = is.opened.within in
         omega (arith, pages, within)
 
+    -- the pages of the target, whatever the program left
+    pub copy-pages : (image : List Cell) (bytes : List ℕ) → ProgramMayLeave (geometry_of old.config) before.cells is.to (data_spare is.owner.spare) bytes image → GoesWay old.config (state_in old).generation old.pages.handles.classes image is.to.unit (lane_at old.pages.handles.classes is.owner)
+    copy-pages image bytes left =
+        let groups = kept.known.config.ranges.groups in
+        copied-pages old.config (state_in old) old.entries (since_setting old.entries) old.pages before.cells rg (state_in old).generation kept.known.units kept.known.joined kept.holds.blank there h.laned is.from is.to is.owner is.middle is.due is.owned is.opened image bytes
+        (owned-units old.config (point_in old) (written_in old) kept.known.led.at old.pages kept.known.led.led is.from is.owner is.owned) (omega (arith, groups.1)) kept.known.generation inside left
+
     copied : (es : List Entry) (result : Wrote) → IsQuietStep old new es → Stays → Copies before after is.from is.to (data_spare is.owner.spare) result → KeepsTargets is.middle.passes (passes_at new.pages rg)
         → ((xs : List Entry) (other : ℕ) → IsTrue (list_any (puts_into other) (xs ++ es)) → IsTrue (list_any (puts_into other) xs) ⊎ (other ≡ is.to.unit)) → AreLaned new after.cells
     copied es result quiet same copies keeps puts =
         let left = program-left is.from is.to (data_spare is.owner.spare) result copies in
-        let groups = kept.known.config.ranges.groups in
         laned-longer old new es after.cells quiet
         (laned-got old.config (state_in old).generation old.entries new.entries (since_setting old.entries) (since_setting old.entries ++ es) old.pages new.pages before.cells after.cells is.to.unit (lane_at old.pages.handles.classes is.owner)
         (copied-fills old.config (state_in old) old.entries (since_setting old.entries) old.pages before.cells rg (state_in old).generation kept.known.units kept.known.joined kept.holds.blank there h.laned is.from is.to is.owner is.middle is.due is.owned is.opened new.pages after.cells same.handles same.passes keeps)
@@ -125,8 +131,7 @@ module _ (old new : BookSeen) (before after : FlashState) (rg : ℕ) (may_erase 
         (λ put. ⊎_elim (λ was. inr was) (λ (here : other ≡ is.to.unit). absurd (ne here)) (puts old.entries other (subst (λ (xs : List Entry). IsTrue (list_any (puts_into other) xs)) quiet.longer.entries_are put)))
         taken)
         (program-others old.config before.cells after.cells is.to (data_spare is.owner.spare) left.0 left.1 inside)
-        (copied-pages old.config (state_in old) old.entries (since_setting old.entries) old.pages before.cells rg (state_in old).generation kept.known.units kept.known.joined kept.holds.blank there h.laned is.from is.to is.owner is.middle is.due is.owned is.opened after.cells left.0
-        (owned-units old.config (point_in old) (written_in old) kept.known.led.at old.pages kept.known.led.led is.from is.owner is.owned) (omega (arith, groups.1)) kept.known.generation inside left.1)
+        (copy-pages after.cells left.0 left.1)
         (puts (since_setting old.entries)) h.laned)
 
   -- the targets after it

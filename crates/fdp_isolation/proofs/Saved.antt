@@ -16,7 +16,7 @@ use Rattle.fdp_book.proofs.fdp_locations.Others.{data-unit}
 use Rattle.fdp_rules.specs.Step.{IsDataUnit}
 
 -- a page of a data unit is a data page
-data-page : (c : DriveConfig) (unit page : ℕ) → IsDataUnit c unit → page < c.unit_pages → page_number (geometry_of c) (page_in unit page) < data_pages (geometry_of c)
+pub data-page : (c : DriveConfig) (unit page : ℕ) → IsDataUnit c unit → page < c.unit_pages → page_number (geometry_of c) (page_in unit page) < data_pages (geometry_of c)
 data-page c unit page is low =
     let whole = mul-le (unit + 1) c.unit_pages (c.groups * c.units) c.unit_pages (omega (arith, is)) (omega arith) in
     omega (arith, whole, low)

@@ -4,3 +4,4 @@ pub mod Isolated
 pub mod Laned
 pub mod Alone
 pub mod Begun
+pub mod Reads

@@ -1,5 +1,5 @@
--- What is safe stays so behind a step of relocation, and a stop within it loses nothing.
-use Rattle.std.proofs.Common.{◌≡◌, ℕ, ◌<◌, ◌≤◌, ◌⊎◌, inl, inr, Bool, true, false, IsTrue, List, Option, refl, sym, ◌∙◌, ap, subst, arith, eqb-true}
+-- What is safe stays so behind a step of relocation, and a stop within it loses nothing and keeps data apart.
+use Rattle.std.proofs.Common.{◌≡◌, ℕ, length, ◌<◌, ◌≤◌, ◌⊎◌, inl, inr, Bool, true, false, IsTrue, List, Option, refl, sym, ◌∙◌, ap, subst, arith, eqb-true}
 use Rattle.std.specs.Prelude.{◌&&◌, ◌==◌, if◌then◌else◌}
 use Rattle.fdp_base.specs.declared.config.DriveConfig.{DriveConfig}
 use Rattle.fdp_base.specs.declared.config.Geometry.{Geometry}
@@ -12,7 +12,7 @@ use Rattle.fdp_durability.specs.fdp_collector.declared.step.Lost.TheVariants as 
 use Rattle.fdp_durability.specs.fdp_collector.declared.step.Step.{Step}
 use Rattle.fdp_durability.specs.fdp_collector.declared.step.Step.TheVariants as steps
 use Rattle.fdp_durability.specs.fdp_collector.Erasing.{state_after}
-use Rattle.fdp_durability.specs.fdp_collector.Leaving.{StepMayLeave}
+use Rattle.fdp_durability.specs.fdp_collector.Leaving.{ProgramsUnused, StepMayLeave}
 use Rattle.fdp_durability.specs.fdp_collector.Ready.{Relocation, lane_at}
 use Rattle.fdp_durability.specs.fdp_collector.Step.{IsCopyStep, IsStep, Rests}
 use Rattle.fdp_durability.proofs.fdp_collector.Readied.{emptied-unit}
@@ -20,7 +20,9 @@ use Rattle.fdp_durability.specs.Durable.{IsDurable, UnitsMoveOn}
 use Rattle.fdp_durability.proofs.Durable.{durable-erase, durable-moves, durable-program, durable-stands}
 use Rattle.fdp_durability.proofs.Empty.{drawn-empty}
 use Rattle.fdp_durability.proofs.Stepping.{durable-step}
+use Rattle.fdp_durability.proofs.fdp_readings.Keeping.{erase-system, program-named, program-system}
 use Rattle.fdp_flash.specs.declared.answer.Wrote.TheVariants as wrote
+use Rattle.fdp_flash.specs.declared.cell.Cell.{Cell}
 use Rattle.fdp_flash.specs.declared.cell.Cell.TheVariants.{Whole}
 use Rattle.fdp_flash.specs.Cells.{EraseMayLeave, ProgramMayLeave}
 use Rattle.fdp_flash.specs.FlashState.{FlashState}
@@ -45,7 +47,12 @@ use Rattle.fdp_pointers.specs.Pointers.{Behind}
 use Rattle.fdp_durability.specs.fdp_readings.Drawn.{drawn}
 use Rattle.fdp_durability.specs.fdp_readings.Named.{NamesNone}
 use Rattle.fdp_rules.specs.History.{Found, point_of}
+use Rattle.fdp_isolation.specs.Isolated.{IsIsolatedDrive}
+use Rattle.fdp_isolation.proofs.Pages.{erase-keeps}
+use Rattle.fdp_isolation.proofs.Stopped.{LeavesApart, left-isolated}
+use Rattle.fdp_survival.specs.Apart.{AreSaidApart, StandsApart}
 use Rattle.fdp_survival.specs.Safe.{IsSafeAt}
+use Rattle.fdp_survival.proofs.Apart.{durable-stands-apart, said-kept, said-left}
 use Rattle.fdp_survival.proofs.Units.{GoOn, changed-go, next-go, same-go}
 use Rattle.fdp_units.specs.declared.data_unit.DataUnit.{DataUnit}
 use Rattle.fdp_units.specs.declared.state.UnitState.TheVariants.{Aside}
@@ -179,3 +186,60 @@ module _ (c : DriveConfig) (f : Found) (es : List Entry) (t new : PageTables) (r
     firm_is = was.firm_is;
     within = was.within;
   }
+
+  -- ---- isolation
+
+  -- what a stop within it may leave, or the step itself: what the areas say is isolated there, where each unit that got a page is
+  pub left-said : (image : List Cell) → IsTrue old.told → StepMayLeave may_erase old.geometry t.units t.owners old.cells image → LeavesApart c (point_of c f es).state old.cells image → AreSaidApart c s old.cells → AreSaidApart c s image
+  left-said image told left apart said =
+      let durable = was.durable told in
+      let same = sym was.cut in
+      elim (subst (λ (g : Geometry). StepMayLeave may_erase g t.units t.owners old.cells image) geometry left) [
+        | inl as_was ↦ subst (AreSaidApart c s) (sym as_was) said
+        | inr called ↦
+            elim called [
+              | inl p ↦
+                  said-left c f es firm s t.units old.cells image same was.sealed (program-system c old.cells image p.at p.spare p.bytes p.page p.left) durable said
+                  (λ r valid. program-named c r old.cells image p.at p.spare p.bytes valid p.blank p.left) apart
+              | inr e ↦
+                  said-kept c f es firm s t.units old.cells image same was.sealed (erase-system c old.cells image e.1.unit (data-unit c (point_of c f es).state t e.1.unit units e.1.is_unit) e.1.left) durable said
+                  (λ unit is. erase-keeps c old.cells image e.1.unit e.1.left unit)
+            ]
+      ]
+
+  -- data stands apart in an image within it
+  pub left-apart : (image : List Cell) → IsTrue old.told → StepMayLeave may_erase old.geometry t.units t.owners old.cells image → LeavesApart c (point_of c f es).state old.cells image → AreSaidApart c s old.cells → IsIsolatedDrive c (point_of c f es) es old.cells → StandsApart c f es (length es) image
+  left-apart image told left apart said isolated =
+      durable-stands-apart c f es firm s t.units image
+      (durable-step c f es firm s may_erase t.units t.owners old.cells image (sym was.cut) was.sealed units.cut sure none-drawn (subst (λ (g : Geometry). StepMayLeave may_erase g t.units t.owners old.cells image) geometry left) (was.durable told))
+      (left-said image told left apart said) (left-isolated c (point_of c f es) es old.cells image apart isolated)
+
+  -- what the step left is one of these
+  copy-ended : (step : Step) → (h : IsCopyStep t.owners t.handles.classes rg (relocation_at t rg) (relocation_at new rg) old now step) → (bytes : List ℕ) → IsTrue old.told → ProgramMayLeave old.geometry old.cells h.to (data_spare h.owner.spare) bytes now.cells → ProgramsUnused old.geometry t.units old.cells now.cells
+  copy-ended step h bytes told left =
+      let p = point_of c f es in
+      let is = copy-to c p t rg h.from h.to h.owner h.middle joined units low h.due h.owned h.opened in
+      let fresh = copy-fresh c p t rg h.from h.to h.owner h.middle joined units low h.due h.owned h.opened in
+      let held : HoldsWritten (geometry_of c) old.cells written t.units = subst (λ (g : Geometry). HoldsWritten g old.cells written t.units) geometry (stored told) in
+      subst (λ (g : Geometry). ProgramsUnused g t.units old.cells now.cells) (sym geometry) (record {
+        at = h.to;
+        spare = data_spare h.owner.spare;
+        bytes = bytes;
+        page = record { unit = is.0; page = is.1 };
+        unused = omega (arith, fresh);
+        blank = copy-free c p t rg h.from h.to h.owner h.middle joined units low h.due h.owned h.opened (geometry_of c) old.cells refl held.blank;
+        left = subst (λ (g : Geometry). ProgramMayLeave g old.cells h.to (data_spare h.owner.spare) bytes now.cells) geometry left;
+      })
+
+  pub step-ended : (step : Step) → IsStep t.owners t.handles.classes rg may_erase (relocation_at t rg) (relocation_at new rg) old now step → IsTrue old.told → StepMayLeave may_erase old.geometry t.units t.owners old.cells now.cells
+  step-ended steps.Nothing h told = inl (h.1.flash.cells told)
+  step-ended (steps.Copied copy) h told =
+      let done = h.ended.2.done refl told in
+      inr (inl (copy-ended (steps.Copied copy) h done.bytes told (record { cell = Whole (data_spare h.owner.spare) done.bytes; page = inr (inr refl); cells = done.now })))
+  step-ended steps.ReadyToMove h told = inl (h.1.flash.cells told)
+  step-ended (steps.Erased unit) h told = inr (inr (h.1, record { unit = unit; is_unit = victim-there unit (inl h); empty = h.0.2; left = erased_may_leave old.geometry old.cells unit now.cells (h.2.flash.done told refl) }))
+  step-ended steps.EraseDue h told = inl (h.2.flash.cells told)
+  step-ended steps.Starved h told = inl (h.flash.cells told)
+  step-ended (steps.Fault lost.None) h told = let left = h.ended.1.left refl told in inr (inl (copy-ended (steps.Fault lost.None) h left.0 told left.1))
+  step-ended (steps.Fault (lost.Aside unit)) h told = inl (h.flash.read.cells told)
+  step-ended (steps.Fault (lost.Retired unit)) h told = inr (inr (h.1, record { unit = unit; is_unit = victim-there unit (inr h); empty = h.0.2; left = h.2.flash.failed told refl }))

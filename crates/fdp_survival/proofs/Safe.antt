@@ -52,7 +52,7 @@ module _ (c : DriveConfig) (f : Found) (es : List Entry) (t : UnitTable) (s : Jo
 
   -- the program of a blank page of data
   module _ (at : Spot) (spare bytes : List ℕ) (geometry : old.geometry ≡ geometry_of c) (is : IsDataPage (geometry_of c) at) (blank : IsTrue old.told → slice_get old.cells (page_number old.geometry at) ≡ Some Blank) where
-    programmed : (image : List Cell) → IsTrue old.told → ProgramMayLeave old.geometry old.cells at spare bytes image → IsDurable c f es firm s t image
+    pub programmed : (image : List Cell) → IsTrue old.told → ProgramMayLeave old.geometry old.cells at spare bytes image → IsDurable c f es firm s t image
     programmed image told left =
         durable-program c f es firm s t old.cells image at spare bytes (sym was.cut) was.sealed is
         (subst (λ (g : Geometry). slice_get old.cells (page_number g at) ≡ Some Blank) geometry (blank told))

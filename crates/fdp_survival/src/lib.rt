@@ -3,4 +3,4 @@
 
 mod books;
 
-pub use books::books_can_be_saved;
+pub use books::{books_can_be_saved, durable_things_stand_apart, isolated_images_are_said_apart};

@@ -1,0 +1,15 @@
+pub mod Counting
+pub mod Keeping
+pub mod Owning
+pub mod Answered
+pub mod Placed
+pub mod Moved
+pub mod Relocated
+pub mod Begun
+pub mod Runs
+pub mod Stepped
+pub mod Fitting
+pub mod Capacity
+pub mod Reading
+pub mod Images
+pub mod First

@@ -1,0 +1,5 @@
+pub mod Units
+pub mod Room
+pub mod Run
+pub mod Capacity
+pub mod Roomy
