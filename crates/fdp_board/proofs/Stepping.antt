@@ -1,5 +1,5 @@
 -- A step of a drive, on its board.
-use Rattle.std.proofs.Common.{◌≡◌, ℕ, ◌<◌, ◌≤◌, Bool, List, [], ◌∷◌, ◌++◌, refl, ap, sym, ◌∙◌, subst, arith, append_assoc, inl, inr}
+use Rattle.std.proofs.Common.{◌≡◌, ℕ, ◌<◌, ◌≤◌, Bool, List, [], ◌∷◌, ◌++◌, refl, ap, sym, ◌∙◌, subst, arith, append_assoc, inl, inr, length}
 use Rattle.std.specs.Prelude.{All, IsTrue, map}
 use mathlib.Core.List.{IsPrefix}
 use Rattle.std.proofs.lemmas.Bool.{cases_lt}
@@ -17,13 +17,16 @@ use Rattle.fdp_workers.specs.fdp_core.Stops.{OutlastsStops}
 use Rattle.fdp_flash.specs.declared.cell.Cell.{Cell}
 use Rattle.fdp_flash.specs.FlashState.{Call, FlashState}
 use Rattle.fdp_image.specs.Kept.{StandsForKept}
+use Rattle.fdp_workers.specs.fdp_isolation.Begun.{OpenedApart}
+use Rattle.fdp_workers.specs.fdp_survival.Apart.{StandsApart}
+use Rattle.fdp_workers.proofs.fdp_survival.Images.{grown-apart, less-apart}
 use Rattle.fdp_workers.specs.fdp_ledger.declared.counts.Counts.{Counts}
 use Rattle.fdp_rules.specs.History.{Found, point_of, state_of}
 use Rattle.fdp_rules.specs.PlainState.{Going, PlainState}
 use Rattle.fdp_rules.specs.Seats.{mark_of, marks_after, marks_of, seat_of_entry}
 use Rattle.fdp_workers.specs.Run.{OpensFirst}
 use Rattle.fdp_workers.specs.Turns.{AddsNone, AddsOwn}
-use Rattle.fdp_board.specs.Board.{AreCharged, AreSumsOf, Began, IsBoard, IsSafeSince, IsUnfailing, began_with, items_of}
+use Rattle.fdp_board.specs.Board.{AreCharged, AreSumsOf, Began, IsBoard, IsKeptImage, IsSafeSince, IsUnfailing, began_with, items_of}
 use Rattle.fdp_workers.specs.Marks.{entry_in, mark_in, marked_after}
 use Rattle.fdp_board.proofs.Charging.{charged-after}
 use Rattle.fdp_board.proofs.Outlasting.{AreLate, each_later, kept-grown, kept-less}
@@ -67,17 +70,36 @@ goes state old new es calls a later late charged = record {
   charged = charged;
 }
 
+-- an image by the fields of the book before a step is one by those of the book behind it
+book-after : {F : Type 0} (state : F → FlashState) (old new : Seen F) (es : List Entry) (m : ℕ) (image : List Cell) → Goes state old new es → StandsForKept old.book.config old.book.found new.book.entries 0 m image
+    → (OpenedApart old.book.config old.book.found old.book.opened → StandsApart old.book.config old.book.found new.book.entries 0 image) → IsKeptImage new.book.config new.book.found new.book.opened new.book.entries m image
+book-after state old new es m image g stands apart = record {
+  stands =
+      subst (λ (c : DriveConfig). StandsForKept c new.book.found new.book.entries 0 m image) (sym g.config_is)
+      (subst (λ (f : Found). StandsForKept old.book.config f new.book.entries 0 m image) (sym g.found_is) stands);
+  apart =
+      subst (λ (c : DriveConfig). OpenedApart c new.book.found new.book.opened → StandsApart c new.book.found new.book.entries 0 image) (sym g.config_is)
+      (subst (λ (f : Found). OpenedApart old.book.config f new.book.opened → StandsApart old.book.config f new.book.entries 0 image) (sym g.found_is)
+      (subst (λ (cells : List Cell). OpenedApart old.book.config old.book.found cells → StandsApart old.book.config old.book.found new.book.entries 0 image) (sym g.opened_is) apart));
+}
+
+-- an image of the history before a step is one of the history behind it
+image-after : {F : Type 0} (state : F → FlashState) (old new : Seen F) (es : List Entry) (m : ℕ) (image : List Cell) → Goes state old new es → AreLate m es → IsKeptImage old.book.config old.book.found old.book.opened old.book.entries m image → IsKeptImage new.book.config new.book.found new.book.opened new.book.entries m image
+image-after state old new es m image g late was = book-after state old new es m image g
+    (subst (λ (xs : List Entry). StandsForKept old.book.config old.book.found xs 0 m image) (sym g.entries_are) (kept-grown old.book.config old.book.found old.book.entries es 0 m image late was.stands))
+    (λ opened. subst (λ (xs : List Entry). StandsApart old.book.config old.book.found xs 0 image) (sym g.entries_are) (grown-apart old.book.config old.book.found old.book.entries es 0 image (was.apart opened)))
+
 -- each image since the flash was handed in is kept behind the step
-safe-after : {F : Type 0} (state : F → FlashState) (old new : Seen F) (es : List Entry) → Goes state old new es → OutlastsStops state old new
-    → IsSafeSince old.handed.moment (state old.flash) old.book.config old.book.found old.book.entries → IsSafeSince old.handed.moment (state new.flash) old.book.config old.book.found new.book.entries
+safe-after : {F : Type 0} (state : F → FlashState) (old new : Seen F) (es : List Entry) → Goes state old new es → OutlastsStops state old new → IsSafeSince old.handed.moment (state old.flash) old.book → IsSafeSince old.handed.moment (state new.flash) new.book
 safe-after state old new es g stops safe told m image above most there =
     let run = stops.stops.images in
     let told_before : IsTrue (state old.flash).told = sym run.told ∙ told in
-    let before : m ≤ (state old.flash).moment → StandsForKept old.book.config old.book.found new.book.entries 0 m image =
-    λ early. subst (λ (xs : List Entry). StandsForKept old.book.config old.book.found xs 0 m image) (sym g.entries_are)
-    (kept-grown old.book.config old.book.found old.book.entries es 0 m image (each_later m (state old.flash).moment es early g.late) (safe told_before m image above early (run.earlier m image early there))) in
-    let behind : (state old.flash).moment < m → StandsForKept old.book.config old.book.found new.book.entries 0 m image =
-    λ late. kept-less old.book.config old.book.found new.book.entries old.keeper.firm 0 m image (omega arith) (run.images told_before m image late most there) in
+    let before : m ≤ (state old.flash).moment → IsKeptImage new.book.config new.book.found new.book.opened new.book.entries m image =
+    λ early. image-after state old new es m image g (each_later m (state old.flash).moment es early g.late) (safe told_before m image above early (run.earlier m image early there)) in
+    let behind : (state old.flash).moment < m → IsKeptImage new.book.config new.book.found new.book.opened new.book.entries m image =
+    λ late. book-after state old new es m image g
+    (kept-less old.book.config old.book.found new.book.entries old.keeper.firm 0 m image (omega arith) (run.images told_before m image late most there))
+    (λ opened. less-apart old.book.config old.book.found new.book.entries (length old.book.entries) 0 image (omega arith) ((stops.apart opened).images.images told_before m image late most there)) in
     elim (cases_lt (state old.flash).moment m) [
       | inl late ↦ behind late
       | inr early ↦ before early
@@ -91,10 +113,7 @@ board-after state old new before told es g stops b = record {
       (prefix_trans told (marks_of old.book.found old.book.entries) (marks_of old.book.found (old.book.entries ++ es)) b.shown
       (marks_after old.book.found old.book.entries es, sym (marks-joined old.book.found [] old.book.entries es))));
   sums = subst (λ (f : Found). AreSumsOf f before) (sym g.found_is) b.sums;
-  safe = subst (λ (h : Counts). IsSafeSince h.moment (state new.flash) new.book.config new.book.found new.book.entries) (sym g.handed_is)
-      (subst (λ (c : DriveConfig). IsSafeSince old.handed.moment (state new.flash) c new.book.found new.book.entries) (sym g.config_is)
-      (subst (λ (f : Found). IsSafeSince old.handed.moment (state new.flash) old.book.config f new.book.entries) (sym g.found_is)
-      (safe-after state old new es g stops b.safe)));
+  safe = subst (λ (h : Counts). IsSafeSince h.moment (state new.flash) new.book) (sym g.handed_is) (safe-after state old new es g stops b.safe);
   later = subst (λ (h : Counts). h.moment ≤ (state new.flash).moment) (sym g.handed_is) (omega (arith, b.later, stops.stops.images.later));
   charged = subst (λ (h : Counts). AreCharged h.moment (state new.flash) new.book.entries) (sym g.handed_is)
       (subst (AreCharged old.handed.moment (state new.flash)) (sym g.entries_are)

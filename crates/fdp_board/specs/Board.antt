@@ -11,10 +11,13 @@ use Rattle.fdp_base.specs.declared.entry.Totals.{Totals}
 use Rattle.fdp_base.specs.declared.recorded.Mark.{Mark}
 use Rattle.fdp_base.specs.Counts.{Rose}
 use Rattle.fdp_base.specs.EntryKinds.{host_of}
+use Rattle.fdp_workers.specs.fdp_book.Book.{BookSeen}
 use Rattle.fdp_workers.specs.fdp_core.Seen.{Seen}
 use Rattle.fdp_flash.specs.declared.cell.Cell.{Cell}
 use Rattle.fdp_flash.specs.FlashState.{Call, FlashState}
 use Rattle.fdp_image.specs.Kept.{StandsForKept}
+use Rattle.fdp_workers.specs.fdp_isolation.Begun.{OpenedApart}
+use Rattle.fdp_workers.specs.fdp_survival.Apart.{StandsApart}
 use Rattle.fdp_workers.specs.fdp_ledger.declared.counts.Counts.{Counts}
 use Rattle.fdp_workers.specs.fdp_ledger.Told.{is_media_reply}
 use Rattle.fdp_origin.specs.Opening.{blank}
@@ -89,10 +92,15 @@ began_with state b = record {
 
 -- ---- what stands between turns
 
--- where the cells are told, whatever a stop in a call since a moment may have left stands for a beginning of the history in which each change is
--- that was completed at an earlier moment
-abbrev pub IsSafeSince : ℕ → FlashState → DriveConfig → Found → List Entry → Type 0
-IsSafeSince since flash c f es = IsTrue flash.told → (m : ℕ) (image : List Cell) → since < m → m ≤ flash.moment → flash.during m image → StandsForKept c f es 0 m image
+-- What a stop at a moment may have left stands for a beginning of a history in which each change is that was completed at an earlier moment; and
+-- data stands apart in it, where the cells that were opened kept it apart.
+pub record IsKeptImage (c : DriveConfig) (f : Found) (opened : List Cell) (es : List Entry) (m : ℕ) (image : List Cell) : Type 0 where
+  pub stands : StandsForKept c f es 0 m image
+  pub apart : OpenedApart c f opened → StandsApart c f es 0 image
+
+-- where the cells are told, so it is with whatever a stop in a call since a moment may have left, by the history of a book
+abbrev pub IsSafeSince : ℕ → FlashState → BookSeen → Type 0
+IsSafeSince since flash b = IsTrue flash.told → (m : ℕ) (image : List Cell) → since < m → m ≤ flash.moment → flash.during m image → IsKeptImage b.config b.found b.opened b.entries m image
 
 -- Since a moment a call failed at this one: it lies above it, or the count stands at its last value. Where the calls are told, that call failed.
 pub record FailedSince (since : ℕ) (now : FlashState) (moment : ℕ) : Type 0 where
@@ -116,7 +124,7 @@ IsUnfailing handed flash = IsTrue flash.reliable → flash.faults ≡ handed.fau
 -- reliable flash has failed.
 pub record IsJustOpened {F : Type 0} (state : F → FlashState) (s : Seen F) : Type 0 where
   pub entries_are : (s.book.entries ≡ []) ⊎ (s.book.entries ≡ entries.Reopened ∷ [])
-  pub safe : IsSafeSince s.handed.moment (state s.flash) s.book.config s.book.found s.book.entries
+  pub safe : IsSafeSince s.handed.moment (state s.flash) s.book
   pub unfailing : IsUnfailing s.handed (state s.flash)
 
 -- the sums before the history are those of what it goes on from
@@ -131,7 +139,7 @@ pub record IsBoard {F : Type 0} (state : F → FlashState) (group : Seen F) (bef
   -- the teller has told a beginning of the record
   pub shown : IsPrefix told (marks_of group.book.found group.book.entries)
   pub sums : AreSumsOf group.book.found before
-  pub safe : IsSafeSince group.handed.moment (state group.flash) group.book.config group.book.found group.book.entries
+  pub safe : IsSafeSince group.handed.moment (state group.flash) group.book
   pub later : group.handed.moment ≤ (state group.flash).moment
   pub charged : AreCharged group.handed.moment (state group.flash) group.book.entries
   pub unfailing : IsUnfailing group.handed (state group.flash)

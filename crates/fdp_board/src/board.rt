@@ -54,7 +54,7 @@ impl<F: Flash> Board<F> {
     pub fn into_parts(self) -> (Group<F>, Teller)
         ensures group { result.0 ≡ self.group }
         ensures teller { (result.1.place.table_id ≡ self.gauge) × (told_of result.1 ≡ self.told) }
-        ensures safe { IsSafeSince self.group.handed.moment (F.state self.group.flash) self.group.book.config self.group.book.found self.group.book.entries }
+        ensures safe { IsSafeSince self.group.handed.moment (F.state self.group.flash) self.group.book }
         ensures charged { AreCharged self.group.handed.moment (F.state self.group.flash) self.group.book.entries }
         ensures unfailing { IsUnfailing self.group.handed (F.state self.group.flash) }
     {

@@ -1,5 +1,7 @@
 -- What a run shows.
-use Rattle.std.proofs.Common.{◌≡◌, ◌⊎◌, ℕ, ◌<◌, IsTrue, ap, List, [], ◌∷◌, ◌++◌, length, Err, refl, sym, ◌∙◌, subst, arith, inl, inr}
+use Rattle.std.proofs.Common.{◌≡◌, ◌⊎◌, ℕ, ◌<◌, IsTrue, ap, List, [], ◌∷◌, ◌++◌, length, Err, refl, sym, ◌∙◌, subst, arith, inl, inr, ⊎_elim}
+use mathlib.Core.List.{IsPrefix}
+use Rattle.std.specs.List.{list_any}
 use Rattle.std.specs.Prelude.{All, IsFalse, Result, ⊤}
 use Rattle.std.proofs.lemmas.List.{append-nil}
 use Rattle.std.proofs.lemmas.List.Elements.{All-cons, All-nil, All-tail, All-weaker}
@@ -7,6 +9,7 @@ use Rattle.fdp_base.specs.declared.command.Command.{Command}
 use Rattle.fdp_base.specs.declared.config.DriveConfig.{DriveConfig}
 use Rattle.fdp_base.specs.declared.entry.Entry.{Entry}
 use Rattle.fdp_base.specs.declared.entry.Entry.TheVariants as entries
+use Rattle.fdp_base.specs.Counts.{Rose}
 use Rattle.fdp_drive.specs.fdp_book.Book.{BookSeen, point_in}
 use Rattle.fdp_drive.specs.fdp_core.Loading.{IsLoaded, IsNotLoaded}
 use Rattle.fdp_drive.specs.fdp_core.Seen.{HoldsHistory, IsLegalOver, Seen}
@@ -27,6 +30,8 @@ use Rattle.fdp_image.specs.Kept.{AreFirm, StandsForBeginning, StandsForKept, is_
 use Rattle.fdp_io.specs.Sink.{HoldsFront, SinkState}
 use Rattle.fdp_drive.specs.fdp_isolation.Begun.{OpenedApart}
 use Rattle.fdp_drive.specs.fdp_isolation.Isolated.{IsIsolatedDrive}
+use Rattle.fdp_drive.specs.fdp_survival.Apart.{ReadsIsolated, StandsApart}
+use Rattle.fdp_drive.proofs.fdp_survival.Images.{less-apart}
 use Rattle.fdp_drive.specs.fdp_ledger.declared.counts.Counts.{Counts}
 use Rattle.fdp_drive.specs.fdp_ledger.Counted.{CountedSince}
 use Rattle.fdp_drive.specs.fdp_ledger.Start.{start_of}
@@ -36,9 +41,12 @@ use Rattle.fdp_printing.specs.declared.pieces.Cut.TheVariants as cuts
 use Rattle.fdp_printing.specs.Closing.{IsClosing}
 use Rattle.fdp_printing.specs.Printing.{HoldsSome, Prints}
 use Rattle.fdp_drive.specs.fdp_recovery.declared.opened.OpenFault.{OpenFault}
+use Rattle.fdp_drive.specs.fdp_roominess.Capacity.{exceeds_capacity}
+use Rattle.fdp_drive.specs.fdp_roominess.Run.{BeganRoomy, IsRoomyImage, StaysRoomy, WearsByFailure}
+use Rattle.fdp_drive.proofs.fdp_core.Unfailing.{unfailing-fits}
 use Rattle.fdp_rules.specs.History.{Found, point_of}
 use Rattle.fdp_cli.specs.Loading.{of_opening}
-use Rattle.fdp_cli.specs.Session.{IsRun}
+use Rattle.fdp_cli.specs.Session.{IsRun, StaysIsolated}
 use Rattle.fdp_cli.specs.Top.{EndsRun, PrintsText, Refuses, Shows, text_in, text_of}
 
 -- ---- the beginning
@@ -57,7 +65,10 @@ pub record HasServed {F : Type 0} (state : F → FlashState) (c : DriveConfig) (
   pub legal : IsLegalOver (state new.flash) new.book
   pub cells : HoldsHistory (state new.flash) new.book
   pub apart : IsTrue (state new.flash).told → OpenedApart new.book.config new.book.found new.book.opened → IsIsolatedDrive new.book.config (point_in new.book) new.book.entries (state new.flash).cells
+  pub reads : IsTrue (state new.flash).told → OpenedApart new.book.config new.book.found new.book.opened → ReadsIsolated new.book.config (state new.flash).cells
   pub counted : CountedSince new.handed (state new.flash) (start_of new.book) new.book.entries
+  pub worn : WearsByFailure new.handed.faults (state new.flash).faults (state new.flash).told new.book
+  pub roomy : IsTrue (state new.flash).told → StaysRoomy new.handed.faults (state new.flash).faults (state new.flash).told new.book (state new.flash).cells
   pub firm : AreFirm new.book.entries new.keeper.firm
   pub stands : IsTrue (state new.flash).told → StandsForBeginning new.book.config new.book.found new.book.entries new.keeper.firm (state new.flash).cells
 
@@ -85,9 +96,15 @@ just-opened state c handed old loaded = record {
   entries_are = loaded.entries_are;
   safe = λ told m image above most there.
       let run = loaded.stops in
-      subst (λ (x : DriveConfig). StandsForKept x old.book.found old.book.entries 0 m image) (sym loaded.config_is)
-      (kept-first c old.book.found old.book.entries m image loaded.entries_are
-      (run.images (sym run.told ∙ told) m image (subst (λ (h : Counts). h.moment < m) loaded.handed_is above) most there));
+      let since = subst (λ (h : Counts). h.moment < m) loaded.handed_is above in
+      record {
+        stands =
+            subst (λ (x : DriveConfig). StandsForKept x old.book.found old.book.entries 0 m image) (sym loaded.config_is)
+            (kept-first c old.book.found old.book.entries m image loaded.entries_are (run.images (sym run.told ∙ told) m image since most there));
+        apart =
+            subst (λ (x : DriveConfig). OpenedApart x old.book.found old.book.opened → StandsApart x old.book.found old.book.entries 0 image) (sym loaded.config_is)
+            (λ opened. less-apart c old.book.found old.book.entries (length old.book.entries) 0 image (omega arith) ((loaded.apart opened).images.images (sym run.told ∙ told) m image since most there));
+      };
   unfailing = λ reliable. loaded.faults ∙ sym (ap (λ (h : Counts). h.faults) loaded.handed_is);
 }
 
@@ -96,6 +113,44 @@ config-is state c handed old new has same = same.config_is ∙ has.loaded.config
 
 handed-is : {F : Type 0} (state : F → FlashState) (c : DriveConfig) (handed : F) (old new : Seen F) → HasServed state c handed old new → IsSameDrive state old new → new.handed ≡ counts_of (state handed)
 handed-is state c handed old new has same = same.handed_is ∙ has.loaded.handed_is
+
+-- what it opened keeps data apart where the image did
+opened-by : {F : Type 0} (state : F → FlashState) (c : DriveConfig) (handed : F) (old new : Seen F) → HasServed state c handed old new → IsSameDrive state old new → IsTrue (state handed).told → ReadsIsolated new.book.config (state handed).cells → OpenedApart new.book.config new.book.found new.book.opened
+opened-by state c handed old new has same told reads =
+    let is = config-is state c handed old new has same in
+    subst (λ (x : DriveConfig). OpenedApart x new.book.found new.book.opened) (sym is)
+    (subst (λ (f : Found). OpenedApart c f new.book.opened) (sym same.found_is)
+    (subst (OpenedApart c old.book.found) (sym same.opened_is)
+    (has.loaded.opened told (subst (λ (x : DriveConfig). ReadsIsolated x (state handed).cells) is reads))))
+
+-- so what it leaves is isolated where the image was
+stays-isolated : {F : Type 0} (state : F → FlashState) (c : DriveConfig) (handed : F) (old new : Seen F) → HasServed state c handed old new → IsSameDrive state old new → IsSafeSince new.handed.moment (state new.flash) new.book → IsTrue (state handed).told → ReadsIsolated new.book.config (state handed).cells
+    → StaysIsolated new.book.config (state handed) (state new.flash)
+stays-isolated state c handed old new has same safe told reads =
+    let opened = opened-by state c handed old new has same told reads in
+    let tells : IsTrue (state new.flash).told = same.told_is ∙ has.loaded.stops.told ∙ told in
+    record {
+      cells = has.reads tells opened;
+      images = λ m image above most there. ((safe tells m image (subst (λ (k : Counts). k.moment < m) (sym (handed-is state c handed old new has same)) above) most there).apart opened).read;
+    }
+
+-- it began with room where the image was roomy
+began-by : {F : Type 0} (state : F → FlashState) (c : DriveConfig) (handed : F) (old new : Seen F) → HasServed state c handed old new → IsSameDrive state old new → IsTrue (state handed).told → IsRoomyImage new.book.config (state handed).cells → BeganRoomy (state new.flash).told new.book
+began-by state c handed old new has same told roomy =
+    let is = config-is state c handed old new has same in
+    let tells : (state new.flash).told ≡ (state handed).told = same.told_is ∙ has.loaded.stops.told in
+    let was : BeganRoomy (state handed).told old.book = has.loaded.roomy told (subst (λ (x : DriveConfig). IsRoomyImage x (state handed).cells) is roomy) in
+    ⊎_elim
+    (λ (fresh : IsFalse old.book.found.is_image). inl (ap (λ (f : Found). f.is_image) same.found_is ∙ fresh))
+    (λ (image : IsTrue (state handed).told × IsRoomyImage old.book.config old.book.opened).
+    inr (tells ∙ told, subst (λ (x : DriveConfig). IsRoomyImage x new.book.opened) (sym same.config_is) (subst (IsRoomyImage old.book.config) (sym same.opened_is) image.1)))
+    was
+
+-- with one group each write had room, where it began with room and no call failed
+fits-by : {F : Type 0} (state : F → FlashState) (c : DriveConfig) (handed : F) (old new : Seen F) → HasServed state c handed old new → IsSameDrive state old new → IsPrefix old.book.entries new.book.entries
+    → new.book.config.groups ≡ 1 → BeganRoomy (state new.flash).told new.book → (Rose new.handed.faults (state new.flash).faults → ⊥) → IsFalse (list_any exceeds_capacity new.book.entries)
+fits-by state c handed old new has same goes_on one began well =
+    unfailing-fits new.handed (state new.flash) old.book new.book has.loaded.order same.config_is same.found_is has.loaded.entries_are goes_on.0 goes_on.1 has.legal has.counted has.worn began well one
 
 -- its session
 run_by : {F : Type 0} (state : F → FlashState) (c : DriveConfig) (traces : List (List Command)) (receipts : List (List Receipt)) (end : End) (handed given : F) (old new : Seen F) → HasServed state c handed old new → given ≡ new.flash → IsSession state old new traces receipts end →
@@ -121,9 +176,15 @@ run_by {F} state c traces receipts end handed given old new has same served =
         unfailing = λ reliable. served.unfailing (served.same.reliable_is ∙ has.loaded.stops.reliable ∙ reliable) ∙ ap (λ (k : Counts). k.faults) is;
         cells = has.cells;
         apart = has.apart;
+        opened = opened-by state c handed old new has served.same;
+        isolated = stays-isolated state c handed old new has served.same served.safe;
+        began = began-by state c handed old new has served.same;
+        worn = subst (λ (k : Counts). WearsByFailure k.faults (state new.flash).faults (state new.flash).told new.book) is has.worn;
+        roomy = λ told. subst (λ (k : Counts). StaysRoomy k.faults (state new.flash).faults (state new.flash).told new.book (state new.flash).cells) is (has.roomy told);
+        fits = λ one began well. fits-by state c handed old new has served.same served.goes_on one began (subst (λ (k : Counts). Rose k.faults (state new.flash).faults → ⊥) (sym is) well);
         firm = has.firm;
         stands = has.stands;
-        stops = subst (λ (k : Counts). IsSafeSince k.moment (state new.flash) new.book.config new.book.found new.book.entries) is served.safe;
+        stops = subst (λ (k : Counts). IsSafeSince k.moment (state new.flash) new.book) is served.safe;
       };
     }
 

@@ -1,28 +1,42 @@
 -- One drive on its flash, from the flash that is handed in to the end of the traces.
-use Rattle.std.specs.Prelude.{◌≡◌, IsTrue, List}
+use Rattle.std.specs.Prelude.{◌≡◌, ℕ, ◌<◌, ◌≤◌, IsFalse, IsTrue, List}
+use Rattle.std.specs.List.{list_any}
 use Rattle.fdp_base.specs.declared.command.Command.{Command}
 use Rattle.fdp_base.specs.declared.config.DriveConfig.{DriveConfig}
 use Rattle.fdp_base.specs.declared.entry.Entry.{Entry}
+use Rattle.fdp_base.specs.Counts.{Rose}
 use Rattle.fdp_drive.specs.fdp_board.Board.{AreCharged, IsSafeSince}
 use Rattle.fdp_drive.specs.fdp_book.Book.{point_in}
 use Rattle.fdp_drive.specs.fdp_core.Loading.{IsLoaded}
 use Rattle.fdp_drive.specs.fdp_core.Seen.{HoldsHistory, IsLegalOver, Seen}
 use Rattle.fdp_drive.specs.Session.{HoldsTraces, IsSession, KeepsOrders, OnlyThese}
+use Rattle.fdp_flash.specs.declared.cell.Cell.{Cell}
 use Rattle.fdp_flash.specs.FlashState.{FlashState}
 use Rattle.fdp_image.specs.Kept.{AreFirm, StandsForBeginning}
 use Rattle.fdp_drive.specs.fdp_isolation.Begun.{OpenedApart}
 use Rattle.fdp_drive.specs.fdp_isolation.Isolated.{IsIsolatedDrive}
+use Rattle.fdp_drive.specs.fdp_survival.Apart.{ReadsIsolated}
 use Rattle.fdp_drive.specs.fdp_ledger.Counted.{CountedSince, counts_of}
 use Rattle.fdp_drive.specs.fdp_ledger.Start.{start_of}
+use Rattle.fdp_drive.specs.fdp_roominess.Capacity.{exceeds_capacity}
+use Rattle.fdp_drive.specs.fdp_roominess.Run.{BeganRoomy, IsRoomyImage, StaysRoomy, WearsByFailure}
 use Rattle.fdp_rules.specs.History.{Found}
 use Rattle.fdp_drive.specs.fdp_workers.declared.ends.End.{End}
 use Rattle.fdp_drive.specs.fdp_workers.declared.ends.End.TheVariants as ends
 use Rattle.fdp_drive.specs.fdp_workers.declared.receipt.Receipt.{Receipt}
 
+-- whatever the cells that are given back read as, they are an isolated image by that, and so is whatever a stop in a call since may have left
+pub record StaysIsolated (c : DriveConfig) (handed given : FlashState) : Type 0 where
+  pub cells : ReadsIsolated c given.cells
+  pub images : (m : ℕ) (image : List Cell) → handed.moment < m → m ≤ given.moment → given.during m image → ReadsIsolated c image
+
 -- what the flash that is given back is to the history of its drive: it counted what the history tells since it was handed in, each media error has the moment
 -- of one of its calls that failed, and none did where it promises that; it holds what the history put into its pages, and data stands apart there. Where
 -- it tells its cells, these stand for a beginning of the history in which each completed change is: what the next run goes on from. Whatever a stop in
--- a call of the run may have left stands for a beginning with each change that was completed at an earlier moment
+-- a call of the run may have left stands for a beginning with each change that was completed at an earlier moment, and data stands apart there as well.
+-- Where the flash that was handed in was isolated, whatever it read as, what was opened keeps data apart, and the flash stays isolated. Where it was roomy,
+-- the run began with room; one that did wore a group only where a call failed, and where none did it leaves a roomy image, and with one group
+-- it ended no command with Capacity Exceeded
 pub record HoldsRecord {F : Type 0} (state : F → FlashState) (handed : F) (group : Seen F) : Type 0 where
   pub told_is : (state group.flash).told ≡ (state handed).told
   pub counted : CountedSince (counts_of (state handed)) (state group.flash) (start_of group.book) group.book.entries
@@ -30,9 +44,15 @@ pub record HoldsRecord {F : Type 0} (state : F → FlashState) (handed : F) (gro
   pub unfailing : IsTrue (state handed).reliable → (state group.flash).faults ≡ (state handed).faults
   pub cells : HoldsHistory (state group.flash) group.book
   pub apart : IsTrue (state group.flash).told → OpenedApart group.book.config group.book.found group.book.opened → IsIsolatedDrive group.book.config (point_in group.book) group.book.entries (state group.flash).cells
+  pub opened : IsTrue (state handed).told → ReadsIsolated group.book.config (state handed).cells → OpenedApart group.book.config group.book.found group.book.opened
+  pub isolated : IsTrue (state handed).told → ReadsIsolated group.book.config (state handed).cells → StaysIsolated group.book.config (state handed) (state group.flash)
+  pub began : IsTrue (state handed).told → IsRoomyImage group.book.config (state handed).cells → BeganRoomy (state group.flash).told group.book
+  pub worn : WearsByFailure (state handed).faults (state group.flash).faults (state group.flash).told group.book
+  pub roomy : IsTrue (state group.flash).told → StaysRoomy (state handed).faults (state group.flash).faults (state group.flash).told group.book (state group.flash).cells
+  pub fits : group.book.config.groups ≡ 1 → BeganRoomy (state group.flash).told group.book → (Rose (state handed).faults (state group.flash).faults → ⊥) → IsFalse (list_any exceeds_capacity group.book.entries)
   pub firm : AreFirm group.book.entries group.keeper.firm
   pub stands : IsTrue (state group.flash).told → StandsForBeginning group.book.config group.book.found group.book.entries group.keeper.firm (state group.flash).cells
-  pub stops : IsSafeSince (state handed).moment (state group.flash) group.book.config group.book.found group.book.entries
+  pub stops : IsSafeSince (state handed).moment (state group.flash) group.book
 
 -- A drive of this configuration was opened on this flash, or made there, and served the traces to this end, with hosts and collectors beside one another. What
 -- it began with is what the image stood for; its history since is legal, and in it each queue has completed a beginning of its trace, in order, each command

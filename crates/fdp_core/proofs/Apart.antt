@@ -18,17 +18,22 @@ use Rattle.fdp_relocation.specs.fdp_book.Shutting.{ShutsAndEnds}
 use Rattle.fdp_relocation.specs.fdp_book.Steps.{Completes, Places, Starts}
 use Rattle.fdp_relocation.specs.fdp_book.Tickets.{IsNextSpot, IsTicketOf}
 use Rattle.fdp_relocation.specs.fdp_collector.declared.step.Step.{Step}
-use Rattle.fdp_core.specs.Seen.{HoldsHistory, KeepsApart}
+use Rattle.fdp_core.specs.Seen.{HoldsHistory}
+use Rattle.fdp_core.specs.Sound.{IsSound, IsWhole}
+use Rattle.fdp_core.specs.Stops.{IsSafeNow}
 use Rattle.fdp_core.proofs.Sound.{IsSameFlash, begun, same-flash}
 use Rattle.fdp_flash.specs.Cells.{ProgramMayLeave}
 use Rattle.fdp_flash.specs.FlashState.{FlashState}
-use Rattle.fdp_loading.specs.fdp_isolation.Isolated.{IsIsolatedDrive}
+use Rattle.fdp_loading.specs.fdp_survival.Books.{KeepsApart, KeepsIsolated}
 use Rattle.fdp_loading.specs.fdp_isolation.Laned.{AreLaned, IsKnown, StandsOver}
 use Rattle.fdp_loading.proofs.fdp_isolation.Answered.{laned-answered, laned-commanded, laned-committed, laned-set}
 use Rattle.fdp_loading.proofs.fdp_isolation.Keeping.{FillsNoMore, FillsNone}
 use Rattle.fdp_loading.proofs.fdp_isolation.Moved.{laned-moved}
 use Rattle.fdp_loading.proofs.fdp_isolation.Placed.{laned-placed, laned-shut}
-use Rattle.fdp_loading.proofs.fdp_isolation.Promised.{isolated}
+use Rattle.fdp_loading.specs.fdp_survival.Apart.{ReadsIsolated}
+use Rattle.fdp_loading.proofs.fdp_survival.Steps.{cells-apart, keeps-isolated}
+use Rattle.fdp_loading.specs.fdp_ledger.declared.counts.Counts.{Counts}
+use Rattle.fdp_relocation.specs.fdp_keeper.Keeper.{KeeperSeen}
 use Rattle.fdp_loading.proofs.fdp_isolation.Relocated.{laned-relocated}
 use Rattle.fdp_loading.proofs.fdp_isolation.Started.{laned-started}
 use Rattle.fdp_relocation.specs.fdp_locations.Stored.{HoldsWritten}
@@ -97,8 +102,17 @@ apart-moved f b d rg known moves h = moved-along f f b d _ (same-flash f) moves.
 stands : (f : FlashState) (b : BookSeen) → f.geometry ≡ geometry_of b.config → IsKnown b → HoldsHistory f b → IsTrue f.told → StandsOver b f.cells
 stands f b geometry known stored tells = record { known = known; holds = subst (λ (g : Geometry). HoldsWritten g f.cells (written_in b) b.pages.units) geometry (stored tells) }
 
-pub apart-isolated : (f : FlashState) (b : BookSeen) → f.geometry ≡ geometry_of b.config → IsKnown b → HoldsHistory f b → KeepsApart f b → IsTrue f.told → OpenedApart b.config b.found b.opened → IsIsolatedDrive b.config (point_in b) b.entries f.cells
-apart-isolated f b geometry known stored h tells opened = isolated b f.cells (stands f b geometry known stored tells) (h tells opened)
+pub sound-isolated : (handed : Counts) (f : FlashState) (b : BookSeen) (block : List ℕ) → IsKnown b → IsSound handed f b block → KeepsIsolated f b
+sound-isolated handed f b block known so = keeps-isolated b f known so.geometry so.stored so.apart
+
+-- what a whole group promises of stops
+pub safe-now : (handed : Counts) (f : FlashState) (b : BookSeen) (k : KeeperSeen) (block : List ℕ) → IsKnown b → IsWhole handed f b k block → IsSafeNow f b k
+safe-now handed f b k block known whole = record { safe = whole.kept.safe; isolated = sound-isolated handed f b block known whole.sound }
+
+-- whatever the cells read as, they are an isolated image
+pub whole-reads : (handed : Counts) (f : FlashState) (b : BookSeen) (k : KeeperSeen) (block : List ℕ) → IsKnown b → IsWhole handed f b k block → IsTrue f.told → OpenedApart b.config b.found b.opened → ReadsIsolated b.config f.cells
+whole-reads handed f b k block known whole told opened =
+    (cells-apart b k.saver k.firm f whole.kept.safe (sound-isolated handed f b block known whole.sound) told opened).read
 
 -- ---- a page of a write
 

@@ -52,6 +52,8 @@ use Rattle.fdp_rules.specs.Answer.{IsSuccess, bare}
 use Rattle.fdp_rules.specs.Change.{is_media_error}
 use Rattle.fdp_rules.specs.Refusal.{refusal_of}
 use Rattle.fdp_rules.specs.Step.{Follows, IsQueue}
+use Rattle.fdp_roominess.proofs.Answered.{room-answered, room-started}
+use Rattle.fdp_roominess.proofs.Runs.{keeps-well}
 
 -- ---- a step that completes a command
 
@@ -72,6 +74,8 @@ sound-answered handed f n b d block queue number command reply moment done so ma
     (ledger-answered handed (begun b) d f n queue number command reply moment done ends owners may.fetches
     (λ error. let t = may.told error in record { fault = t.fault; until = t.until }) was.ledger)
     (apart-answered f n (begun b) d queue number command reply moment done (known-begun b may.known) led may.flash ends owners may.unapplied was.apart)
+    (keeps-well handed.faults f.faults n.faults f.told n.told (begun b) d (host queue number command reply moment ∷ []) ends.step may.flash.told may.fetches.made.run.faults was.room refl
+    (room-answered (begun b) d queue number command reply moment done (known-begun b may.known) led ends owners may.unapplied))
     refl
 
 -- an answer of no media error tells of no failed call
@@ -220,7 +224,8 @@ sound-started handed f b d block queue number command ticket so known led is own
     let was = sound-begun handed f b block so in
     sound-told handed f f (begun b) d e block block was (same-flash f) is.step owners refl (λ _. is.follows f.told)
     (ledger-started handed (begun b) d f queue number command ticket is owners was.ledger)
-    (apart-started f (begun b) d queue number command ticket (known-begun b known) led is owners was.apart) refl
+    (apart-started f (begun b) d queue number command ticket (known-begun b known) led is owners was.apart)
+    (keeps-well handed.faults f.faults f.faults f.told f.told (begun b) d (e ∷ []) is.step refl (omega arith) was.room refl (room-started (begun b) d queue number command ticket (known-begun b known) led is owners)) refl
 
 pub begins-started : {F : Type 0} (state : F → FlashState) (old new : Seen F) (queue number : ℕ) (command : Command) (ticket : Ticket) → 0 < old.book.spare → new.handed ≡ old.handed → new.flash ≡ old.flash →
     refusal_of old.book.config (point_in old.book) command ≡ None → book.Starts (begun old.book) new.book queue number command ticket → Starts state old new queue number command ticket

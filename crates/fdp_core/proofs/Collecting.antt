@@ -22,12 +22,13 @@ use Rattle.fdp_relocation.specs.fdp_saving.declared.saved.Saved.TheVariants as s
 use Rattle.fdp_relocation.specs.Collected.{Collects}
 use Rattle.fdp_core.specs.Advancing.{Advances, ComesTo, MovesCopies, TellsMore}
 use Rattle.fdp_loading.specs.fdp_survival.Books.{IsSafe}
-use Rattle.fdp_core.specs.Stops.{Outlasts, OutlastsStops}
+use Rattle.fdp_core.specs.Stops.{IsSafeNow, Outlasts, OutlastsStops}
 use Rattle.fdp_rules.specs.PlainState.{PlainState}
 use Rattle.fdp_relocation.specs.fdp_saving.declared.saved.Saved.{Saved}
 use Rattle.fdp_core.proofs.Rooms.{begun_seen}
 use Rattle.fdp_core.proofs.Outlasting.{outlasts-all}
 use Rattle.fdp_core.proofs.Wholes.{unbegun}
+use Rattle.fdp_roominess.proofs.Runs.{keeps-alike}
 
 -- ---- the step, or none
 
@@ -69,7 +70,7 @@ grown-kept b d es longer less spare =
     }
 
 pub sound-cancelled : (handed : Counts) (f : FlashState) (d : BookSeen) (block : List ℕ) → IsSound handed f d block → IsSound handed f (cancelled d) block
-sound-cancelled handed f d block so = record { geometry = so.geometry; legal = so.legal; stored = so.stored; apart = λ tells opened. laned-alike d (cancelled d) f.cells refl refl refl refl (so.apart tells opened); ledger = ledger-alike handed d (cancelled d) f refl refl refl refl refl so.ledger; buffer = so.buffer }
+sound-cancelled handed f d block so = record { geometry = so.geometry; legal = so.legal; stored = so.stored; apart = λ tells opened. laned-alike d (cancelled d) f.cells refl refl refl refl (so.apart tells opened); ledger = ledger-alike handed d (cancelled d) f refl refl refl refl refl so.ledger; room = keeps-alike handed.faults f.faults f.told d (cancelled d) refl refl refl refl refl so.room; buffer = so.buffer }
 
 -- a step that added nothing may still move
 pub may-still : {F : Type 0} (state : F → FlashState) (old mid : Seen F) (rg : ℕ) (x : Advance) → Collects state (stage_of old) (stage_of mid) rg x → old.book.may_move ≡ true → old.book.room ≡ 300 → (mid.book.room == 300) ≡ true → IsTrue mid.book.may_move
@@ -134,5 +135,5 @@ pub from-begun : {F : Type 0} (old : Seen F) (now : BookSeen) (P : Seen F → Ty
 from-begun old now P is h = subst (λ (b : BookSeen). P (record { book = b; keeper = old.keeper; handed = old.handed; flash = old.flash })) is h
 
 -- a whole step outlasts stops as what was done within it
-pub collect-stops : {F : Type 0} (state : F → FlashState) (old mid : Seen F) (now : BookSeen) → now ≡ begun old.book → Outlasts state (record { book = now; keeper = old.keeper; handed = old.handed; flash = old.flash }) mid → IsSafe old.book old.keeper.saver old.keeper.firm (state old.flash) → IsSafe mid.book mid.keeper.saver mid.keeper.firm (state mid.flash) → OutlastsStops state old mid
-collect-stops state old mid now is h was safe = unbegun state old mid (outlasts-all state (begun_seen old) mid was.firm_is safe (from-begun old now (λ s. Outlasts state s mid) is h))
+pub collect-stops : {F : Type 0} (state : F → FlashState) (old mid : Seen F) (now : BookSeen) → now ≡ begun old.book → Outlasts state (record { book = now; keeper = old.keeper; handed = old.handed; flash = old.flash }) mid → IsSafe old.book old.keeper.saver old.keeper.firm (state old.flash) → IsSafeNow (state mid.flash) mid.book mid.keeper → OutlastsStops state old mid
+collect-stops state old mid now is h was safe = unbegun state old mid (outlasts-all state (begun_seen old) mid was.at.firm_is safe (from-begun old now (λ s. Outlasts state s mid) is h))

@@ -1,5 +1,5 @@
 -- A command other than a write: what stands behind the step that saved its change and made it, could not save it, or answered it.
-use Rattle.std.proofs.Common.{◌≡◌, ℕ, ◌+◌, ◌<◌, ◌≤◌, Bool, true, false, List, [], Option, refl, sym, subst, arith}
+use Rattle.std.proofs.Common.{◌≡◌, ℕ, ◌+◌, ◌<◌, ◌≤◌, Bool, true, false, List, [], ◌∷◌, Option, refl, sym, subst, arith}
 use Rattle.std.specs.Prelude.{IsTrue}
 use Rattle.std.specs.List.{count_by}
 use Rattle.std.proofs.lemmas.Bool.{false≢true}
@@ -20,7 +20,7 @@ use Rattle.fdp_relocation.specs.fdp_book.Steps as book
 use Rattle.fdp_relocation.proofs.fdp_book.Histories.Commanded.{effect-follows, unmade-follows, unsure-follows}
 use Rattle.fdp_relocation.proofs.fdp_book.Longer.{written-one}
 use Rattle.fdp_calls.specs.Calls.{counted_more}
-use Rattle.fdp_core.specs.Seen.{HasMoments, HoldsHistory, KeepsApart}
+use Rattle.fdp_core.specs.Seen.{HasMoments, HoldsHistory}
 use Rattle.fdp_core.specs.Sound.{IsSound, IsWhole}
 use Rattle.fdp_core.specs.Steps as steps
 use Rattle.fdp_core.specs.Stops.{OutlastsStops}
@@ -51,8 +51,10 @@ use Rattle.fdp_rules.specs.Change.{is_media_error}
 use Rattle.fdp_rules.specs.Step.{Follows}
 use Rattle.fdp_relocation.specs.fdp_saving.declared.saved.Saved.TheVariants as savings
 use Rattle.fdp_relocation.proofs.fdp_saving.Failing.{doubtful_failed, saved_well}
-use Rattle.fdp_loading.specs.fdp_survival.Books.{IsInOrder}
+use Rattle.fdp_loading.specs.fdp_survival.Books.{IsInOrder, KeepsApart}
 use Rattle.fdp_loading.proofs.fdp_survival.Units.{GoOn, left-go, recounted-go}
+use Rattle.fdp_roominess.proofs.Answered.{room-answered, room-applied}
+use Rattle.fdp_roominess.proofs.Runs.{keeps-well}
 
 -- ---- what a change does to the pages
 
@@ -151,6 +153,7 @@ sound-applied handed n b d block queue number command reply done so known led ot
     follows
     (ledger-commanded handed b d n n queue number command reply n.moment done ends left.free (no-fetches n) (λ error. record { fault = fault error; until = omega arith }) so.ledger)
     (apart-applied n b d queue number command reply n.moment done known led ends applies other made so.apart)
+    (keeps-well handed.faults n.faults n.faults n.told n.told b d (host queue number command reply n.moment ∷ []) ends.step refl (omega arith) so.room refl (room-applied b.config command b.pages d.pages known.joined other applies))
     refl
 
 -- ---- it was saved
@@ -218,7 +221,9 @@ module _ {F : Type 0} (state : F → FlashState) (x y : F) (handed : Counts) (b 
       (λ moments. unmade-follows n.told b queue number command n.moment may (unmade-fault.new (moments refl)))
       (ledger-answered handed (begun b) d n n queue number command (bare statuses.WRITE_FAULT false) n.moment done ends owners (no-fetches n) (λ error. record { fault = unmade-fault.fault; until = omega arith }) so.ledger)
       (apart-answered n n (begun b) d queue number command (bare statuses.WRITE_FAULT false) n.moment done (known-begun b order.known) then_order.known.led (same-flash n) ends owners refl so.apart)
+      (keeps-well handed.faults n.faults n.faults n.told n.told (begun b) d (host queue number command (bare statuses.WRITE_FAULT false) n.moment ∷ []) ends.step refl (omega arith) so.room refl
+      (room-answered (begun b) d queue number command (bare statuses.WRITE_FAULT false) n.moment done (known-begun b order.known) then_order.known.led ends owners refl))
       refl
 
   pub command-unmade : IsWhole handed (state y) d l block × OutlastsStops state (record { book = b; keeper = k; handed = handed; flash = x }) (record { book = d; keeper = l; handed = handed; flash = y })
-  command-unmade = unmade-whole state x y handed b d k l block queue number command e moment done order whole keeps ends owners unmade-sound
+  command-unmade = unmade-whole state x y handed b d k l block queue number command e moment done order whole keeps ends owners then_order.known unmade-sound

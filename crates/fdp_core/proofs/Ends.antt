@@ -31,6 +31,8 @@ use Rattle.fdp_rules.specs.PlainState.{Going}
 use Rattle.fdp_rules.specs.Step.{Follows, IsEnd}
 use Rattle.fdp_flash.proofs.Runs.{no_run}
 use Rattle.fdp_calls.specs.Media.{IsReadFrom}
+use Rattle.fdp_roominess.proofs.Answered.{room-answered}
+use Rattle.fdp_roominess.proofs.Runs.{keeps-well}
 
 -- the end of a going write may follow
 pub may-follow : (f : FlashState) (b : BookSeen) (ticket : Ticket) (g : Going) (reply : Reply) → IsOrderly b.config (point_in b) → IsTicketOf (state_in b) ticket g → ((IsTrue (is_media_error reply.status) → HasMoments f) → IsEnd f.told b.config (point_in b) g reply f.moment) → (IsTrue (is_media_error reply.status) → HasMoments f) → Follows f.told b.config (point_in b) (host ticket.queue g.number g.command reply f.moment)
@@ -54,6 +56,8 @@ sound-ended handed f b d block ticket g reply done so known led is may fault una
     (may-follow f b ticket g reply known.orderly is may)
     (ledger-answered handed b d f f ticket.queue g.number g.command reply f.moment done ends owners (no-fetches f) (λ error. record { fault = fault error; until = omega arith }) so.ledger)
     (apart-answered f f b d ticket.queue g.number g.command reply f.moment done known led (same-flash f) ends owners unapplied so.apart)
+    (keeps-well handed.faults f.faults f.faults f.told f.told b d (host ticket.queue g.number g.command reply f.moment ∷ []) ends.step refl (omega arith) so.room refl
+    (room-answered b d ticket.queue g.number g.command reply f.moment done known led ends owners unapplied))
     refl
 
 -- a step that only ends a write, and calls no flash

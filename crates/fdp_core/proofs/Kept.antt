@@ -23,6 +23,7 @@ use Rattle.fdp_core.proofs.Sound.{begun}
 use Rattle.fdp_relocation.specs.fdp_durability.Saved.{SavesDrive, SavesEntry, SettlesDrive}
 use Rattle.fdp_flash.specs.declared.answer.Wrote.{Wrote}
 use Rattle.fdp_flash.specs.declared.answer.Wrote.TheVariants as wrote
+use Rattle.fdp_flash.specs.declared.cell.Cell.{Cell}
 use Rattle.fdp_flash.specs.FlashState.{FlashState}
 use Rattle.fdp_history.specs.Orderly.{IsOrderly}
 use Rattle.fdp_history.specs.Standing.{IsStanding}
@@ -52,7 +53,7 @@ use Rattle.fdp_relocation.specs.fdp_saving.Saving.{EndsCheckpoint, EndsSaving}
 use Rattle.fdp_relocation.proofs.fdp_saving.Joined.{ready_sure}
 use Rattle.fdp_snapshot.specs.declared.state.Summary.{Summary}
 use Rattle.fdp_loading.specs.fdp_survival.Books.{IsInOrder, IsSafe}
-use Rattle.fdp_loading.specs.fdp_survival.Safe.{IsSafeAt}
+use Rattle.fdp_loading.specs.fdp_survival.Safe.{IsSafeApart}
 
 no : true ≡ false → ⊥
 no e = cc
@@ -171,8 +172,8 @@ kept-over handed f n b k was later safe = record {
 }
 
 -- a book with other counts of steps
-pub kept-alike : (handed : Counts) (f : FlashState) (b d : BookSeen) (k : KeeperSeen) → d.config ≡ b.config → d.found ≡ b.found → d.entries ≡ b.entries → d.pages ≡ b.pages → k.saver.stamp.epoch ≤ 2 ^ 62 + length d.entries + d.spent → IsKept handed f b k → IsKept handed f d k
-kept-alike handed f b d k config found entries_are pages epochs was = record {
+pub kept-alike : (handed : Counts) (f : FlashState) (b d : BookSeen) (k : KeeperSeen) → d.config ≡ b.config → d.found ≡ b.found → d.opened ≡ b.opened → d.entries ≡ b.entries → d.pages ≡ b.pages → k.saver.stamp.epoch ≤ 2 ^ 62 + length d.entries + d.spent → IsKept handed f b k → IsKept handed f d k
+kept-alike handed f b d k config found opened entries_are pages epochs was = record {
   keeper = record {
     geometry = was.keeper.geometry ∙ ap geometry_of (sym config);
     outline =
@@ -181,10 +182,11 @@ kept-alike handed f b d k config found entries_are pages epochs was = record {
         (subst (λ (xs : List Entry). IsOutlineOf b.config (drawn b.config (point_of b.config b.found xs)) k.summary) (sym entries_are) was.keeper.outline));
   };
   safe =
-      subst (λ (t : PageTables). IsSafeAt d.config d.found d.entries t.units k.saver k.firm f) (sym pages)
-      (subst (λ (c : DriveConfig). IsSafeAt c d.found d.entries b.pages.units k.saver k.firm f) (sym config)
-      (subst (λ (x : Found). IsSafeAt b.config x d.entries b.pages.units k.saver k.firm f) (sym found)
-      (subst (λ (xs : List Entry). IsSafeAt b.config b.found xs b.pages.units k.saver k.firm f) (sym entries_are) was.safe)));
+      subst (λ (t : PageTables). IsSafeApart d.config d.found d.opened d.entries t.units k.saver k.firm f) (sym pages)
+      (subst (λ (c : DriveConfig). IsSafeApart c d.found d.opened d.entries b.pages.units k.saver k.firm f) (sym config)
+      (subst (λ (x : Found). IsSafeApart b.config x d.opened d.entries b.pages.units k.saver k.firm f) (sym found)
+      (subst (λ (cells : List Cell). IsSafeApart b.config b.found cells d.entries b.pages.units k.saver k.firm f) (sym opened)
+      (subst (λ (xs : List Entry). IsSafeApart b.config b.found b.opened xs b.pages.units k.saver k.firm f) (sym entries_are) was.safe))));
   epochs = epochs;
   doubt = was.doubt;
 }

@@ -1,6 +1,7 @@
 -- passed on to the crates above
 pub use Rattle.fdp_loading.proofs.fdp_durability as fdp_durability
 pub use Rattle.fdp_loading.proofs.fdp_outline as fdp_outline
+pub use Rattle.fdp_loading.proofs.fdp_survival as fdp_survival
 pub mod Advancing
 pub mod Apart
 pub mod Begins
@@ -31,5 +32,8 @@ pub mod Saves
 pub mod Silence
 pub mod Sound
 pub mod Storing
+pub mod Unfailing
 pub mod Views
 pub mod Wholes
+pub mod Roomy
+pub mod RoomySteps

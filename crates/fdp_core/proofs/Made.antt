@@ -15,6 +15,7 @@ use Rattle.fdp_core.specs.Seen.{HasMoments, Seen}
 use Rattle.fdp_core.specs.Sound.{IsKept, IsSound, IsWhole}
 use Rattle.fdp_core.specs.Steps as steps
 use Rattle.fdp_core.specs.Stops.{OutlastsStops}
+use Rattle.fdp_core.proofs.Apart.{sound-isolated}
 use Rattle.fdp_core.proofs.Called.{last-failed}
 use Rattle.fdp_core.proofs.Grown.{completes, host}
 use Rattle.fdp_core.proofs.Ends.{no-read}
@@ -25,7 +26,7 @@ use Rattle.fdp_core.proofs.Places.{moment-new}
 use Rattle.fdp_core.proofs.Refusals.{uncompleted}
 use Rattle.fdp_core.proofs.Relocated.{sound-prefix}
 use Rattle.fdp_core.proofs.Sound.{begun, sound-begun}
-use Rattle.fdp_core.proofs.Wholes.{answered-kept, entry-stops, low-faults, order-begun}
+use Rattle.fdp_core.proofs.Wholes.{answered-kept, entry-stops, low-faults, order-begun, whole-begun}
 use Rattle.fdp_relocation.specs.fdp_durability.Firm as durable
 use Rattle.fdp_relocation.specs.fdp_durability.Saved.{firm_with}
 use Rattle.fdp_relocation.proofs.fdp_durability.Owed.{unowed-late}
@@ -33,6 +34,7 @@ use Rattle.fdp_flash.specs.Failing.{FailsLast}
 use Rattle.fdp_flash.specs.FlashState.{FlashState}
 use Rattle.fdp_image.specs.Kept.{is_owed}
 use Rattle.fdp_relocation.specs.fdp_keeper.Keeper.{KeeperSeen, KeepsEntry}
+use Rattle.fdp_loading.specs.fdp_isolation.Laned.{IsKnown}
 use Rattle.fdp_loading.specs.fdp_ledger.declared.counts.Counts.{Counts}
 use Rattle.fdp_loading.specs.fdp_ledger.Ledger.{IsLedger}
 use Rattle.fdp_loading.specs.fdp_ledger.Told.{is_media_reply, tells_failure}
@@ -44,9 +46,10 @@ use Rattle.fdp_rules.specs.Step.{IsNewMoment}
 use Rattle.fdp_relocation.specs.fdp_saving.declared.saved.Saved.{Saved}
 use Rattle.fdp_relocation.specs.fdp_saving.declared.saved.Saved.TheVariants as savings
 use Rattle.fdp_relocation.proofs.fdp_saving.Failing.{unsaved_failed}
-use Rattle.fdp_loading.specs.fdp_survival.Books.{IsInOrder, IsSafe}
+use Rattle.fdp_loading.specs.fdp_survival.Books.{IsInOrder, IsSafe, KeepsIsolated}
 use Rattle.fdp_loading.proofs.fdp_survival.Steps.{safe-not-saved, safe-saved, survives-not-saved, survives-saved}
 use Rattle.fdp_loading.proofs.fdp_survival.Units.{GoOn}
+use Rattle.fdp_core.proofs.Roomy.{leaves-failed, leaves-saving}
 
 -- ---- calls that failed at last
 
@@ -88,11 +91,17 @@ module _ {F : Type 0} (state : F → FlashState) (x y : F) (handed : Counts) (b 
   abbrev after : Seen F
   after = record { book = d; keeper = l; handed = handed; flash = y }
 
+  apart-before : KeepsIsolated (state x) b
+  apart-before = sound-isolated handed (state x) b block order.known whole.sound
+
   module _ (go : GoOn b.pages.units d.pages.units) (so : IsSound handed (state y) d block) where
+    apart-then : KeepsIsolated (state y) d
+    apart-then = sound-isolated handed (state y) d block then_order.known so
+
     made-safe : (answer ≢ savings.Done → IsFalse (durable.completes change)) → IsSafe d l.saver l.firm (state y)
     made-safe none =
         subst (λ (firm : ℕ). IsSafe d l.saver firm (state y)) (sym keeps.firm_is)
-        (safe-saved (begun b) d change k.saver l.saver k.firm (state x) (state y) answer (order-begun b order) whole.sound.geometry whole.sound.stored whole.kept.safe keeps.saves then_order ends.step go so.stored none)
+        (safe-saved (begun b) d change k.saver l.saver k.firm (state x) (state y) answer (order-begun b order) whole.sound.geometry whole.sound.stored apart-before whole.kept.safe keeps.saves then_order ends.step go so.stored apart-then none)
 
     made-kept : ((moment : ℕ) → answer ≢ savings.Unsaved moment) → IsSafe d l.saver l.firm (state y) → IsKept handed (state y) d l
     made-kept made safe =
@@ -100,17 +109,18 @@ module _ {F : Type 0} (state : F → FlashState) (x y : F) (handed : Counts) (b 
         (record { saves = keeps.saves; outline = keeps.outline; geometry = keeps.geometry; firm_is = keeps.firm_is }) safe
 
     firm-up : (z : Saved) → k.firm ≤ firm_with b.entries change k.firm z
-    firm-up savings.Done = let size = length-append b.entries (change ∷ []) in omega (arith, whole.kept.safe.within, size)
+    firm-up savings.Done = let size = length-append b.entries (change ∷ []) in omega (arith, whole.kept.safe.at.within, size)
     firm-up (savings.Doubtful moment) = omega arith
     firm-up (savings.Unsaved moment) = omega arith
 
     made-stops : IsSafe d l.saver l.firm (state y) → OutlastsStops state before after
     made-stops safe =
         let P : Entry → Type 0 = λ e. IsFalse (is_owed (state y).moment e) in
-        outlasts-stops state before after (change ∷ []) ends.step.config_is ends.step.found_is ends.step.entries_are whole.kept.safe.firm_is
+        outlasts-stops state before after (change ∷ []) ends.step.config_is ends.step.found_is ends.step.opened_is ends.step.entries_are whole.kept.safe.at.firm_is
         (All-cons P change [] (unowed-late (state y).moment (record { queue = queue; number = number; command = command; reply = reply; moment = (state y).moment }) (omega arith)) (All-nil P))
-        (survives-saved (begun b) d change k.saver l.saver k.firm (state x) (state y) answer (order-begun b order) whole.sound.geometry whole.sound.stored whole.kept.safe keeps.saves then_order ends.step go so.stored)
-        safe (subst (λ (n : ℕ). k.firm ≤ n) (sym keeps.firm_is) (firm-up answer))
+        (survives-saved (begun b) d change k.saver l.saver k.firm (state x) (state y) answer (order-begun b order) whole.sound.geometry whole.sound.stored apart-before whole.kept.safe keeps.saves then_order ends.step go so.stored apart-then)
+        (record { safe = safe; isolated = apart-then }) (subst (λ (n : ℕ). k.firm ≤ n) (sym keeps.firm_is) (firm-up answer))
+        (leaves-saving handed (state x) (state y) (begun b) k block (order-begun b order).known (whole-begun handed (state x) b k block whole) keeps.saves.calls.made.run.faults change d then_order.known so.room keeps.saves.calls.made.run.told ends.step l.saver answer keeps.saves)
 
     pub made-whole : ((moment : ℕ) → answer ≢ savings.Unsaved moment) → (answer ≢ savings.Done → IsFalse (durable.completes change)) → IsWhole handed (state y) d l block × OutlastsStops state before after
     made-whole made none = let safe = made-safe none in (record { sound = so; kept = made-kept made safe }, made-stops safe)
@@ -142,21 +152,25 @@ module _ {F : Type 0} (state : F → FlashState) (x y : F) (handed : Counts) (b 
   abbrev answer : Entry
   answer = host queue number command (bare statuses.WRITE_FAULT false) (state y).moment
 
+  apart-old : KeepsIsolated (state x) b
+  apart-old = sound-isolated handed (state x) b block order.known whole.sound
+
   unmade-before : IsKept handed (state y) b l
   unmade-before =
       kept-not-saved handed (state x) (state y) b e k l moment whole.kept (low-faults handed b (state x) whole.sound.ledger) keeps
-      (subst (λ (firm : ℕ). IsSafe b l.saver firm (state y)) (sym keeps.firm_is) (safe-not-saved b e k.saver l.saver k.firm (state x) (state y) moment order whole.sound.geometry whole.sound.stored whole.kept.safe keeps.saves))
+      (subst (λ (firm : ℕ). IsSafe b l.saver firm (state y)) (sym keeps.firm_is) (safe-not-saved b e k.saver l.saver k.firm (state x) (state y) moment order whole.sound.geometry whole.sound.stored apart-old whole.kept.safe keeps.saves))
 
   unmade-kept : IsKept handed (state y) d l
   unmade-kept =
       answered-kept handed (state y) (state y) (begun b) d queue number command (bare statuses.WRITE_FAULT false) (state y).moment done l (order-begun b order) (kept-begun handed (state y) b l unmade-before) (no-read (state y)) ends refl
       (uncompleted command (bare statuses.WRITE_FAULT false) refl) owners
 
-  pub unmade-whole : IsSound handed (state y) d block → IsWhole handed (state y) d l block × OutlastsStops state (record { book = b; keeper = k; handed = handed; flash = x }) (record { book = d; keeper = l; handed = handed; flash = y })
-  unmade-whole so = (
+  pub unmade-whole : IsKnown d → IsSound handed (state y) d block → IsWhole handed (state y) d l block × OutlastsStops state (record { book = b; keeper = k; handed = handed; flash = x }) (record { book = d; keeper = l; handed = handed; flash = y })
+  unmade-whole then_known so = (
     record { sound = so; kept = unmade-kept },
     entry-stops state (record { book = b; keeper = k; handed = handed; flash = x }) (record { book = d; keeper = l; handed = handed; flash = y }) answer ends.step (uncompleted command (bare statuses.WRITE_FAULT false) refl)
-        (survives-not-saved b e k.saver l.saver k.firm (state x) (state y) moment order whole.sound.geometry whole.sound.stored whole.kept.safe keeps.saves) whole.kept.safe unmade-kept.safe (let same = keeps.firm_is in omega (arith, same)),
+        (survives-not-saved b e k.saver l.saver k.firm (state x) (state y) moment order whole.sound.geometry whole.sound.stored apart-old whole.kept.safe keeps.saves) whole.kept.safe (record { safe = unmade-kept.safe; isolated = sound-isolated handed (state y) d block then_known so }) (let same = keeps.firm_is in omega (arith, same)) refl
+        (leaves-failed handed (state x) (state y) b (low-faults handed b (state x) whole.sound.ledger) keeps.saves.ends.faulted.rose),
   )
 
   pub unmade-completes : 0 < b.spare → steps.Completes state (record { book = b; keeper = k; handed = handed; flash = x }) (record { book = d; keeper = l; handed = handed; flash = y }) [] queue number command keeps.saves.calls.calls done

@@ -1,5 +1,5 @@
 -- A page of a write that was programmed, or not: what saves the drive stands for its history, and no stop in the step loses what was firm.
-use Rattle.std.proofs.Common.{◌≡◌, ℕ, ◌≤◌, ◌<◌, Bool, true, false, List, [], ◌∷◌, ◌-◌, Some, refl, sym, ◌∙◌, ap, subst, arith, length-append}
+use Rattle.std.proofs.Common.{◌≡◌, ℕ, ◌≤◌, ◌<◌, Bool, true, false, List, [], ◌∷◌, ◌-◌, Some, length, refl, sym, ◌∙◌, ap, subst, arith, length-append}
 use Rattle.std.specs.Prelude.{IsFalse, IsTrue}
 use Rattle.std.specs.List.{slice_get}
 use Rattle.std.proofs.lemmas.Bool.{false≢true}
@@ -9,7 +9,7 @@ use Rattle.fdp_base.specs.declared.status.TheConstants.Status as statuses
 use Rattle.fdp_relocation.specs.fdp_book.Steps as book
 use Rattle.fdp_flash.specs.declared.cell.Cell.TheVariants.{Whole}
 use Rattle.fdp_relocation.specs.fdp_saving.declared.saved.Saved.TheVariants as savings
-use Rattle.fdp_relocation.specs.fdp_book.Book.{BookSeen, point_in}
+use Rattle.fdp_relocation.specs.fdp_book.Book.{BookSeen, point_in, state_in}
 use Rattle.fdp_flash.specs.FlashState.{Call, FlashState, IsWellFormed as IsFlashFormed}
 use Rattle.fdp_relocation.specs.fdp_durability.Beginnings.{CanBeSaved}
 use Rattle.fdp_loading.specs.fdp_ledger.declared.counts.Counts.{Counts}
@@ -19,26 +19,28 @@ use Rattle.fdp_calls.specs.Calls.{FailedAt, MakesCalls, program_at}
 use Rattle.fdp_core.specs.Answers.{FailsToPlace}
 use Rattle.fdp_loading.specs.fdp_ledger.Calls.{FailsToProgram}
 use Rattle.fdp_rules.specs.PlainState.{Going}
-use Rattle.fdp_loading.specs.fdp_survival.Books.{IsInOrder, IsSafe, Survives}
+use Rattle.fdp_loading.specs.fdp_survival.Books.{IsInOrder, IsSafe, KeepsIsolated, Survives}
 use Rattle.fdp_core.specs.Sound.{IsKept, IsSound, IsWhole}
 use Rattle.fdp_loading.specs.fdp_isolation.Laned.{IsKnown}
-use Rattle.fdp_relocation.specs.fdp_book.Tickets.{IsNextSpot}
+use Rattle.fdp_loading.specs.fdp_survival.Safe.{IsSafeImage}
+use Rattle.fdp_relocation.specs.fdp_book.Tickets.{IsNextSpot, IsTicketOf}
 use Rattle.fdp_core.proofs.Passing.{IsPrefix, matches-joined, prefix-matches, saving-prefix}
 use Rattle.fdp_calls.specs.Media.{IsProgrammedTo}
 use Rattle.fdp_relocation.specs.fdp_keeper.Keeper.{KeeperSeen, KeepsMade}
 use Rattle.fdp_loading.specs.fdp_ledger.Emptied.{OnlyErasesEmpty}
-use Rattle.fdp_core.specs.Stops.{OutlastsStops}
+use Rattle.fdp_core.specs.Stops.{IsSafeNow, OutlastsStops}
 use Rattle.fdp_flash.specs.Cells.{ProgramMayLeave}
 use Rattle.fdp_flash.specs.Runs.{Runs}
 use Rattle.fdp_image.specs.Saving.{SameDataPages}
 use Rattle.fdp_relocation.specs.fdp_saving.declared.saved.Saved.{Saved}
 use Rattle.fdp_relocation.specs.fdp_book.Shutting.{ShutsAndEnds}
 use Rattle.fdp_base.specs.declared.entry.Spot.{Spot}
-use Rattle.fdp_image.specs.Kept.{StandsForBeginning, is_completed, is_owed}
+use Rattle.fdp_image.specs.Kept.{is_completed, is_owed}
 use Rattle.fdp_relocation.specs.fdp_book.declared.ticket.Ticket.{Ticket}
 use Rattle.fdp_rules.specs.Answer.{bare}
+use Rattle.fdp_core.proofs.Apart.{safe-now}
 use Rattle.fdp_core.proofs.Sound.{begun}
-use Rattle.fdp_loading.proofs.fdp_survival.Steps.{can-failed, safe-page, safe-placed, safe-shut, safe-unplaced, survives-longer, survives-page, survives-shut}
+use Rattle.fdp_loading.proofs.fdp_survival.Steps.{IsNextSpare, can-failed, isolated-unplaced, safe-page, safe-placed, safe-shut, safe-unplaced, survives-longer, survives-page, survives-shut}
 use Rattle.fdp_calls.proofs.Made.{counted_more-none, failed-last}
 use Rattle.fdp_core.proofs.Wholes.{entry-stops, low-faults, order-begun}
 use Rattle.fdp_loading.proofs.fdp_ledger.Blank.{erased-none}
@@ -55,24 +57,26 @@ use Rattle.fdp_core.proofs.Placing.{spot-begun}
 use Rattle.fdp_core.proofs.Refusals.{uncompleted}
 use Rattle.fdp_relocation.proofs.fdp_durability.Owed.{unowed}
 use Rattle.fdp_relocation.specs.fdp_book.declared.ticket.Done.{Done}
+use Rattle.fdp_core.proofs.Roomy.{leaves-failed, leaves-program}
 
 -- ---- it was programmed
 
 module _ {F : Type 0} (state : F → FlashState) (x y : F) (handed : Counts) (b d : BookSeen) (k : KeeperSeen) (block : List ℕ) (ticket : Ticket) (g : Going) (spot : Spot) (spare bytes : List ℕ) (last : Bool) (order : IsInOrder b) (whole : IsWhole handed (state x) b k block)
     (goes : IsNextSpot b ticket g spot) (programmed : IsProgrammedTo (state x) (state y) (page_number (state x).geometry spot) (Whole spare bytes)) (run : Runs (state x) (state y) (λ m image. ProgramMayLeave (state x).geometry (state x).cells spot spare bytes image))
-    (placed : book.Places (begun b) d ticket g spot last) where
+    (placed : book.Places (begun b) d ticket g spot last) (is : IsTicketOf (state_in b) ticket g) (named : IsNextSpare b g spare) where
   page-safe : IsSafe d k.saver k.firm (state y)
   page-safe =
       safe-placed (begun b) d ticket g spot last k.saver k.firm (state y) (order-begun b order) (spot-begun b ticket g spot goes) placed
-      (safe-page b ticket g spot spare bytes k.saver k.firm (state x) (state y) whole.sound.geometry whole.sound.stored goes whole.kept.safe programmed)
+      (safe-page b ticket g spot spare bytes k.saver k.firm (state x) (state y) whole.sound.geometry whole.sound.stored goes order is named whole.sound.apart whole.kept.safe programmed)
 
   pub page-kept : IsKept handed (state y) d k
   page-kept = kept-entry handed (state x) (state y) (begun b) d _ k (order-begun b order) (kept-begun handed (state x) b k whole.kept) placed.step refl (λ pages. (spot-begun b ticket g spot goes).follows true) programmed.kept.faults page-safe
 
-  pub page-stops : OutlastsStops state (record { book = b; keeper = k; handed = handed; flash = x }) (record { book = d; keeper = k; handed = handed; flash = y })
-  page-stops =
+  pub page-stops : IsSafeNow (state y) d k → OutlastsStops state (record { book = b; keeper = k; handed = handed; flash = x }) (record { book = d; keeper = k; handed = handed; flash = y })
+  page-stops now =
       entry-stops state (record { book = b; keeper = k; handed = handed; flash = x }) (record { book = d; keeper = k; handed = handed; flash = y }) _ placed.step refl
-      (survives-page b ticket g spot spare bytes k.saver k.firm (state x) (state y) whole.sound.geometry whole.sound.stored goes whole.kept.safe run) whole.kept.safe page-safe (omega arith)
+      (survives-page b ticket g spot spare bytes k.saver k.firm (state x) (state y) whole.sound.geometry whole.sound.stored goes order is named whole.sound.apart whole.kept.safe run) whole.kept.safe now (omega arith) refl
+      (leaves-program handed (state x) (state y) b k block order.known whole run.faults ticket g spot spare bytes goes run)
 
 -- ---- that failed: the handle is shut, and this is saved
 
@@ -89,7 +93,7 @@ failed-on f m n moment calls failed made = record {
 module _ {F : Type 0} (state : F → FlashState) (x m y : F) (handed : Counts) (b d : BookSeen) (k l : KeeperSeen) (block now : List ℕ) (ticket : Ticket) (g : Going) (spot : Spot) (spare bytes : List ℕ) (moment : ℕ) (done : Done) (answer : Saved)
     (order : IsInOrder b) (then_known : IsKnown d) (whole : IsWhole handed (state x) b k block) (goes : IsNextSpot b ticket g spot) (failed : FailsToProgram (state x) (state m) spot spare bytes)
     (run : Runs (state x) (state m) (λ at image. ProgramMayLeave (state x).geometry (state x).cells spot spare bytes image)) (keeps : KeepsMade b (entries.Shut (record { rg = g.rg; ruh = g.ruh })) k l (state m) (state y) answer)
-    (shuts : ShutsAndEnds (begun b) d ticket g spot statuses.WRITE_FAULT moment done) where
+    (shuts : ShutsAndEnds (begun b) d ticket g spot statuses.WRITE_FAULT moment done) (is : IsTicketOf (state_in b) ticket g) (named : IsNextSpare b g spare) where
   abbrev shut : Entry
   shut = entries.Shut (record { rg = g.rg; ruh = g.ruh })
 
@@ -100,7 +104,10 @@ module _ {F : Type 0} (state : F → FlashState) (x m y : F) (handed : Counts) (
   unsuccessful = uncompleted g.command (bare statuses.WRITE_FAULT false) refl
 
   unplaced : IsSafe b k.saver k.firm (state m)
-  unplaced = safe-unplaced b ticket g spot spare bytes k.saver k.firm (state x) (state m) whole.sound.geometry whole.sound.stored goes whole.kept.safe failed.made.run.told failed.left
+  unplaced = safe-unplaced b ticket g spot spare bytes k.saver k.firm (state x) (state m) whole.sound.geometry whole.sound.stored goes order is named whole.sound.apart whole.kept.safe failed.made.run.told failed.left
+
+  apart-there : KeepsIsolated (state m) b
+  apart-there = isolated-unplaced b ticket g spot spare bytes k.saver k.firm (state x) (state m) whole.sound.geometry whole.sound.stored goes order is named whole.sound.apart whole.kept.safe failed.made.run.told failed.left
 
   middle-geometry : (state m).geometry ≡ geometry_of b.config
   middle-geometry = failed.made.run.geometry ∙ whole.sound.geometry
@@ -119,7 +126,7 @@ module _ {F : Type 0} (state : F → FlashState) (x m y : F) (handed : Counts) (
   shut-safe : IsSafe d l.saver l.firm (state y)
   shut-safe =
       subst (λ (firm : ℕ). IsSafe d l.saver firm (state y)) (sym keeps.firm_is)
-      (safe-shut (begun b) d ticket g spot statuses.WRITE_FAULT moment done k.saver l.saver k.firm (state m) (state y) answer (order-begun b order) can unplaced keeps.saves shuts unsuccessful)
+      (safe-shut (begun b) d ticket g spot statuses.WRITE_FAULT moment done k.saver l.saver k.firm (state m) (state y) answer (order-begun b order) can apart-there unplaced keeps.saves shuts unsuccessful)
 
   shut-kept : IsKept handed (state y) d l
   shut-kept =
@@ -132,22 +139,23 @@ module _ {F : Type 0} (state : F → FlashState) (x m y : F) (handed : Counts) (
   shut-whole so = record { sound = shut-sound so; kept = shut-kept }
 
   firm-up : (z : Saved) → k.firm ≤ firm_with b.entries shut k.firm z
-  firm-up savings.Done = let size = length-append b.entries (shut ∷ []) in omega (arith, whole.kept.safe.within, size)
+  firm-up savings.Done = let size = length-append b.entries (shut ∷ []) in omega (arith, whole.kept.safe.at.within, size)
   firm-up (savings.Doubtful at) = omega arith
   firm-up (savings.Unsaved at) = omega arith
 
-  survives : Survives d k.firm (state x) (state y)
+  survives : Survives d k.firm (length b.entries) (state x) (state y)
   survives =
-      runs_joined (state x) (state m) (state y) (λ at image. StandsForBeginning d.config d.found d.entries k.firm image)
-      (survives-longer (begun b) d (shut ∷ ended ∷ []) k.firm (state x) (state m) shuts.completes.step (survives-page b ticket g spot spare bytes k.saver k.firm (state x) (state m) whole.sound.geometry whole.sound.stored goes whole.kept.safe run))
-      (survives-shut (begun b) d ticket g spot statuses.WRITE_FAULT moment done k.saver l.saver k.firm (state m) (state y) answer (order-begun b order) can unplaced keeps.saves shuts)
+      runs_joined (state x) (state m) (state y) (λ at image. IsSafeImage d.config d.found d.opened d.entries k.firm (length b.entries) image)
+      (survives-longer (begun b) d (shut ∷ ended ∷ []) k.firm (length b.entries) (state x) (state m) shuts.completes.step (survives-page b ticket g spot spare bytes k.saver k.firm (state x) (state m) whole.sound.geometry whole.sound.stored goes order is named whole.sound.apart whole.kept.safe run))
+      (survives-shut (begun b) d ticket g spot statuses.WRITE_FAULT moment done k.saver l.saver k.firm (state m) (state y) answer (order-begun b order) can apart-there unplaced keeps.saves shuts)
 
-  pub shut-stops : OutlastsStops state (record { book = b; keeper = k; handed = handed; flash = x }) (record { book = d; keeper = l; handed = handed; flash = y })
-  shut-stops =
+  pub shut-stops : IsSound handed (state m) d now → OutlastsStops state (record { book = b; keeper = k; handed = handed; flash = x }) (record { book = d; keeper = l; handed = handed; flash = y })
+  shut-stops so =
       let P : Entry → Type 0 = λ e. IsFalse (is_owed (state y).moment e) in
-      outlasts-stops state (record { book = b; keeper = k; handed = handed; flash = x }) (record { book = d; keeper = l; handed = handed; flash = y }) (shut ∷ ended ∷ []) shuts.completes.step.config_is shuts.completes.step.found_is shuts.completes.step.entries_are whole.kept.safe.firm_is
+      outlasts-stops state (record { book = b; keeper = k; handed = handed; flash = x }) (record { book = d; keeper = l; handed = handed; flash = y }) (shut ∷ ended ∷ []) shuts.completes.step.config_is shuts.completes.step.found_is shuts.completes.step.opened_is shuts.completes.step.entries_are whole.kept.safe.at.firm_is
       (All-cons P shut (ended ∷ []) (unowed (state y).moment shut refl) (All-cons P ended [] (unowed (state y).moment ended unsuccessful) (All-nil P)))
-      survives shut-safe (subst (λ (n : ℕ). k.firm ≤ n) (sym keeps.firm_is) (firm-up answer))
+      survives (safe-now handed (state y) d l now then_known (shut-whole so)) (subst (λ (n : ℕ). k.firm ≤ n) (sym keeps.firm_is) (firm-up answer))
+      (leaves-failed handed (state x) (state y) b (low-faults handed b (state x) whole.sound.ledger) (let rose = (failed.made.fault refl).rose in let up = prefix.made.run.faults in omega (arith, rose, up)))
 
   -- what it comes to
   pub fails-to-place : 0 < b.spare → IsFlashFormed (state m) → ((es : List Entry) → IsTrue (state x).told → OnlyErasesEmpty (state x).geometry (state x).cells (state m).cells es) → moment ≡ (state m).moment →

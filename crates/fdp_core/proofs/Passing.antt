@@ -48,14 +48,14 @@ use Rattle.fdp_relocation.specs.fdp_locations.Stored.{HoldsWritten}
 use Rattle.fdp_relocation.specs.fdp_collector.declared.step.Lost.{Lost}
 use Rattle.fdp_relocation.specs.fdp_durability.Saved.{SavesDrive, SavesEntry, SettlesDrive}
 use Rattle.fdp_relocation.specs.fdp_journal.JournalState.{JournalState}
-use Rattle.fdp_loading.specs.fdp_survival.Books.{IsSafe}
+use Rattle.fdp_loading.specs.fdp_survival.Books.{IsSafe, KeepsApart}
 use Rattle.fdp_image.specs.Saving.{SameDataPages}
 use Rattle.fdp_loading.proofs.fdp_survival.Savings.{checkpoint-same, saving-same, settling-same}
 use Rattle.fdp_relocation.specs.fdp_saving.declared.saved.Saved.{Saved}
 use Rattle.fdp_flash.specs.declared.answer.Wrote.{Wrote}
 use Rattle.fdp_relocation.proofs.Resting.{uncalled-calls, uncalled-same}
 use Rattle.fdp_base.specs.Geometry.{data_units}
-use Rattle.fdp_loading.proofs.fdp_isolation.Saved.{holds-saved}
+use Rattle.fdp_loading.proofs.fdp_isolation.Saved.{holds-saved, laned-saved}
 
 -- ---- no call
 
@@ -188,15 +188,15 @@ pub record IsPrefix (b : BookSeen) (old now : FlashState) (calls : List Call) : 
 
 -- so are those of a saving
 pub saving-prefix : (b : BookSeen) (e : Entry) (s now : JournalState) (firm : ℕ) (f n : FlashState) (answer : Saved) → IsSafe b s firm f → (h : SavesEntry b.config b.found b.entries e s now f n answer) → IsPrefix b f n h.calls.calls
-saving-prefix b e s now firm f n answer safe h = record { made = h.calls.made; behind = h.calls.system; programs = h.calls.programs; same = saving-same b.config b.found b.entries e b.pages.units s now firm f n answer safe h }
+saving-prefix b e s now firm f n answer safe h = record { made = h.calls.made; behind = h.calls.system; programs = h.calls.programs; same = saving-same b.config b.found b.entries e b.pages.units s now firm f n answer safe.at h }
 
 -- of a checkpoint
 pub written-prefix : (b : BookSeen) (s now : JournalState) (firm : ℕ) (f n : FlashState) (answer : Wrote) → IsSafe b s firm f → (h : SavesDrive b.config b.found b.entries s now f n answer) → IsPrefix b f n h.calls.calls
-written-prefix b s now firm f n answer safe h = record { made = h.calls.made; behind = h.calls.system; programs = h.calls.programs; same = checkpoint-same b.config b.found b.entries b.pages.units s now firm f n answer safe h }
+written-prefix b s now firm f n answer safe h = record { made = h.calls.made; behind = h.calls.system; programs = h.calls.programs; same = checkpoint-same b.config b.found b.entries b.pages.units s now firm f n answer safe.at h }
 
 -- and of one that ends a doubt
 pub settled-prefix : (b : BookSeen) (s now : JournalState) (firm : ℕ) (f n : FlashState) (answer : Wrote) → IsSafe b s firm f → (h : SettlesDrive b.config b.found b.entries s now f n answer) → IsPrefix b f n h.calls.calls
-settled-prefix b s now firm f n answer safe h = record { made = h.calls.made; behind = h.calls.system; programs = h.calls.programs; same = settling-same b.config b.found b.entries b.pages.units s now firm f n answer safe h }
+settled-prefix b s now firm f n answer safe h = record { made = h.calls.made; behind = h.calls.system; programs = h.calls.programs; same = settling-same b.config b.found b.entries b.pages.units s now firm f n answer safe.at h }
 
 -- no call is such
 pub resting-prefix : (b : BookSeen) (f n : FlashState) → StaysUncalled f n → IsPrefix b f n []
@@ -222,6 +222,10 @@ prefix-stands b f n calls stands h = record {
       subst (λ (g : Geometry). HoldsWritten g n.cells (written_in b) b.pages.units) (sym (h.made.run.geometry ∙ stands.geometry))
       (holds-saved b f.cells n.cells (h.same told) (record { known = stands.known; holds = subst (λ (g : Geometry). HoldsWritten g f.cells (written_in b) b.pages.units) stands.geometry (stands.stored told) })).holds;
 }
+
+-- and keeps data apart as it did
+pub prefix-apart : (b : BookSeen) (f n : FlashState) (calls : List Call) → IsPrefix b f n calls → KeepsApart f b → KeepsApart n b
+prefix-apart b f n calls h apart tells opened = let told : IsTrue f.told = sym h.made.run.told ∙ tells in laned-saved b f.cells n.cells (h.same told) (apart told opened)
 
 -- entries that tell of no erase, one behind another
 pub erases-none : (es fs : List Entry) → ErasesNoUnit es → ErasesNoUnit fs → ErasesNoUnit (es ++ fs)

@@ -34,7 +34,7 @@ use Rattle.fdp_core.specs.Seen.{HasMoments, HoldsHistory}
 use Rattle.fdp_core.specs.Sound.{IsSound}
 use Rattle.fdp_core.proofs.Pushed.{legal-one, legal-two}
 use Rattle.fdp_core.proofs.Apart.{apart-placed, apart-shut, known-begun}
-use Rattle.fdp_core.proofs.Sound.{apart-begun, begun}
+use Rattle.fdp_core.proofs.Sound.{apart-begun, begun, room-begun}
 use Rattle.fdp_core.proofs.Storing.{blank-used, free-page, holds-put, holds-unput}
 use Rattle.fdp_flash.specs.declared.cell.Cell.TheVariants.{Whole}
 use Rattle.fdp_flash.specs.Cells.{IsBlankFrom, ProgramMayLeave}
@@ -57,6 +57,8 @@ use Rattle.fdp_rules.specs.Next.{next}
 use Rattle.fdp_rules.specs.PlainState.{Going, PlainState}
 use Rattle.fdp_rules.specs.Step.{Follows, IsPlaced}
 use Rattle.fdp_relocation.proofs.fdp_book.Longer.{written-one, written-two}
+use Rattle.fdp_roominess.proofs.Placed.{room-placed}
+use Rattle.fdp_roominess.proofs.Runs.{keeps-failed, keeps-well}
 
 -- ---- the place
 
@@ -226,6 +228,8 @@ sound-placed handed f n b d block now ticket g spot index spare payload last so 
           (apart-begun f b so.apart) last placed;
       ledger = ledger-placed handed (begun b) d f n ticket g spot last spare (payload_block (length block) payload index) joined.joined joined.units so.geometry so.stored
           (spot-begun b ticket g spot is.next) placed programmed made (ledger-alike handed b (begun b) f refl refl refl refl refl so.ledger);
+      room = keeps-well handed.faults f.faults n.faults f.told n.told (begun b) d (e ∷ []) placed.step programmed.kept.told made.run.faults (room-begun handed f b so.room) refl
+          (room-placed (begun b) d ticket g spot last (known-begun b joined) (spot-begun b ticket g spot is.next) placed);
       buffer = size ∙ so.buffer ∙ ap (λ (c : DriveConfig). c.block) (sym placed.step.config_is);
     }
 
@@ -260,5 +264,6 @@ sound-shut handed f n b d block now ticket g spot spare bytes status moment done
           (λ tells. subst (λ (xs : List ℕ). ProgramMayLeave f.geometry f.cells spot xs bytes n.cells) (sym own) (failed.left tells)) (apart-begun f b so.apart) status moment done shuts;
       ledger = ledger-shut handed (begun b) d f n ticket g spot status moment done spare bytes joined.joined joined.units so.geometry so.stored
           (spot-begun b ticket g spot is) shuts failed moment_is (ledger-alike handed b (begun b) f refl refl refl refl refl so.ledger);
+      room = keeps-failed handed.faults f.faults n.faults f.told n.told (begun b) d (shut ∷ host ∷ []) shuts.completes.step kept.told failed.made.run.faults (room-begun handed f b so.room) (failed.made.fault refl).rose;
       buffer = size ∙ so.buffer ∙ ap (λ (c : DriveConfig). c.block) (sym shuts.completes.step.config_is);
     }

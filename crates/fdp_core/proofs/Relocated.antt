@@ -24,15 +24,19 @@ use Rattle.fdp_relocation.specs.fdp_locations.Stored.{HoldsWritten}
 use Rattle.fdp_relocation.specs.declared.advance.Advance.{Advance}
 use Rattle.fdp_relocation.specs.declared.advance.Advance.TheVariants as advance
 use Rattle.fdp_relocation.specs.Collected.{Collects, Moves, SavesMove, Stage, Steps, StepsSettled}
-use Rattle.fdp_core.proofs.Passing.{longer-none, IsPrefix, resting-prefix, saving-prefix, settled-prefix, prefix-stands}
+use Rattle.fdp_core.proofs.Passing.{longer-none, IsPrefix, prefix-apart, resting-prefix, saving-prefix, settled-prefix, prefix-stands}
 use Rattle.fdp_flash.proofs.Runs.{no_run}
 use Rattle.fdp_relocation.specs.fdp_saving.declared.saved.Saved.{Saved}
 use Rattle.fdp_relocation.specs.fdp_saving.declared.saved.Saved.TheVariants as savings
 use Rattle.fdp_flash.specs.declared.answer.Wrote.TheVariants as wrote
 use Rattle.fdp_loading.specs.fdp_survival.Books.{IsSafe}
-use Rattle.fdp_loading.proofs.fdp_isolation.Saved.{laned-saved}
 use Rattle.fdp_loading.proofs.fdp_ledger.System.{ledger-system}
 use Rattle.fdp_loading.proofs.fdp_ledger.Called.{after-made}
+use Rattle.fdp_roominess.proofs.Runs.{keeps-called}
+use Rattle.fdp_roominess.proofs.Stepped.{keeps-moved, keeps-relocated}
+use Rattle.fdp_passes.specs.declared.due.Due.TheVariants as due
+use Rattle.fdp_passes.specs.Due.{IsDue}
+use Rattle.fdp_relocation.specs.fdp_pages.PageTables.{passes_at}
 
 -- the same entries may follow, one at most
 legal-told : (f n : FlashState) (b d : BookSeen) (es : List Entry) → length es ≤ 1 → IsLonger b d es → n.told ≡ f.told → f.moment ≤ n.moment → IsLegalOver f b → MayFollow b es → IsLegalOver n d
@@ -72,6 +76,7 @@ sound-stepped handed f n b d rg may step Image block now low known so h run stor
       stored = stored;
       apart = apart-relocated f n b d rg low so.geometry known so.stored run.told so.apart may step h;
       ledger = ledger-relocated handed b d f n rg may step Image low known.joined known.units so.geometry so.stored h run so.ledger;
+      room = keeps-relocated handed.faults b d f n rg may Image low known run so.room step h;
       buffer = size ∙ so.buffer ∙ ap (λ (c : DriveConfig). c.block) (sym was.config_is);
     }
 
@@ -83,25 +88,27 @@ sound-prefix handed f n b calls block known h so =
       geometry = stands.geometry;
       legal = legal-none f n b b (longer-none b) h.made.run.told h.made.run.later so.legal;
       stored = stands.stored;
-      apart = λ tells opened. let told : IsTrue f.told = sym h.made.run.told ∙ tells in laned-saved b f.cells n.cells (h.same told) (so.apart told opened);
+      apart = prefix-apart b f n calls h so.apart;
       ledger = ledger-system b f n calls so.geometry h.behind h.programs h.same handed known.units (after-made f n calls h.made) so.ledger;
+      room = keeps-called handed.faults f.faults n.faults f.told n.told b h.made.run.told h.made.run.faults so.room;
       buffer = so.buffer;
     }
 
 -- a move, which calls no flash
-sound-moved : (handed : Counts) (f : FlashState) (b d : BookSeen) (rg : ℕ) (block now : List ℕ) → IsKnown b → IsSound handed f b block → MovesPass b d rg → (IsTrue f.told → HoldsWritten f.geometry f.cells (written_in d) d.pages.units) → length now ≡ length block → IsSound handed f d now
-sound-moved handed f b d rg block now known so h stored size = record {
+sound-moved : (handed : Counts) (f : FlashState) (b d : BookSeen) (rg : ℕ) (block now : List ℕ) → rg < b.config.groups → IsDue (passes_at b.pages rg) b.pages.units b.pages.owners rg due.Move → IsKnown b → IsSound handed f b block → MovesPass b d rg → (IsTrue f.told → HoldsWritten f.geometry f.cells (written_in d) d.pages.units) → length now ≡ length block → IsSound handed f d now
+sound-moved handed f b d rg block now low is_due known so h stored size = record {
   geometry = so.geometry ∙ ap geometry_of (sym h.longer.config_is);
   legal = legal-one f f b d _ h.longer refl (omega arith) so.legal (λ _. h.follows f.told);
   stored = stored;
   apart = apart-moved f b d rg known h so.apart;
   ledger = ledger-moved handed b d f f rg (λ m image. Unit {0}) known.joined h (record { moment = refl; faults = refl; programs = refl; cells = λ told. refl; calls = λ tells. refl }) (no_run f (λ m image. Unit {0})) so.ledger;
+  room = keeps-moved handed.faults f.faults f.told b d rg low known is_due h so.room;
   buffer = size ∙ so.buffer ∙ ap (λ (c : DriveConfig). c.block) (sym h.longer.config_is);
 }
 
 -- a buffer of the same size
 sound-filled : (handed : Counts) (f : FlashState) (b : BookSeen) (block now : List ℕ) → length now ≡ length block → IsSound handed f b block → IsSound handed f b now
-sound-filled handed f b block now size so = record { geometry = so.geometry; legal = so.legal; stored = so.stored; apart = so.apart; ledger = so.ledger; buffer = size ∙ so.buffer }
+sound-filled handed f b block now size so = record { geometry = so.geometry; legal = so.legal; stored = so.stored; apart = so.apart; ledger = so.ledger; room = so.room; buffer = size ∙ so.buffer }
 
 -- ---- a step
 
@@ -118,11 +125,11 @@ module _ {F : Type 0} (state : F → FlashState) (handed : Counts) (old new : St
   moved : (answer : Saved) → Moves state old new rg answer → IsSound handed (state new.flash) new.book now
   moved answer h = chosen h.saved where
     chosen : SavesMove state old new rg answer → IsSound handed (state new.flash) new.book now
-    chosen (inl none) = sound-moved handed (state new.flash) old.book new.book rg block now known (sound-prefix handed (state old.flash) (state new.flash) old.book [] block known (resting-prefix old.book (state old.flash) (state new.flash) none.3) so) h.moved stored size
+    chosen (inl none) = sound-moved handed (state new.flash) old.book new.book rg block now low h.due known (sound-prefix handed (state old.flash) (state new.flash) old.book [] block known (resting-prefix old.book (state old.flash) (state new.flash) none.3) so) h.moved stored size
     chosen (inr some) =
         let saves = some.1.saves in
         let prefix = saving-prefix old.book _ old.keeper.saver new.keeper.saver old.keeper.firm (state old.flash) (state new.flash) answer safe saves in
-        sound-moved handed (state new.flash) old.book new.book rg block now known (sound-prefix handed (state old.flash) (state new.flash) old.book saves.calls.calls block known prefix so) h.moved stored size
+        sound-moved handed (state new.flash) old.book new.book rg block now low h.due known (sound-prefix handed (state old.flash) (state new.flash) old.book saves.calls.calls block known prefix so) h.moved stored size
 
   pub sound-collected : (x : Advance) → Collects state old new rg x → IsSound handed (state new.flash) new.book now
   sound-collected advance.Nothing h = stepped steps.Nothing h

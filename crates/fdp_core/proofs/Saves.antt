@@ -1,5 +1,5 @@
 -- How a write ends whose change was saved, or could not be.
-use Rattle.std.proofs.Common.{◌≡◌, ◌≢◌, ℕ, ◌+◌, ◌<◌, ◌≤◌, true, false, List, [], refl, sym, ap, arith, inl, inr}
+use Rattle.std.proofs.Common.{◌≡◌, ◌≢◌, ℕ, ◌+◌, ◌<◌, ◌≤◌, true, false, List, [], ◌∷◌, refl, sym, ap, arith, inl, inr}
 use Rattle.std.specs.Prelude.{IsFalse, IsTrue}
 use Rattle.std.specs.List.{count_by, list_any}
 use Rattle.std.proofs.lemmas.Bool.{false≢true}
@@ -41,6 +41,8 @@ use Rattle.fdp_core.proofs.Commits.{may-succeed}
 use Rattle.fdp_loading.proofs.fdp_survival.Steps.{owners-go}
 use Rattle.fdp_core.proofs.Refusals.{uncompleted}
 use Rattle.fdp_relocation.specs.fdp_book.declared.ticket.Done.{Done}
+use Rattle.fdp_roominess.proofs.Answered.{room-written}
+use Rattle.fdp_roominess.proofs.Runs.{keeps-well}
 
 -- ---- the change was made
 
@@ -53,6 +55,8 @@ sound-made handed n b d block ticket g status done so known led is may ends faul
     (may-follow n b ticket g (bare status true) known.orderly is ends)
     (ledger-answered handed b d n n ticket.queue g.number g.command (bare status true) n.moment done completes owners (no-fetches n) (λ error. record { fault = fault error; until = omega arith }) so.ledger)
     (apart-committed n b d ticket.queue n.moment g status done known led is.going_is may completes owners so.apart)
+    (keeps-well handed.faults n.faults n.faults n.told n.told b d (host ticket.queue g.number g.command (bare status true) n.moment ∷ []) completes.step refl (omega arith) so.room refl
+    (room-written b d ticket.queue n.moment g status done known led is.going_is may completes owners))
     refl
 
 module _ {F : Type 0} (state : F → FlashState) (x y : F) (handed : Counts) (b d : BookSeen) (k l : KeeperSeen) (block : List ℕ) (ticket : Ticket) (g : Going) (status : Status) (done : Done) (answer : Saved) (order : IsInOrder b) (then_order : IsInOrder d)
@@ -128,7 +132,7 @@ module _ {F : Type 0} (state : F → FlashState) (x y : F) (handed : Counts) (b 
       (known-begun b order.known) then_order.known.led is (λ moments. inr (inr (inr (inl (may, unsaved-fault.new (moments refl), inl refl))))) (λ _. unsaved-fault.fault) refl ends owners
 
   pub unsaved-whole : IsWhole handed (state y) d l block × OutlastsStops state (record { book = b; keeper = k; handed = handed; flash = x }) (record { book = d; keeper = l; handed = handed; flash = y })
-  unsaved-whole = unmade-whole state x y handed b d k l block ticket.queue g.number g.command e moment done order whole keeps ends owners unsaved-sound
+  unsaved-whole = unmade-whole state x y handed b d k l block ticket.queue g.number g.command e moment done order whole keeps ends owners then_order.known unsaved-sound
 
   pub unsaved-ends : 0 < b.spare → EndsSaved state (record { book = b; keeper = k; handed = handed; flash = x }) (record { book = d; keeper = l; handed = handed; flash = y }) ticket g (savings.Unsaved moment) (bare statuses.WRITE_FAULT false) done
   unsaved-ends spare = record {

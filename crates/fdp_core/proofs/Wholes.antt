@@ -1,5 +1,5 @@
 -- A group behind an entry that saves nothing: what saves the drive stands for its history, and no stop in the step loses what was firm.
-use Rattle.std.proofs.Common.{◌≡◌, ℕ, ◌≤◌, false, not, List, [], ◌∷◌, refl, ap, arith}
+use Rattle.std.proofs.Common.{◌≡◌, ℕ, ◌≤◌, false, not, List, [], ◌∷◌, length, refl, ap, arith}
 use Rattle.std.specs.Prelude.{IsFalse}
 use Rattle.std.specs.List.{count_by}
 use Rattle.fdp_base.specs.declared.command.Command.{Command}
@@ -12,7 +12,7 @@ use Rattle.fdp_relocation.specs.fdp_book.Steps as book
 use Rattle.fdp_calls.specs.Media.{IsReadFrom}
 use Rattle.fdp_core.specs.Seen.{Seen}
 use Rattle.fdp_core.specs.Sound.{IsKept, IsWhole}
-use Rattle.fdp_core.specs.Stops.{Outlasts, OutlastsStops}
+use Rattle.fdp_core.specs.Stops.{IsSafeNow, LeavesRoomy, Outlasts, OutlastsStops}
 use Rattle.fdp_core.proofs.Apart.{known-begun}
 use Rattle.fdp_core.proofs.Grown.{host}
 use Rattle.fdp_core.proofs.Kept.{kept-begun, kept-entry}
@@ -22,13 +22,14 @@ use Rattle.fdp_core.proofs.Sound.{begun, sound-begun}
 use Rattle.fdp_relocation.specs.fdp_durability.Firm.{completes}
 use Rattle.fdp_flash.specs.FlashState.{FlashState}
 use Rattle.fdp_flash.proofs.Runs.{no_run}
-use Rattle.fdp_image.specs.Kept.{StandsForBeginning, is_completed}
+use Rattle.fdp_image.specs.Kept.{is_completed}
 use Rattle.fdp_relocation.specs.fdp_keeper.Keeper.{KeeperSeen}
 use Rattle.fdp_loading.specs.fdp_ledger.declared.counts.Counts.{Counts}
 use Rattle.fdp_relocation.specs.fdp_pages.Steps.{ChangesOwners}
 use Rattle.fdp_loading.specs.fdp_survival.Books.{IsInOrder, IsSafe, Survives}
+use Rattle.fdp_loading.specs.fdp_survival.Safe.{IsSafeImage}
 use Rattle.fdp_loading.proofs.fdp_survival.Safe.{one-none}
-use Rattle.fdp_loading.proofs.fdp_survival.Steps.{safe-answered, safe-fetched, safe-started, survives-fetched, survives-longer}
+use Rattle.fdp_loading.proofs.fdp_survival.Steps.{safe-answered, safe-fetched, safe-started, survives-longer}
 use Rattle.fdp_loading.specs.fdp_ledger.Ledger.{IsLedger}
 use Rattle.fdp_calls.proofs.Made.{counted_more-none}
 use Rattle.fdp_loading.specs.fdp_ledger.Told.{is_media_reply}
@@ -44,23 +45,23 @@ whole-begun handed f b k block h = record { sound = sound-begun handed f b block
 
 -- a stop cannot tell whether the step had begun
 pub unbegun : {F : Type 0} (state : F → FlashState) (old new : Seen F) → OutlastsStops state (begun_seen old) new → OutlastsStops state old new
-unbegun state old new h = record { stops = h.stops; more = h.more; firm = h.firm }
+unbegun state old new h = record { stops = h.stops; apart = h.apart; roomy = h.roomy; more = h.more; firm = h.firm }
 
 -- ---- an entry that completes no change
 
 -- part of a step
-pub outlasts-entry : {F : Type 0} (state : F → FlashState) (old new : Seen F) (e : Entry) → IsLonger old.book new.book (e ∷ []) → IsFalse (completes e) → Survives old.book old.keeper.firm (state old.flash) (state new.flash) → old.keeper.firm ≤ new.keeper.firm → Outlasts state old new
-outlasts-entry state old new e longer none run more =
-    outlasts-part state old new (e ∷ []) longer (one-none e none) (survives-longer old.book new.book (e ∷ []) old.keeper.firm (state old.flash) (state new.flash) longer run) more
+pub outlasts-entry : {F : Type 0} (state : F → FlashState) (old new : Seen F) (e : Entry) → IsLonger old.book new.book (e ∷ []) → IsFalse (completes e) → Survives old.book old.keeper.firm (length old.book.entries) (state old.flash) (state new.flash) → old.keeper.firm ≤ new.keeper.firm → new.handed ≡ old.handed → LeavesRoomy state old new → Outlasts state old new
+outlasts-entry state old new e longer none run more handed roomy =
+    outlasts-part state old new (e ∷ []) longer (one-none e none) (survives-longer old.book new.book (e ∷ []) old.keeper.firm (length old.book.entries) (state old.flash) (state new.flash) longer run) more handed roomy
 
 -- a whole step
-pub entry-stops : {F : Type 0} (state : F → FlashState) (old new : Seen F) (e : Entry) → IsLonger (begun old.book) new.book (e ∷ []) → IsFalse (completes e) → Survives old.book old.keeper.firm (state old.flash) (state new.flash) → IsSafe old.book old.keeper.saver old.keeper.firm (state old.flash) →
-    IsSafe new.book new.keeper.saver new.keeper.firm (state new.flash) → old.keeper.firm ≤ new.keeper.firm → OutlastsStops state old new
-entry-stops state old new e longer none run was safe more = unbegun state old new (outlasts-all state (begun_seen old) new was.firm_is safe (outlasts-entry state (begun_seen old) new e longer none run more))
+pub entry-stops : {F : Type 0} (state : F → FlashState) (old new : Seen F) (e : Entry) → IsLonger (begun old.book) new.book (e ∷ []) → IsFalse (completes e) → Survives old.book old.keeper.firm (length old.book.entries) (state old.flash) (state new.flash) → IsSafe old.book old.keeper.saver old.keeper.firm (state old.flash) →
+    IsSafeNow (state new.flash) new.book new.keeper → old.keeper.firm ≤ new.keeper.firm → new.handed ≡ old.handed → LeavesRoomy state old new → OutlastsStops state old new
+entry-stops state old new e longer none run was safe more handed roomy = unbegun state old new (outlasts-all state (begun_seen old) new was.at.firm_is safe (outlasts-entry state (begun_seen old) new e longer none run more handed roomy))
 
 -- no call loses nothing
-pub survives-uncalled : (b : BookSeen) (firm : ℕ) (f : FlashState) → Survives b firm f f
-survives-uncalled b firm f = no_run f (λ m image. StandsForBeginning b.config b.found b.entries firm image)
+pub survives-uncalled : (b : BookSeen) (firm from : ℕ) (f : FlashState) → Survives b firm from f f
+survives-uncalled b firm from f = no_run f (λ m image. IsSafeImage b.config b.found b.opened b.entries firm from image)
 
 -- ---- an answer that changes nothing
 
@@ -72,9 +73,6 @@ module _ (handed : Counts) (f n : FlashState) (b d : BookSeen) (queue number : �
 
   pub answered-kept : IsKept handed n d k
   answered-kept = kept-entry handed f n b d (host queue number command reply moment) k order was ends.step (ap not unapplied) (λ wrong. absurd cc) read.kept.faults answered-safe
-
-  pub answered-survives : Survives b k.firm f n
-  answered-survives = survives-fetched b k.saver k.firm f n read was.safe
 
 -- ---- a write that is started
 

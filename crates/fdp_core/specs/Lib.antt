@@ -5,6 +5,8 @@ pub use Rattle.fdp_loading.specs.fdp_isolation as fdp_isolation
 pub use Rattle.fdp_loading.specs.fdp_ledger as fdp_ledger
 pub use Rattle.fdp_loading.specs.fdp_recovery as fdp_recovery
 pub use Rattle.fdp_relocation.specs as fdp_relocation
+pub use Rattle.fdp_roominess.specs as fdp_roominess
+pub use Rattle.fdp_loading.specs.fdp_survival as fdp_survival
 pub mod Seen
 pub mod Steps
 pub mod Fetches

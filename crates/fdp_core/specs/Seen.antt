@@ -4,9 +4,8 @@ use Rattle.std.specs.List.{list_any}
 use Rattle.fdp_base.specs.Placement.{geometry_of}
 use Rattle.fdp_relocation.specs.fdp_book.Book.{BookSeen, written_in}
 use Rattle.fdp_flash.specs.FlashState.{FlashState}
-use Rattle.fdp_loading.specs.fdp_isolation.Begun.{OpenedApart}
 use Rattle.fdp_relocation.specs.fdp_keeper.Keeper.{KeeperSeen}
-use Rattle.fdp_loading.specs.fdp_isolation.Laned.{AreLaned, IsKnown}
+use Rattle.fdp_loading.specs.fdp_isolation.Laned.{IsKnown}
 use Rattle.fdp_loading.specs.fdp_ledger.declared.counts.Counts.{Counts}
 use Rattle.fdp_loading.specs.fdp_ledger.Told.{is_media_reply}
 use Rattle.fdp_relocation.specs.fdp_locations.Stored.{HoldsWritten}
@@ -37,10 +36,6 @@ IsLegalOver flash b = (IsTrue (list_any is_media_reply b.entries) → HasMoments
 -- where the cells are told, each page that the history wrote holds what it wrote, and behind the pages that were used each unit is blank
 abbrev pub HoldsHistory : FlashState → BookSeen → Type 0
 HoldsHistory flash b = IsTrue flash.told → HoldsWritten flash.geometry flash.cells (written_in b) b.pages.units
-
--- where the cells are told, and kept the data apart when the run began, data stands apart in them
-abbrev pub KeepsApart : FlashState → BookSeen → Type 0
-KeepsApart flash b = IsTrue flash.told → OpenedApart b.config b.found b.opened → AreLaned b flash.cells
 
 -- a book in order, over a flash that is cut as configured and holds the history
 pub record Stands (flash : FlashState) (b : BookSeen) : Type 0 where

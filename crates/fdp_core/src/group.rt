@@ -7,12 +7,14 @@ ghost use Rattle.fdp_core.specs.Seen.{HoldsHistory, IsLegalOver};
 ghost use Rattle.fdp_image.specs.Kept.{AreFirm, StandsForBeginning};
 ghost use Rattle.fdp_relocation.specs.fdp_keeper.Keeper.{CanSave};
 ghost use Rattle.fdp_loading.specs.fdp_survival.Books.{IsInOrder};
+ghost use Rattle.fdp_loading.specs.fdp_survival.Apart.{ReadsIsolated};
 ghost use Rattle.fdp_loading.specs.fdp_isolation.Begun.{OpenedApart};
 ghost use Rattle.fdp_loading.specs.fdp_isolation.Isolated.{IsIsolatedDrive};
 ghost use Rattle.fdp_loading.specs.fdp_ledger.Counted.{CountedSince};
 ghost use Rattle.fdp_loading.specs.fdp_ledger.Start.{start_of};
 ghost use Rattle.fdp_relocation.specs.fdp_locations.Located.{AreUnitsOf};
 ghost use Rattle.fdp_relocation.specs.fdp_pages.Joined.{AreJoined};
+ghost use Rattle.fdp_roominess.specs.Run.{StaysRoomy, WearsByFailure};
 ghost use Rattle.fdp_rules.specs.History.{totals_of};
 ghost use Rattle.fdp_relocation.specs.fdp_trails.Toil.{is_live, is_stale, pages_where};
 ghost use Rattle.fdp_units.specs.UnitTable.{toil_of};
@@ -106,7 +108,10 @@ impl<F: Flash> Group<F> {
         ensures legal { IsLegalOver (F.state self.now.flash) self.now.book }
         ensures cells { HoldsHistory (F.state self.now.flash) self.now.book }
         ensures apart { IsTrue (F.state self.now.flash).told → OpenedApart self.now.book.config self.now.book.found self.now.book.opened → IsIsolatedDrive self.now.book.config (point_in self.now.book) self.now.book.entries (F.state self.now.flash).cells }
+        ensures reads { IsTrue (F.state self.now.flash).told → OpenedApart self.now.book.config self.now.book.found self.now.book.opened → ReadsIsolated self.now.book.config (F.state self.now.flash).cells }
         ensures counted { CountedSince self.now.handed (F.state self.now.flash) (start_of self.now.book) self.now.book.entries }
+        ensures worn { WearsByFailure self.now.handed.faults (F.state self.now.flash).faults (F.state self.now.flash).told self.now.book }
+        ensures roomy { IsTrue (F.state self.now.flash).told → StaysRoomy self.now.handed.faults (F.state self.now.flash).faults (F.state self.now.flash).told self.now.book (F.state self.now.flash).cells }
         ensures firm { AreFirm self.now.book.entries self.now.keeper.firm }
         ensures stands { IsTrue (F.state self.now.flash).told → StandsForBeginning self.now.book.config self.now.book.found self.now.book.entries self.now.keeper.firm (F.state self.now.flash).cells }
     {
@@ -197,7 +202,10 @@ impl<F: Flash> Group<F> {
         ensures legal { IsLegalOver (F.state self.flash) self.book }
         ensures cells { HoldsHistory (F.state self.flash) self.book }
         ensures apart { IsTrue (F.state self.flash).told → OpenedApart self.book.config self.book.found self.book.opened → IsIsolatedDrive self.book.config (point_in self.book) self.book.entries (F.state self.flash).cells }
+        ensures reads { IsTrue (F.state self.flash).told → OpenedApart self.book.config self.book.found self.book.opened → ReadsIsolated self.book.config (F.state self.flash).cells }
         ensures counted { CountedSince self.handed (F.state self.flash) (start_of self.book) self.book.entries }
+        ensures worn { WearsByFailure self.handed.faults (F.state self.flash).faults (F.state self.flash).told self.book }
+        ensures roomy { IsTrue (F.state self.flash).told → StaysRoomy self.handed.faults (F.state self.flash).faults (F.state self.flash).told self.book (F.state self.flash).cells }
         ensures firm { AreFirm self.book.entries self.keeper.firm }
         ensures stands { IsTrue (F.state self.flash).told → StandsForBeginning self.book.config self.book.found self.book.entries self.keeper.firm (F.state self.flash).cells }
     {

@@ -85,7 +85,7 @@ ended-as s run traces receipts ends.NoMemory few shift = elim shift.ended [
 ]
 
 pub session-made : {F : Type 0} (state : F → FlashState) (old new : BoardSeen F) (traces : List (List Command)) (receipts : List (List Receipt)) (end : End) → length traces ≤ old.group.book.config.queues → began_with state new ≡ began_with state old → IsPrefix (items_of old.group) (items_of new.group) →
-    IsShift (began_with state old).run traces receipts (map entry_in (items_of new.group)) new.group.book.spent end → IsSafeSince new.group.handed.moment (state new.group.flash) new.group.book.config new.group.book.found new.group.book.entries →
+    IsShift (began_with state old).run traces receipts (map entry_in (items_of new.group)) new.group.book.spent end → IsSafeSince new.group.handed.moment (state new.group.flash) new.group.book →
     AreCharged new.group.handed.moment (state new.group.flash) new.group.book.entries → IsUnfailing new.group.handed (state new.group.flash) → IsSession state old.group new.group traces receipts end
 session-made state old new traces receipts end few same prefix shift safe charged unfailing =
     let s = new.group in

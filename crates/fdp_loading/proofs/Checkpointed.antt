@@ -1,6 +1,6 @@
 -- The first checkpoint of a run.
 use Rattle.std.proofs.Common.{◌≡◌, ℕ, ◌+◌, ◌*◌, ◌<◌, ◌≤◌, Bool, true, false, List, [], ◌∷◌, replicate, refl, sym, ◌∙◌, ap, subst, arith, inl, inr, ⊎_elim}
-use Rattle.std.specs.Prelude.{◌||◌, Err, IfErr, IfOk, IsFalse, IsTrue, Ok, Result, not}
+use Rattle.std.specs.Prelude.{◌||◌, Err, IfErr, IfOk, IsFalse, IsTrue, Ok, Result, length, not, slice_get}
 use Rattle.std.proofs.lemmas.Nat.{mul-le, row_fits}
 use Rattle.fdp_base.specs.declared.config.DriveConfig.{DriveConfig}
 use Rattle.fdp_base.specs.declared.config.Geometry.{Geometry}
@@ -56,9 +56,12 @@ use Rattle.fdp_keeper.specs.fdp_recovery.Opened.{IsFresh}
 use Rattle.fdp_keeper.specs.fdp_recovery.Walking.{OnlyLooks}
 use Rattle.fdp_rules.specs.History.{Found, point_of}
 use Rattle.fdp_rules.specs.Legal.{IsLegal, IsLegalAfter}
-use Rattle.fdp_survival.specs.Books.{IsSafe, Survives}
+use Rattle.fdp_survival.specs.Apart.{StandsApart}
+use Rattle.fdp_survival.specs.Books.{IsSafe, KeepsApart, KeepsIsolated, Survives}
+use Rattle.fdp_survival.specs.Safe.{IsSafeImage}
 use Rattle.fdp_survival.proofs.Orders.{book-saved}
-use Rattle.fdp_survival.proofs.Steps.{safe-begun, survives-begun}
+use Rattle.fdp_survival.proofs.Apart.{durable-stands-apart}
+use Rattle.fdp_survival.proofs.Steps.{keeps-isolated, safe-begun, said-begun, survives-begun}
 use Rattle.fdp_units.specs.DataUnits.{is_free}
 use Rattle.fdp_units.specs.UnitTable.{Cut, IsUnit, state_at}
 
@@ -114,6 +117,36 @@ module _ (old mid new : FlashState) (b : BookSeen) (k : KeeperSeen) (looks : Onl
   stands-old : IsTrue old.told → StandsForBeginning b.config b.found b.entries 0 old.cells
   stands-old t = record { kept = []; lost = b.entries; beginning = record { split = refl }; enough = omega arith; stands = begun.begins.stood t }
 
+  -- where what was opened keeps data apart, so do cells with the data pages that the flash had
+  laned-over : IsWellFormed old → (cells : List Cell) → IsTrue old.told → SameDataPages b.config old.cells cells → OpenedApart b.config b.found b.opened → AreLaned b cells
+  laned-over formed cells t same apart = ⊎_elim
+      (λ (x : BeginsFresh b.config old b begun.epoch).
+      let fresh : IsFresh b.config g old.cells = subst (λ (y : Geometry). IsFresh b.config y old.cells) cut-old (x.told t) in
+      laned-fresh b.config b cells p.order.known x.book (λ unit is.
+      same-blank g cells old.cells unit (λ page below. sym (same page below)) is
+      (record { blank = λ page below. (blank-unit_from g old.cells (formed.size t ∙ ap all_pages cut-old) fresh.blank unit 0 is).blank page (omega arith) below })))
+      (λ (x : BeginsFound b.config old b begun.epoch).
+      laned-found b.config b.opened (reading_of_state x.state) b cells p.order.known.config x.valid x.book apart
+      (subst (λ (xs : List Cell). SameDataPages b.config xs cells) (sym (x.opened_is t)) same))
+      begun.begins.with
+
+  -- and it is isolated where the flash was only looked at
+  isolated-mid : IsWellFormed old → KeepsIsolated mid b
+  isolated-mid formed =
+      keeps-isolated b mid p.order.known p.can.geometry p.stored (λ t apart.
+      let was : IsTrue old.told = subst IsTrue alike.told t in
+      laned-over formed mid.cells was (λ page below. ap (λ (xs : List Cell). slice_get xs page) (alike.cells was)) apart)
+
+  -- what stands on the flash before the drive is saved
+  image-old : IsWellFormed old → IsTrue old.told → IsSafeImage b.config b.found b.opened b.entries 0 (length b.entries) old.cells
+  image-old formed t = record {
+    stands = stands-old t;
+    apart = λ opened.
+        let m = told-mid t in
+        subst (StandsApart b.config b.found b.entries (length b.entries)) (alike.cells t)
+        (durable-stands-apart b.config b.found b.entries 0 k.saver b.pages.units mid.cells (p.durable m) (p.said m opened) (isolated-mid formed m opened));
+  }
+
   opened-here : HasOpened b.entries
   opened-here = ⊎_elim
       (λ (x : BeginsFresh b.config old b begun.epoch). inl x.book.entries_are)
@@ -167,12 +200,12 @@ module _ (old mid new : FlashState) (b : BookSeen) (k : KeeperSeen) (looks : Onl
     programs-same : new.programs ≡ old.programs
     programs-same = saved.calls.programs ∙ looks.reads.programs
 
-    survives : Survives b 0 old new
-    survives =
-        runs_joined old mid new (λ m image. StandsForBeginning b.config b.found b.entries 0 image)
-        (runs_weakened old mid (λ m image. image ≡ old.cells) (λ m image. StandsForBeginning b.config b.found b.entries 0 image) looks.reads.held.run
-        (λ t m image above most e. subst (StandsForBeginning b.config b.found b.entries 0) (sym e) (stands-old t)))
-        (survives-begun b k.saver now.saver 0 mid new answer p.order p.can.geometry p.stored p.can.keeper.geometry p.durable saved)
+    survives : IsWellFormed old → Survives b 0 (length b.entries) old new
+    survives formed =
+        runs_joined old mid new (λ m image. IsSafeImage b.config b.found b.opened b.entries 0 (length b.entries) image)
+        (runs_weakened old mid (λ m image. image ≡ old.cells) (λ m image. IsSafeImage b.config b.found b.opened b.entries 0 (length b.entries) image) looks.reads.held.run
+        (λ t m image above most e. subst (IsSafeImage b.config b.found b.opened b.entries 0 (length b.entries)) (sym e) (image-old formed t)))
+        (survives-begun b k.saver now.saver 0 mid new answer p.order p.can.geometry p.stored (isolated-mid formed) p.can.keeper.geometry p.durable p.said saved)
 
     stored-new : IsTrue new.told → HoldsWritten new.geometry new.cells (written_in b) b.pages.units
     stored-new t =
@@ -184,19 +217,11 @@ module _ (old mid new : FlashState) (b : BookSeen) (k : KeeperSeen) (looks : Onl
     blank-old : IsTrue old.told → (unit : ℕ) → unit < data_units g → IsBlankUnit g new.cells unit → IsBlankUnit g old.cells unit
     blank-old t unit low blank = same-blank g old.cells new.cells unit (same-old t) low blank
 
-    blank-new : IsTrue old.told → (unit : ℕ) → unit < data_units g → IsBlankUnit g old.cells unit → IsBlankUnit g new.cells unit
-    blank-new t unit low blank = same-blank g new.cells old.cells unit (λ page below. sym (same-old t page below)) low blank
+    laned-new : IsWellFormed old → KeepsApart new b
+    laned-new formed t apart = laned-over formed new.cells (told-old t) (same-old (told-old t)) apart
 
-    laned-new : IsWellFormed old → IsTrue new.told → OpenedApart b.config b.found b.opened → AreLaned b new.cells
-    laned-new formed t apart = ⊎_elim
-        (λ (x : BeginsFresh b.config old b begun.epoch).
-        let fresh : IsFresh b.config g old.cells = subst (λ (y : Geometry). IsFresh b.config y old.cells) cut-old (x.told (told-old t)) in
-        laned-fresh b.config b new.cells p.order.known x.book (λ unit is. blank-new (told-old t) unit is
-        (record { blank = λ page below. (blank-unit_from g old.cells (formed.size (told-old t) ∙ ap all_pages cut-old) fresh.blank unit 0 is).blank page (omega arith) below })))
-        (λ (x : BeginsFound b.config old b begun.epoch).
-        laned-found b.config b.opened (reading_of_state x.state) b new.cells p.order.known.config x.valid x.book apart
-        (subst (λ (xs : List Cell). SameDataPages b.config xs new.cells) (sym (x.opened_is (told-old t))) (same-old (told-old t))))
-        begun.begins.with
+    isolated-new : IsWellFormed old → KeepsIsolated new b
+    isolated-new formed = keeps-isolated b new p.order.known cut-new stored-new (laned-new formed)
 
     stands-new : IsWellFormed old → StandsBegun b.config new b
     stands-new formed = record { order = p.order; config_is = refl; idle = idle-here; geometry = cut-new; stored = stored-new; apart = laned-new formed }
@@ -230,9 +255,14 @@ module _ (old mid new : FlashState) (b : BookSeen) (k : KeeperSeen) (looks : Onl
     }
 
     ledger-new : IsWellFormed old → IsWellFormed new → IsLedger (counts_of old) b new
-    ledger-new formed then = ledger-begun old new (λ m image. StandsForBeginning b.config b.found b.entries 0 image) survives programs-same b opened-here units-new formed then media-here
+    ledger-new formed then = ledger-begun old new (λ m image. IsSafeImage b.config b.found b.opened b.entries 0 (length b.entries) image) (survives formed) programs-same b opened-here units-new formed then media-here
 
   -- it was done
+  safe-new : (now : KeeperSeen) → KeepsDrive b k now mid new wrote.Done → IsWellFormed old → IsSafe b now.saver now.firm new
+  safe-new now keeps formed =
+      subst (λ (n : ℕ). IsSafe b now.saver n new) (sym keeps.firm_is)
+      (safe-begun b k.saver now.saver 0 mid new wrote.Done p.order p.can.geometry p.stored (isolated-mid formed) p.can.keeper.geometry p.durable p.said keeps.saves)
+
   loaded-here : (now : KeeperSeen) → KeepsDrive b k now mid new wrote.Done → IsWellFormed old → IsWellFormed new → IsLoaded b.config old new b now
   loaded-here now keeps formed then = record {
     epoch = begun.epoch;
@@ -240,7 +270,7 @@ module _ (old mid new : FlashState) (b : BookSeen) (k : KeeperSeen) (looks : Onl
     stands = stands-new now wrote.Done keeps formed;
     saved = record {
       keeper = keeps.keeper;
-      safe = subst (λ (n : ℕ). IsSafe b now.saver n new) (sym keeps.firm_is) (safe-begun b k.saver now.saver 0 mid new wrote.Done p.order p.can.geometry p.stored p.can.keeper.geometry p.durable keeps.saves);
+      safe = safe-new now keeps formed;
       firm_is = keeps.firm_is;
       epoch_is = ap (λ (s : JournalState). s.stamp.epoch) keeps.saves.saver_is ∙ ap (λ (n : ℕ). n + 1) p.epoch_is;
       few = p.few;
@@ -249,12 +279,14 @@ module _ (old mid new : FlashState) (b : BookSeen) (k : KeeperSeen) (looks : Onl
     same = same-old now wrote.Done keeps;
     ledger = ledger-new now wrote.Done keeps formed then;
     faults = keeps.saves.ends ∙ begun.faults;
-    stops = survives now wrote.Done keeps;
+    stops = survives now wrote.Done keeps formed;
+    isolated = λ t opened. let safe = safe-new now keeps formed in
+        durable-stands-apart b.config b.found b.entries now.firm now.saver b.pages.units new.cells (safe.at.durable t) (safe.apart t opened) (isolated-new now wrote.Done keeps formed t opened);
   }
 
   -- or it failed
-  unsaved-here : KeepsNone b k mid new → IsNotLoaded b.config old new (faults.FlashFault new.moment)
-  unsaved-here none =
+  unsaved-here : IsWellFormed old → KeepsNone b k mid new → IsNotLoaded b.config old new (faults.FlashFault new.moment)
+  unsaved-here formed none =
       let keeps = none.keeps in
       record {
         told = λ t. tt;
@@ -266,12 +298,19 @@ module _ (old mid new : FlashState) (b : BookSeen) (k : KeeperSeen) (looks : Onl
             begins = begun.begins;
             same = same-old none.keeper wrote.Failed keeps;
             programs = programs-same none.keeper wrote.Failed keeps;
-            stops = survives none.keeper wrote.Failed keeps;
+            stops = survives none.keeper wrote.Failed keeps formed;
             cells = λ t.
                 let m = told-back none.keeper wrote.Failed keeps t in
-                durable-stands b.config b.found b.entries 0 none.keeper.saver b.pages.units new.cells
-                (checkpoint-done b.config b.found b.entries 0 k.saver none.keeper.saver b.pages.units mid new wrote.Failed p.durable
-                (can-here mid b k begun.epoch p) keeps.saves m);
+                let durable =
+                checkpoint-done b.config b.found b.entries 0 k.saver none.keeper.saver b.pages.units mid new wrote.Failed p.durable
+                (can-here mid b k begun.epoch p) keeps.saves m in
+                record {
+                  stands = durable-stands b.config b.found b.entries 0 none.keeper.saver b.pages.units new.cells durable;
+                  apart = λ opened.
+                      durable-stands-apart b.config b.found b.entries 0 none.keeper.saver b.pages.units new.cells durable
+                      (said-begun b k.saver none.keeper.saver 0 mid new wrote.Failed p.order p.can.geometry p.stored (isolated-mid formed) p.can.keeper.geometry p.durable p.said keeps.saves t opened)
+                      (isolated-new none.keeper wrote.Failed keeps formed t opened);
+                };
           });
         };
       }
@@ -281,20 +320,20 @@ pub loaded-of : (c : DriveConfig) (old mid new : FlashState) (b : BookSeen) (k n
 loaded-of c old mid new b k now looks begun keeps formed then =
     subst (λ (x : DriveConfig). IsBegun x old mid b k → IsLoaded x old new b now) begun.prepared.config_is (λ h. loaded-here old mid new b k looks h now keeps formed then) begun
 
-pub unsaved-of : (c : DriveConfig) (old mid new : FlashState) (b : BookSeen) (k : KeeperSeen) → OnlyLooks old mid → IsBegun c old mid b k → KeepsNone b k mid new → IsNotLoaded c old new (faults.FlashFault new.moment)
-unsaved-of c old mid new b k looks begun none =
-    subst (λ (x : DriveConfig). IsBegun x old mid b k → IsNotLoaded x old new (faults.FlashFault new.moment)) begun.prepared.config_is (λ h. unsaved-here old mid new b k looks h none) begun
+pub unsaved-of : (c : DriveConfig) (old mid new : FlashState) (b : BookSeen) (k : KeeperSeen) → OnlyLooks old mid → IsBegun c old mid b k → IsWellFormed old → KeepsNone b k mid new → IsNotLoaded c old new (faults.FlashFault new.moment)
+unsaved-of c old mid new b k looks begun formed none =
+    subst (λ (x : DriveConfig). IsBegun x old mid b k → IsNotLoaded x old new (faults.FlashFault new.moment)) begun.prepared.config_is (λ h. unsaved-here old mid new b k looks h formed none) begun
 
 module _ (c : DriveConfig) (old mid new : FlashState) (b : BookSeen) (k : KeeperSeen) (looks : OnlyLooks old mid) (begun : IsBegun c old mid b k) where
   pub ok-saved : IsWellFormed old → IsWellFormed new → (result : Result Loaded OpenFault) → SavesFirst b k mid new result → IfOk result (λ made. IsLoaded c old new made.book made.keeper)
   ok-saved formed then (Ok made) h = subst (λ (x : BookSeen). IsLoaded c old new x made.keeper) (sym h.0) (loaded-of c old mid new b k made.keeper looks begun h.1 formed then)
   ok-saved formed then (Err fault) h = tt
 
-  pub err-saved : (result : Result Loaded OpenFault) → SavesFirst b k mid new result → IfErr result (IsNotLoaded c old new)
-  err-saved (Ok made) h = tt
-  err-saved (Err (faults.OtherConfig key)) h = absurd h
-  err-saved (Err faults.NotADrive) h = absurd h
-  err-saved (Err (faults.BadImage page)) h = absurd h
-  err-saved (Err (faults.FlashFault moment)) h = subst (λ (m : ℕ). IsNotLoaded c old new (faults.FlashFault m)) (sym h.0) (unsaved-of c old mid new b k looks begun h.1)
-  err-saved (Err faults.Spent) h = absurd h
-  err-saved (Err faults.NoMemory) h = absurd h
+  pub err-saved : IsWellFormed old → (result : Result Loaded OpenFault) → SavesFirst b k mid new result → IfErr result (IsNotLoaded c old new)
+  err-saved formed (Ok made) h = tt
+  err-saved formed (Err (faults.OtherConfig key)) h = absurd h
+  err-saved formed (Err faults.NotADrive) h = absurd h
+  err-saved formed (Err (faults.BadImage page)) h = absurd h
+  err-saved formed (Err (faults.FlashFault moment)) h = subst (λ (m : ℕ). IsNotLoaded c old new (faults.FlashFault m)) (sym h.0) (unsaved-of c old mid new b k looks begun formed h.1)
+  err-saved formed (Err faults.Spent) h = absurd h
+  err-saved formed (Err faults.NoMemory) h = absurd h

@@ -52,6 +52,11 @@ use Rattle.fdp_rules.specs.Point.{Point}
 use Rattle.fdp_keeper.specs.fdp_saving.Saver.{IsSaverIn, first_saver}
 use Rattle.fdp_keeper.proofs.fdp_saving.Beginning.{found_stands}
 use Rattle.fdp_snapshot.specs.declared.state.State.{State}
+use Rattle.fdp_survival.specs.Apart.{AreSaidApart, ReadsIsolated}
+use Rattle.fdp_survival.specs.fdp_isolation.Begun.{OpenedApart}
+use Rattle.fdp_survival.proofs.Apart.{said-found}
+use Rattle.fdp_survival.proofs.fdp_isolation.Found.{image-apart}
+use Rattle.fdp_survival.proofs.fdp_isolation.Readings.{found-reads}
 use Rattle.fdp_units.specs.declared.state.UnitState.{UnitState}
 use Rattle.fdp_units.specs.declared.state.UnitState.TheVariants.{Closed, Free}
 use Rattle.fdp_units.specs.DataUnits.{is_free}
@@ -137,6 +142,29 @@ module _ (flash : FlashState) (b : BookSeen) (k : KeeperSeen) (s : State) (area 
       subst (λ (x : JournalState). IsDurable b.config b.found b.entries 0 x b.pages.units flash.cells) (sym z.2)
       (begun-found b.config b.found b.entries area z.0 b.pages.units flash.cells z.1 stands (subst (NamesUsed b.config b.pages.units) (sym same) used-here))
 
+  -- what was opened keeps data apart where what was found in these cells does
+  opened-there : IsTrue flash.told → OpenedApart b.config b.found b.opened → OpenedApart b.config (found_in b.config flash.cells r) flash.cells
+  opened-there t opened =
+      subst (λ (xs : List Cell). OpenedApart b.config (found_in b.config xs r) xs) (cells-are t)
+      (subst (OpenedApart b.config (found_in b.config cells r)) h.book.opened_is
+      (subst (λ (f : Found). OpenedApart b.config f b.opened) h.book.found_is opened))
+
+  opened-back : IsTrue flash.told → OpenedApart b.config (found_in b.config flash.cells r) flash.cells → OpenedApart b.config b.found b.opened
+  opened-back t opened =
+      subst (λ (f : Found). OpenedApart b.config f b.opened) (sym h.book.found_is)
+      (subst (OpenedApart b.config (found_in b.config cells r)) (sym h.book.opened_is)
+      (subst (λ (xs : List Cell). OpenedApart b.config (found_in b.config xs r) xs) (sym (cells-are t)) opened))
+
+  said-here : IsTrue flash.told → OpenedApart b.config b.found b.opened → AreSaidApart b.config k.saver flash.cells
+  said-here t opened =
+      let l = (found-here t).left in
+      let z = saver-here t in
+      subst (λ (x : JournalState). AreSaidApart b.config x flash.cells) (sym z.2)
+      (said-found b.config area z.0 flash.cells r z.1 l.reads (found-reads b.config flash.cells r config l.valid (opened-there t opened)))
+
+  apart-here : IsTrue flash.told → ReadsIsolated b.config flash.cells → OpenedApart b.config b.found b.opened
+  apart-here t reads = let l = (found-here t).left in opened-back t (image-apart b.config flash.cells r config l.valid (reads r l.reads))
+
   point-here : point_in b ≡ next b.config (point_of b.config (found_in b.config cells r) []) entries.Reopened
   point-here =
       ap (λ (es : List Entry). point_of b.config b.found es) h.book.entries_are
@@ -158,6 +186,7 @@ module _ (flash : FlashState) (b : BookSeen) (k : KeeperSeen) (s : State) (area 
     stored = stored-here;
     units = units-here;
     durable = durable-here;
+    said = said-here;
     can = record {
       keeper = record { geometry = ap (λ (x : JournalState). x.geometry) h.saver_is; outline = outline-here };
       geometry = h.was.cut;
@@ -181,6 +210,7 @@ module _ (flash : FlashState) (b : BookSeen) (k : KeeperSeen) (s : State) (area 
       told = told;
     });
     stood = stood-here;
+    apart = apart-here;
   }
 
 -- The drive that was found begins a run over its image.

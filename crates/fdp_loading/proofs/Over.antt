@@ -28,6 +28,8 @@ use Rattle.fdp_keeper.specs.fdp_recovery.Opened.{CanGoOn, EndsOpening, IsFound, 
 use Rattle.fdp_keeper.specs.fdp_recovery.Walking.{OnlyLooks}
 use Rattle.fdp_keeper.specs.fdp_saving.Saver.{IsSaverIn}
 use Rattle.fdp_snapshot.specs.declared.state.State.{State}
+use Rattle.fdp_survival.specs.Apart.{AreSaidApart, ReadsIsolated}
+use Rattle.fdp_survival.specs.fdp_isolation.Begun.{OpenedApart}
 use Rattle.fdp_units.specs.DataUnits.{is_free}
 use Rattle.fdp_units.specs.UnitTable.{IsUnit, state_at}
 
@@ -47,6 +49,7 @@ module _ (c : DriveConfig) (old new : FlashState) (alike : IsAlike old new) wher
         }))
         h.with;
     stood = told-over (λ g cells. StandsFor c b.found cells []) old new alike h.stood;
+    apart = told-over (λ g cells. ReadsIsolated c cells → OpenedApart c b.found b.opened) old new alike h.apart;
   }
 
   pub prepared-over : (b : BookSeen) (k : KeeperSeen) (epoch : ℕ) → IsPrepared c old b k epoch → IsPrepared c new b k epoch
@@ -56,6 +59,7 @@ module _ (c : DriveConfig) (old new : FlashState) (alike : IsAlike old new) wher
     stored = told-over (λ g cells. HoldsWritten g cells (written_in b) b.pages.units) old new alike h.stored;
     units = told-over (λ g cells. (unit : ℕ) → IsUnit b.pages.units unit → IsTrue (is_free (state_at b.pages.units unit)) ⊎ IsFalse (is_blank_unit (geometry_of c) cells unit)) old new alike h.units;
     durable = told-over (λ g cells. IsDurable b.config b.found b.entries 0 k.saver b.pages.units cells) old new alike h.durable;
+    said = λ t opened. told-over (λ g cells. AreSaidApart b.config k.saver cells) old new alike (λ was. h.said was opened) t;
     can = record {
       keeper = h.can.keeper;
       geometry = alike.geometry ∙ h.can.geometry;

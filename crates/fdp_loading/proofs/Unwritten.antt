@@ -38,6 +38,9 @@ use Rattle.fdp_keeper.specs.fdp_recovery.Opened.{IsFresh}
 use Rattle.fdp_rules.specs.History.{Found, point_of}
 use Rattle.fdp_keeper.specs.fdp_saving.Saver.{IsSaverIn}
 use Rattle.fdp_keeper.proofs.fdp_saving.Beginning.{fresh_stands}
+use Rattle.fdp_survival.specs.Apart.{AreSaidApart}
+use Rattle.fdp_survival.proofs.Apart.{said-fresh}
+use Rattle.fdp_survival.proofs.fdp_isolation.Promised.{opened-fresh}
 use Rattle.fdp_units.specs.DataUnits.{is_free}
 use Rattle.fdp_units.specs.declared.data_unit.DataUnit.{DataUnit}
 use Rattle.fdp_units.specs.UnitTable.{Cut, IsUnit, UnitTable, state_at, unit_at}
@@ -121,6 +124,9 @@ module _ (flash : FlashState) (b : BookSeen) (k : KeeperSeen) (config : IsValidC
     stored = stored-here;
     units = λ t unit there. inl (free-first b.config b h.book unit (in-cut unit there));
     durable = durable-here;
+    said = λ t opened.
+        subst (λ (s : JournalState). AreSaidApart b.config s flash.cells) (sym h.saver_is)
+        (said-fresh b.config flash.cells (fresh_reading b.config) (none-here t) (reads-fresh b.config flash.cells (none-here t) (fresh-here t).blank));
     can = record {
       keeper = record {
         geometry = ap (λ (s : JournalState). s.geometry) h.saver_is;
@@ -136,7 +142,7 @@ module _ (flash : FlashState) (b : BookSeen) (k : KeeperSeen) (config : IsValidC
   }
 
   begins-here : Begins b.config flash b 0
-  begins-here = record { with = inl (record { book = h.book; epoch_is = refl; told = told }); stood = stood-here }
+  begins-here = record { with = inl (record { book = h.book; epoch_is = refl; told = told }); stood = stood-here; apart = λ t reads. opened-fresh b.config b h.book }
 
 -- A drive as its configuration makes it begins a run over a flash that no drive has written.
 pub fresh-begins : (c : DriveConfig) (flash : FlashState) (b : BookSeen) (k : KeeperSeen) → IsValidConfig c → IsWellFormed flash → flash.geometry ≡ geometry_of c → (IsTrue flash.told → IsFresh c flash.geometry flash.cells) → IsFreshDrive c b k → Begins c flash b 0 × IsPrepared c flash b k 0

@@ -9,6 +9,8 @@ use Rattle.fdp_image.specs.StandsFor.{StandsFor}
 use Rattle.fdp_image.specs.Valid.{IsValid}
 use Rattle.fdp_keeper.specs.fdp_recovery.Opened.{CanGoOn, IsFound, IsFresh}
 use Rattle.fdp_snapshot.specs.declared.state.State.{State}
+use Rattle.fdp_survival.specs.Apart.{ReadsIsolated}
+use Rattle.fdp_survival.specs.fdp_isolation.Begun.{OpenedApart}
 
 -- a drive as its configuration makes it, over a flash that no drive has written; its history has no entry yet
 pub record BeginsFresh (c : DriveConfig) (flash : FlashState) (b : BookSeen) (epoch : ℕ) : Type 0 where
@@ -27,7 +29,9 @@ pub record BeginsFound (c : DriveConfig) (flash : FlashState) (b : BookSeen) (ep
   pub opened_is : IsTrue flash.told → b.opened ≡ flash.cells
   pub told : IsTrue flash.told → IsFound c flash.geometry flash.cells state area epoch
 
--- a run begins with what stood on a flash, which stands for what the history began with
+-- a run begins with what stood on a flash, which stands for what the history began with; where the image was isolated, what was opened keeps
+-- data apart
 pub record Begins (c : DriveConfig) (flash : FlashState) (b : BookSeen) (epoch : ℕ) : Type 0 where
   pub with : BeginsFresh c flash b epoch ⊎ BeginsFound c flash b epoch
   pub stood : IsTrue flash.told → StandsFor c b.found flash.cells []
+  pub apart : IsTrue flash.told → ReadsIsolated c flash.cells → OpenedApart c b.found b.opened

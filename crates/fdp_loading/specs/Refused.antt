@@ -1,5 +1,5 @@
 -- Why no run begins with a flash, and what stands on it then.
-use Rattle.std.specs.Prelude.{◌≡◌, ◌⊎◌, ℕ, IsTrue, List, Some}
+use Rattle.std.specs.Prelude.{◌≡◌, ◌⊎◌, ℕ, IsTrue, List, Some, length}
 use Rattle.fdp_base.specs.declared.config.DriveConfig.{DriveConfig}
 use Rattle.fdp_base.specs.declared.config.Geometry.{Geometry}
 use Rattle.fdp_keeper.specs.fdp_book.Book.{BookSeen}
@@ -7,7 +7,6 @@ use Rattle.fdp_flash.specs.declared.cell.Cell.{Cell}
 use Rattle.fdp_flash.specs.Failing.{FailsLast}
 use Rattle.fdp_flash.specs.FlashState.{FlashState}
 use Rattle.fdp_image.specs.Checkpoint.{reading_of_state}
-use Rattle.fdp_image.specs.Kept.{StandsForBeginning}
 use Rattle.fdp_image.specs.Saving.{SameDataPages}
 use Rattle.fdp_loading.specs.Begun.{Begins}
 use Rattle.fdp_keeper.specs.fdp_opening.Found.{IsFirstAstray}
@@ -18,6 +17,7 @@ use Rattle.fdp_keeper.specs.fdp_recovery.Opened.{IsBadImage, IsFound, IsNoDrive,
 use Rattle.fdp_keeper.specs.fdp_recovery.Walking.{OnlyLooks}
 use Rattle.fdp_snapshot.specs.declared.state.State.{State}
 use Rattle.fdp_survival.specs.Books.{Survives}
+use Rattle.fdp_survival.specs.Safe.{IsSafeImage}
 
 -- a drive was found, but this is the page of its first block that is not in its place
 pub record IsStrayImage (c : DriveConfig) (g : Geometry) (cells : List Cell) (page : ℕ) : Type 0 where
@@ -42,15 +42,15 @@ pub record IsLookedAt (old new : FlashState) : Type 0 where
   pub faults : new.faults ≡ old.faults
 
 -- The drive that was to be saved first was not: no page of data changed, and the flash, and whatever a stop left, stands for what the history
--- begins with, without the entry of the opening or with it.
+-- begins with, without the entry of the opening or with it, and keeps data apart where what was opened did.
 pub record FailsToSave (c : DriveConfig) (old new : FlashState) : Type 0 where
   pub book : BookSeen
   pub epoch : ℕ
   pub begins : Begins c old book epoch
   pub same : IsTrue old.told → SameDataPages c old.cells new.cells
   pub programs : new.programs ≡ old.programs
-  pub stops : Survives book 0 old new
-  pub cells : IsTrue new.told → StandsForBeginning book.config book.found book.entries 0 new.cells
+  pub stops : Survives book 0 (length book.entries) old new
+  pub cells : IsTrue new.told → IsSafeImage book.config book.found book.opened book.entries 0 (length book.entries) new.cells
 
 -- a flash whose last call failed was only looked at, or its first checkpoint failed
 pub record FailsToLoad (c : DriveConfig) (old new : FlashState) (moment : ℕ) : Type 0 where

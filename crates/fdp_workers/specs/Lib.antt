@@ -6,6 +6,8 @@ pub use Rattle.fdp_core.specs.fdp_isolation as fdp_isolation
 pub use Rattle.fdp_core.specs.fdp_ledger as fdp_ledger
 pub use Rattle.fdp_core.specs.fdp_recovery as fdp_recovery
 pub use Rattle.fdp_core.specs.fdp_relocation as fdp_relocation
+pub use Rattle.fdp_core.specs.fdp_roominess as fdp_roominess
+pub use Rattle.fdp_core.specs.fdp_survival as fdp_survival
 pub mod Hosting
 pub mod Marks
 pub mod Pairs

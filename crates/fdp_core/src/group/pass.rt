@@ -1,14 +1,13 @@
 ghost use Rattle.std.specs.Prelude.{◌+◌, ◌≤◌, ◌<◌, IsTrue, length};
 ghost use Rattle.fdp_core.specs.Passes.{EndsPass, EndsRest, MayBeginPass, MayEndPass};
 ghost use Rattle.fdp_core.specs.Seen.{Stands, stage_of};
-ghost use Rattle.fdp_core.specs.Stops.{Outlasts};
+ghost use Rattle.fdp_core.specs.Stops.{IsSafeNow, Outlasts};
 ghost use Rattle.fdp_loading.specs.fdp_isolation.Laned.{IsKnown};
 ghost use Rattle.fdp_relocation.specs.fdp_pages.PageTables.{passes_at};
 ghost use Rattle.fdp_passes.specs.declared.due.Due.TheVariants.{Move};
 ghost use Rattle.fdp_passes.specs.Due.{IsDue};
 ghost use Rattle.fdp_core.specs.Advancing.{Advances, TellsMore};
 ghost use Rattle.fdp_relocation.specs.Collected.{Collects};
-ghost use Rattle.fdp_loading.specs.fdp_survival.Books.{IsSafe};
 
 use super::Group;
 use fdp_flash::Flash;
@@ -34,7 +33,7 @@ impl<F: Flash> Group<F> {
         requires may { MayBeginPass self.old.book rg }
         ensures step { EndsPass F.state self.old self.new rg result }
         ensures stops { Outlasts F.state self.old self.new }
-        ensures safe { IsSafe self.new.book self.new.keeper.saver self.new.keeper.firm (F.state self.new.flash) }
+        ensures safe { IsSafeNow (F.state self.new.flash) self.new.book self.new.keeper }
     {
         match self.advance(rg) {
             Advance::Copied => self.end_pass(rg),
@@ -51,7 +50,7 @@ impl<F: Flash> Group<F> {
         requires may { MayEndPass self.old.book rg }
         ensures step { EndsRest F.state self.old self.new rg result }
         ensures stops { Outlasts F.state self.old self.new }
-        ensures safe { IsSafe self.new.book self.new.keeper.saver self.new.keeper.firm (F.state self.new.flash) }
+        ensures safe { IsSafeNow (F.state self.new.flash) self.new.book self.new.keeper }
     {
         loop {
             match self.advance(rg) {
@@ -74,7 +73,7 @@ impl<F: Flash> Group<F> {
         ensures collects { Collects F.state (stage_of self.old) (stage_of self.new) rg result }
         ensures told { TellsMore F.state self.old self.new rg result }
         ensures stops { Outlasts F.state self.old self.new }
-        ensures safe { IsSafe self.new.book self.new.keeper.saver self.new.keeper.firm (F.state self.new.flash) }
+        ensures safe { IsSafeNow (F.state self.new.flash) self.new.book self.new.keeper }
         ensures epochs { self.new.keeper.saver.stamp.epoch + length self.old.book.entries ≤ self.old.keeper.saver.stamp.epoch + length self.new.book.entries }
         ensures old { Stands (F.state self.old.flash) self.old.book }
         ensures new { IsKnown self.new.book }

@@ -13,4 +13,4 @@ returns-in-Ok-clause-refused g c =
     let old = g.F.Flash.state c.args.flash.now in
     let mid = g.F.Flash.state c.begin.new.flash in
     let new = g.F.Flash.state c.save.new.flash in
-    err-saved c.args.config.now old mid new c.in-Ok.begun.book c.in-Ok.begun.keeper c.in-Ok.ensures.looks c.in-Ok.ensures.begun c.save.result c.save.ensures
+    err-saved c.args.config.now old mid new c.in-Ok.begun.book c.in-Ok.begun.keeper c.in-Ok.ensures.looks c.in-Ok.ensures.begun (g.met.F.Flash.well_formed c.args.flash.now) c.save.result c.save.ensures

@@ -13,20 +13,22 @@ use Rattle.fdp_core.proofs.Wholes.{low-faults}
 use Rattle.fdp_relocation.specs.fdp_keeper.Keeper.{CanSave}
 use Rattle.fdp_relocation.proofs.fdp_locations.Others.{is-group}
 use Rattle.fdp_relocation.specs.Collected.{Collects}
-use Rattle.fdp_loading.specs.fdp_survival.Books.{IsInOrder}
+use Rattle.fdp_loading.specs.fdp_survival.Books.{IsInOrder, KeepsIsolated}
 use Rattle.fdp_loading.proofs.fdp_survival.Steps.{HoldsBook}
 use Rattle.fdp_relocation.specs.fdp_book.Book.{state_in, written_in}
 use Rattle.fdp_core.proofs.group.Group.advance.Given.{Over}
+use Rattle.fdp_core.proofs.Apart.{sound-isolated}
 use Rattle.fdp_core.proofs.group.Group.advance.Goals as goal
 use Rattle.fdp_base.specs.declared.config.Geometry.{Geometry}
 use Rattle.fdp_relocation.specs.fdp_locations.Stored.{HoldsWritten}
 use Rattle.fdp_relocation.specs.declared.advance.Advance.{Advance}
+use Rattle.fdp_core.proofs.RoomySteps.{leaves-collected}
 
 pub collect-advance-requires-clause-can : goal.collect-advance-requires-clause-can
 collect-advance-requires-clause-can g c = subst (λ (s : Seen g.row.F.Denot). CanSave s.book s.keeper (g.F.Flash.state s.flash)) (sym c.self.view_is) c.can_save.ensures.can
 
 pub collect-advance-requires-clause-said : goal.collect-advance-requires-clause-said
-collect-advance-requires-clause-said g c told = let durable = c.self.invariant.kept.safe.durable told in record { own = durable.own; tried = durable.tried; say = durable.say }
+collect-advance-requires-clause-said g c told = let durable = c.self.invariant.kept.safe.at.durable told in record { own = durable.own; tried = durable.tried; say = durable.say }
 
 module _ (g : Over) (c : goal.After-known g) where
   abbrev old : Seen g.row.F.Denot
@@ -64,9 +66,12 @@ module _ (g : Over) (c : goal.After-known g) where
       (filled-buffer c.self.inside.block.len c.self.inside.block.items c.collect-advance.new.block (ap length (sym c.deref_mut.ensures.value) ∙ c.deref_mut.ensures.len) (c.collect-advance.ensures.block ∙ ap length c.deref_mut.ensures.value))
       c.collect-advance.result c.collect-advance.ensures.step
 
+  then-isolated : KeepsIsolated (g.F.Flash.state c.collect-advance.new.flash) c.collect-advance.new.book
+  then-isolated = sound-isolated c.self.inside.handed (g.F.Flash.state c.collect-advance.new.flash) c.collect-advance.new.book _ then-order.known sound
+
   kept : IsKept c.self.inside.handed (g.F.Flash.state c.collect-advance.new.flash) c.collect-advance.new.book c.collect-advance.new.keeper
   kept =
-      kept-collected g.F.Flash.state (stage_of old) (stage_of new) c.args.rg c.self.inside.handed order c.self.invariant.sound.geometry c.self.invariant.sound.stored c.self.invariant.kept low then-order stored low-now c.collect-advance.ensures.keeper
+      kept-collected g.F.Flash.state (stage_of old) (stage_of new) c.args.rg c.self.inside.handed order c.self.invariant.sound.geometry c.self.invariant.sound.stored c.self.invariant.sound.apart c.self.invariant.kept low then-order stored then-isolated low-now c.collect-advance.ensures.keeper
       c.collect-advance.result c.collect-advance.ensures.step
 
   advances : Advances g.F.Flash.state old new c.args.rg c.collect-advance.result
@@ -93,13 +98,15 @@ returns-clause-stops g c =
     let a = advances g c in
     subst (λ (s : Seen g.row.F.Denot). Outlasts g.F.Flash.state s (new g c)) c.self.view_is
     (outlasts-part g.F.Flash.state (old g c) (new g c) a.es a.relocates.extends.book (relocation-none c.self.inside.book.config c.args.rg a.es a.relocates.inside)
-    (survives-collected g.F.Flash.state (stage_of (old g c)) (stage_of (new g c)) c.args.rg c.self.inside.handed (order g c) c.self.invariant.sound.geometry c.self.invariant.sound.stored c.self.invariant.kept (low g c) (then-order g c) (stored g c) (low-now g c)
+    (survives-collected g.F.Flash.state (stage_of (old g c)) (stage_of (new g c)) c.args.rg c.self.inside.handed (order g c) c.self.invariant.sound.geometry c.self.invariant.sound.stored c.self.invariant.sound.apart c.self.invariant.kept (low g c) (then-order g c) (stored g c) (then-isolated g c) (low-now g c)
     c.collect-advance.ensures.keeper c.collect-advance.result c.collect-advance.ensures.step)
-    (firm-collected g.F.Flash.state (stage_of (old g c)) (stage_of (new g c)) c.args.rg c.self.inside.handed (order g c) c.self.invariant.sound.geometry c.self.invariant.sound.stored c.self.invariant.kept (low g c) (then-order g c) (stored g c) (low-now g c)
-    c.collect-advance.ensures.keeper c.collect-advance.result c.collect-advance.ensures.step))
+    (firm-collected g.F.Flash.state (stage_of (old g c)) (stage_of (new g c)) c.args.rg c.self.inside.handed (order g c) c.self.invariant.sound.geometry c.self.invariant.sound.stored c.self.invariant.sound.apart c.self.invariant.kept (low g c) (then-order g c) (stored g c) (then-isolated g c) (low-now g c)
+    c.collect-advance.ensures.keeper c.collect-advance.result c.collect-advance.ensures.step)
+    refl
+    (leaves-collected g.F.Flash.state (stage_of (old g c)) (stage_of (new g c)) c.args.rg c.self.inside.handed c.self.inside.block.items (order g c) c.self.invariant (then-order g c).known (sound g c).room c.collect-advance.result c.collect-advance.ensures.step))
 
 pub returns-clause-safe : goal.returns-clause-safe
-returns-clause-safe g c = (kept g c).safe
+returns-clause-safe g c = record { safe = (kept g c).safe; isolated = then-isolated g c }
 
 pub returns-clause-old : goal.returns-clause-old
 returns-clause-old g c = subst (λ (s : Seen g.row.F.Denot). Stands (g.F.Flash.state s.flash) s.book) c.self.view_is (stands g c)

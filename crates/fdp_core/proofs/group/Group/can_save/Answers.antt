@@ -21,5 +21,5 @@ returns-clause-can g c =
       keeper = whole.kept.keeper;
       geometry = whole.sound.geometry;
       epoch = omega (arith, small, spent, epochs);
-      saver = λ told. (whole.kept.safe.durable told).saver;
+      saver = λ told. (whole.kept.safe.at.durable told).saver;
     })

@@ -14,11 +14,15 @@ use Rattle.fdp_core.proofs.Sound.{begun}
 use Rattle.fdp_core.proofs.Wholes.{whole-begun}
 use Rattle.fdp_relocation.specs.declared.advance.Advance.{Advance}
 use Rattle.fdp_relocation.specs.Collected.{Collects}
+use Rattle.fdp_loading.specs.fdp_survival.Apart.{IsStopApart}
 use Rattle.fdp_core.proofs.group.Group.collect.Goals as goal
 use Rattle.fdp_image.specs.Kept.{AreFirm, IsStopSafe}
 use Rattle.fdp_base.specs.declared.entry.Entry.{Entry}
 use Rattle.fdp_flash.specs.FlashState.{FlashState}
 use Rattle.fdp_relocation.specs.fdp_keeper.Keeper.{KeeperSeen}
+use Rattle.fdp_roominess.specs.Run.{IsRoomyImage}
+use Rattle.fdp_flash.specs.Runs.{Runs}
+use Rattle.fdp_base.specs.Counts.{Rose}
 
 pub invariant_of-self : goal.invariant_of-self
 invariant_of-self g c =
@@ -52,6 +56,11 @@ stops-mid {F} state old mid new keeper flash entries_are h = record {
       subst (λ (x : F). IsStopSafe old.book.config old.book.found new.book.entries old.keeper.firm new.keeper.firm (state old.flash) (state x)) (sym flash)
       (subst (λ (k : KeeperSeen). IsStopSafe old.book.config old.book.found new.book.entries old.keeper.firm k.firm (state old.flash) (state mid.flash)) (sym keeper)
       (subst (λ (es : List Entry). IsStopSafe old.book.config old.book.found es old.keeper.firm mid.keeper.firm (state old.flash) (state mid.flash)) (sym entries_are) h.stops));
+  roomy = λ began well.
+      subst (λ (x : F). Runs (state old.flash) (state x) (λ m image. IsRoomyImage old.book.config image)) (sym flash) (h.roomy began (subst (λ (x : F). Rose old.handed.faults (state x).faults → ⊥) flash well));
+  apart = λ opened.
+      subst (λ (x : F). IsStopApart old.book.config old.book.found new.book.entries (length old.book.entries) (state old.flash) (state x)) (sym flash)
+      (subst (λ (es : List Entry). IsStopApart old.book.config old.book.found es (length old.book.entries) (state old.flash) (state mid.flash)) (sym entries_are) (h.apart opened));
   more = subst (λ (k : KeeperSeen). old.keeper.firm ≤ k.firm) (sym keeper) h.more;
   firm = subst (λ (k : KeeperSeen). AreFirm new.book.entries k.firm) (sym keeper) (subst (λ (es : List Entry). AreFirm es mid.keeper.firm) (sym entries_are) h.firm);
 }
@@ -71,7 +80,7 @@ invariant_of-self-then-has_added_nothing g c =
     subst (λ (b : BookSeen). IsWhole behind.handed (state behind.flash) b behind.keeper behind.block.items) (sym c.cancel.ensures)
     (record {
       sound = sound-cancelled behind.handed (state behind.flash) behind.book behind.block.items c.self-2.invariant.sound;
-      kept = kept-alike behind.handed (state behind.flash) behind.book (cancelled behind.book) behind.keeper refl refl refl refl
+      kept = kept-alike behind.handed (state behind.flash) behind.book (cancelled behind.book) behind.keeper refl refl refl refl refl
           (cancelled-epochs inside.book behind.book a.es inside.keeper.saver.stamp.epoch behind.keeper.saver.stamp.epoch longer full c.self.invariant.kept.epochs epochs) c.self-2.invariant.kept;
     })
 

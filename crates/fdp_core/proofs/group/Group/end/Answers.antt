@@ -1,4 +1,4 @@
-use Rattle.std.proofs.Common.{ℕ, [], false, refl, sym, subst, arith}
+use Rattle.std.proofs.Common.{ℕ, [], false, refl, sym, subst, arith, length}
 use Rattle.fdp_relocation.specs.fdp_book.Book.{state_in}
 use Rattle.fdp_relocation.specs.fdp_book.Steps.{Completes}
 use Rattle.fdp_relocation.specs.fdp_book.Tickets.{IsTicketOf}
@@ -14,7 +14,9 @@ use Rattle.fdp_rules.specs.Answer.{bare}
 use Rattle.fdp_rules.specs.PlainState.{Going}
 use Rattle.fdp_loading.specs.fdp_survival.Books.{IsInOrder}
 use Rattle.fdp_core.proofs.group.Group.end.Given.{Over}
+use Rattle.fdp_core.proofs.Apart.{safe-now}
 use Rattle.fdp_core.proofs.group.Group.end.Goals as goal
+use Rattle.fdp_core.proofs.Roomy.{leaves-uncalled}
 
 -- the write is that of the ticket
 here : (g : Over) (c : goal.After-known-2 g) → IsTicketOf (state_in c.self.inside.book) c.args.ticket c.requires.going.going
@@ -67,7 +69,11 @@ returns-clause-stops g c =
     let new : Seen g.row.F.Denot = record { book = c.end-done.new.self; keeper = inside.keeper; handed = inside.handed; flash = inside.flash } in
     subst (λ (s : Seen g.row.F.Denot). Outlasts g.F.Flash.state s new) c.self.view_is
     (outlasts-entry g.F.Flash.state old new (host c.args.ticket.queue k.going.number k.going.command (bare c.args.status false) (g.F.Flash.state inside.flash).moment) (completed g c k.going (here g c)).step
-    (uncompleted k.going.command (bare c.args.status false) c.requires.failed) (survives-uncalled inside.book inside.keeper.firm (g.F.Flash.state inside.flash)) (omega arith))
+    (uncompleted k.going.command (bare c.args.status false) c.requires.failed) (survives-uncalled inside.book inside.keeper.firm (length inside.book.entries) (g.F.Flash.state inside.flash)) (omega arith) refl (leaves-uncalled inside.handed (g.F.Flash.state inside.flash) inside.book))
 
 pub returns-clause-safe : goal.returns-clause-safe
-returns-clause-safe g c = (kept g c).safe
+returns-clause-safe g c =
+    let inside = c.self.inside in
+    safe-now inside.handed (g.F.Flash.state inside.flash) c.end-done.new.self inside.keeper inside.block.items
+    (record { config = c.known-2.ensures.config; orderly = c.known-2.ensures.orderly; units = c.known-2.ensures.units; joined = c.known-2.ensures.joined; led = c.known-2.ensures.led; generation = c.known-2.ensures.generation })
+    (invariant_of-self g c)

@@ -30,7 +30,7 @@ returns-clause-stops g c =
     let old : Seen g.row.F.Denot = record { book = inside.book; keeper = inside.keeper; handed = inside.handed; flash = inside.flash } in
     subst (λ (s : Seen g.row.F.Denot). OutlastsStops g.F.Flash.state s c.end.new.self) c.self.view_is
     (unbegun g.F.Flash.state old c.end.new.self
-    (outlasts-all g.F.Flash.state (begun_seen old) c.end.new.self c.self.invariant.kept.safe.firm_is c.end.ensures.safe
+    (outlasts-all g.F.Flash.state (begun_seen old) c.end.new.self c.self.invariant.kept.safe.at.firm_is c.end.ensures.safe
     (subst (λ (b : BookSeen). Outlasts g.F.Flash.state (record { book = b; keeper = inside.keeper; handed = inside.handed; flash = inside.flash }) c.end.new.self) c.begin.ensures c.end.ensures.stops)))
 
 pub invariant_of-self : goal.invariant_of-self

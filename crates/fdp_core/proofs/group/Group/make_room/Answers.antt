@@ -148,25 +148,25 @@ returns-in-Made-clause-stops g c =
     let inside = c.self.inside in
     let old : Seen g.row.F.Denot = record { book = inside.book; keeper = inside.keeper; handed = inside.handed; flash = inside.flash } in
     subst (λ (s : Seen g.row.F.Denot). OutlastsStops g.F.Flash.state s c.make_pass.new.self) c.self.view_is
-    (unbegun g.F.Flash.state old c.make_pass.new.self (outlasts-all g.F.Flash.state (begun_seen old) c.make_pass.new.self c.self.invariant.kept.safe.firm_is c.in-Made.ensures.safe (from-begun old c.begin.new.self (λ s. Outlasts g.F.Flash.state s c.make_pass.new.self) c.begin.ensures c.in-Made.ensures.stops)))
+    (unbegun g.F.Flash.state old c.make_pass.new.self (outlasts-all g.F.Flash.state (begun_seen old) c.make_pass.new.self c.self.invariant.kept.safe.at.firm_is c.in-Made.ensures.safe (from-begun old c.begin.new.self (λ s. Outlasts g.F.Flash.state s c.make_pass.new.self) c.begin.ensures c.in-Made.ensures.stops)))
 
 pub returns-in-Nothing-clause-stops : goal.returns-in-Nothing-clause-stops
 returns-in-Nothing-clause-stops g c =
     let inside = c.self.inside in
     let old : Seen g.row.F.Denot = record { book = inside.book; keeper = inside.keeper; handed = inside.handed; flash = inside.flash } in
     subst (λ (s : Seen g.row.F.Denot). OutlastsStops g.F.Flash.state s c.end.new.self) c.self.view_is
-    (unbegun g.F.Flash.state old c.end.new.self (outlasts-all g.F.Flash.state (begun_seen old) c.end.new.self c.self.invariant.kept.safe.firm_is c.end.ensures.safe (outlasts-joined g.F.Flash.state (begun_seen old) c.make_pass.new.self c.end.new.self (from-begun old c.begin.new.self (λ s. Outlasts g.F.Flash.state s c.make_pass.new.self) c.begin.ensures c.in-Nothing.ensures.stops) c.end.ensures.stops)))
+    (unbegun g.F.Flash.state old c.end.new.self (outlasts-all g.F.Flash.state (begun_seen old) c.end.new.self c.self.invariant.kept.safe.at.firm_is c.end.ensures.safe (outlasts-joined g.F.Flash.state (begun_seen old) c.make_pass.new.self c.end.new.self (from-begun old c.begin.new.self (λ s. Outlasts g.F.Flash.state s c.make_pass.new.self) c.begin.ensures c.in-Nothing.ensures.stops) c.end.ensures.stops)))
 
 pub returns-in-Starved-clause-stops : goal.returns-in-Starved-clause-stops
 returns-in-Starved-clause-stops g c =
     let inside = c.self.inside in
     let old : Seen g.row.F.Denot = record { book = inside.book; keeper = inside.keeper; handed = inside.handed; flash = inside.flash } in
     subst (λ (s : Seen g.row.F.Denot). OutlastsStops g.F.Flash.state s c.end-in-Starved.new.self) c.self.view_is
-    (unbegun g.F.Flash.state old c.end-in-Starved.new.self (outlasts-all g.F.Flash.state (begun_seen old) c.end-in-Starved.new.self c.self.invariant.kept.safe.firm_is c.end-in-Starved.ensures.safe (outlasts-joined g.F.Flash.state (begun_seen old) c.make_pass.new.self c.end-in-Starved.new.self (from-begun old c.begin.new.self (λ s. Outlasts g.F.Flash.state s c.make_pass.new.self) c.begin.ensures c.in-Starved.ensures.stops) c.end-in-Starved.ensures.stops)))
+    (unbegun g.F.Flash.state old c.end-in-Starved.new.self (outlasts-all g.F.Flash.state (begun_seen old) c.end-in-Starved.new.self c.self.invariant.kept.safe.at.firm_is c.end-in-Starved.ensures.safe (outlasts-joined g.F.Flash.state (begun_seen old) c.make_pass.new.self c.end-in-Starved.new.self (from-begun old c.begin.new.self (λ s. Outlasts g.F.Flash.state s c.make_pass.new.self) c.begin.ensures c.in-Starved.ensures.stops) c.end-in-Starved.ensures.stops)))
 
 pub returns-in-Fault-clause-stops : goal.returns-in-Fault-clause-stops
 returns-in-Fault-clause-stops g c =
     let inside = c.self.inside in
     let old : Seen g.row.F.Denot = record { book = inside.book; keeper = inside.keeper; handed = inside.handed; flash = inside.flash } in
     subst (λ (s : Seen g.row.F.Denot). OutlastsStops g.F.Flash.state s c.end-in-Fault.new.self) c.self.view_is
-    (unbegun g.F.Flash.state old c.end-in-Fault.new.self (outlasts-all g.F.Flash.state (begun_seen old) c.end-in-Fault.new.self c.self.invariant.kept.safe.firm_is c.end-in-Fault.ensures.safe (outlasts-joined g.F.Flash.state (begun_seen old) c.make_pass.new.self c.end-in-Fault.new.self (from-begun old c.begin.new.self (λ s. Outlasts g.F.Flash.state s c.make_pass.new.self) c.begin.ensures c.in-Fault.ensures.stops) c.end-in-Fault.ensures.stops)))
+    (unbegun g.F.Flash.state old c.end-in-Fault.new.self (outlasts-all g.F.Flash.state (begun_seen old) c.end-in-Fault.new.self c.self.invariant.kept.safe.at.firm_is c.end-in-Fault.ensures.safe (outlasts-joined g.F.Flash.state (begun_seen old) c.make_pass.new.self c.end-in-Fault.new.self (from-begun old c.begin.new.self (λ s. Outlasts g.F.Flash.state s c.make_pass.new.self) c.begin.ensures c.in-Fault.ensures.stops) c.end-in-Fault.ensures.stops)))

@@ -21,6 +21,7 @@ use Rattle.fdp_loading.specs.fdp_isolation.Laned.{IsKnown}
 use Rattle.fdp_loading.proofs.fdp_ledger.Blank.{emptied-placed, emptied-shut}
 use Rattle.fdp_rules.specs.PlainState.{Going}
 use Rattle.fdp_core.proofs.group.Group.place_at.Given.{Over}
+use Rattle.fdp_core.proofs.Apart.{safe-now}
 use Rattle.fdp_core.proofs.group.Group.place_at.Goals as goal
 use Rattle.fdp_core.proofs.group.Group.place_at.Goals.{then-last, else-last}
 use Rattle.fdp_relocation.specs.fdp_keeper.Keeper.{CanSave, KeeperSeen, KeepsMade}
@@ -32,7 +33,7 @@ use Rattle.fdp_core.specs.Stops.{OutlastsStops}
 use Rattle.fdp_relocation.specs.fdp_saving.declared.saved.Saved.{Saved}
 use Rattle.fdp_relocation.specs.fdp_book.declared.write_place.WritePlace.{WritePlace}
 use Rattle.fdp_core.proofs.Pages.{fails-to-place, page-kept, page-stops, shut-stops, shut-whole}
-use Rattle.fdp_loading.proofs.fdp_survival.Steps.{safe-unplaced}
+use Rattle.fdp_loading.proofs.fdp_survival.Steps.{at-unplaced}
 
 pub program-programmed-requires-clause-payload : goal.program-programmed-requires-clause-payload
 program-programmed-requires-clause-payload g c =
@@ -86,7 +87,7 @@ invariant_of-self g c =
           c.in-Ok.ensures.called
           (filled-buffer old.block.len old.block.items c.program-programmed.new.block (ap length (sym c.deref_mut.ensures.value) ∙ c.deref_mut.ensures.len) (c.program-programmed.ensures.size ∙ ap length c.deref_mut.ensures.value))
           placed;
-      kept = page-kept g.F.Flash.state old.flash c.program-programmed.new.flash old.handed old.book c.place-last.new.self old.keeper old.block.items c.args.ticket ticket.going c.args.spot c.args.spare.now _ c.place-last.result order c.self.invariant comes.0 c.in-Ok.ensures.done c.program-programmed.ensures.stops placed;
+      kept = page-kept g.F.Flash.state old.flash c.program-programmed.new.flash old.handed old.book c.place-last.new.self old.keeper old.block.items c.args.ticket ticket.going c.args.spot c.args.spare.now _ c.place-last.result order c.self.invariant comes.0 c.in-Ok.ensures.done c.program-programmed.ensures.stops placed here comes.2;
     }
 
 pub returns-after-last-clause-step : goal.returns-after-last-clause-step
@@ -117,7 +118,10 @@ returns-after-last-clause-stops g c =
     let comes = subst (λ (s : Seen g.row.F.Denot). ComesTo s.book c.args.ticket ticket.going (next.At c.args.spot c.args.index c.args.spare.now)) (sym c.self.view_is) (c.requires.next ticket.going ticket.ticket_is) in
     let placed = subst (λ (b : BookSeen). IsTicketOf (state_in b) c.args.ticket ticket.going → book.Places b c.place-last.new.self c.args.ticket ticket.going c.args.spot c.place-last.result) c.begin.ensures (c.place-last.ensures ticket.going) here in
     subst (λ (s : Seen g.row.F.Denot). OutlastsStops g.F.Flash.state s new) c.self.view_is
-    (page-stops g.F.Flash.state old.flash c.program-programmed.new.flash old.handed old.book c.place-last.new.self old.keeper old.block.items c.args.ticket ticket.going c.args.spot c.args.spare.now _ c.place-last.result order c.self.invariant comes.0 c.in-Ok.ensures.done c.program-programmed.ensures.stops placed)
+    (page-stops g.F.Flash.state old.flash c.program-programmed.new.flash old.handed old.book c.place-last.new.self old.keeper old.block.items c.args.ticket ticket.going c.args.spot c.args.spare.now _ c.place-last.result order c.self.invariant comes.0 c.in-Ok.ensures.done c.program-programmed.ensures.stops placed here comes.2
+    (safe-now old.handed (g.F.Flash.state c.program-programmed.new.flash) c.place-last.new.self old.keeper _
+    (record { config = c.known.ensures.config; orderly = c.known.ensures.orderly; units = c.known.ensures.units; joined = c.known.ensures.joined; led = c.known.ensures.led; generation = c.known.ensures.generation })
+    (invariant_of-self g c)))
 
 -- ---- that failed
 
@@ -127,7 +131,7 @@ save_shut-saved-requires g c =
     let can = subst (λ (s : Seen g.row.F.Denot). CanSave s.book s.keeper (g.F.Flash.state s.flash)) (sym c.self.view_is) c.can_save.ensures.can in
     let comes = subst (λ (s : Seen g.row.F.Denot). ComesTo s.book c.args.ticket c.requires.ticket.going (next.At c.args.spot c.args.index c.args.spare.now)) (sym c.self.view_is) (c.requires.next c.requires.ticket.going c.requires.ticket.ticket_is) in
     let safe =
-    safe-unplaced old.book c.args.ticket c.requires.ticket.going c.args.spot c.args.spare.now _ old.keeper.saver old.keeper.firm (g.F.Flash.state old.flash) (g.F.Flash.state c.program-programmed.new.flash) c.self.invariant.sound.geometry c.self.invariant.sound.stored comes.0 c.self.invariant.kept.safe
+    at-unplaced old.book c.args.ticket c.requires.ticket.going c.args.spot c.args.spare.now _ old.keeper.saver old.keeper.firm (g.F.Flash.state old.flash) (g.F.Flash.state c.program-programmed.new.flash) c.self.invariant.sound.geometry c.self.invariant.sound.stored comes.0 c.self.invariant.kept.safe.at
     c.in-Err.ensures.failed.run.told c.in-Err.ensures.left in
     record { keeper = can.keeper; geometry = c.in-Err.ensures.failed.run.geometry ∙ can.geometry; epoch = can.epoch; saver = λ told. (safe.durable told).saver }
 
@@ -157,17 +161,17 @@ module _ (g : Over) (c : goal.After-known-in-Err g) where
     whole : IsSound c.self.inside.handed (g.F.Flash.state c.program-programmed.new.flash) c.end_shut-done.new.self (take c.self.inside.block.len (c.program-programmed.new.block ++ drop (length c.program-programmed.new.block) c.self.inside.block.items)) → IsWhole c.self.inside.handed (g.F.Flash.state c.save_shut-saved.new.flash) c.end_shut-done.new.self c.save_shut-saved.new.self (take c.self.inside.block.len (c.program-programmed.new.block ++ drop (length c.program-programmed.new.block) c.self.inside.block.items))
     whole =
         shut-whole g.F.Flash.state c.self.inside.flash c.program-programmed.new.flash c.save_shut-saved.new.flash c.self.inside.handed c.self.inside.book c.end_shut-done.new.self c.self.inside.keeper c.save_shut-saved.new.self c.self.inside.block.items (take c.self.inside.block.len (c.program-programmed.new.block ++ drop (length c.program-programmed.new.block) c.self.inside.block.items)) c.args.ticket going c.args.spot c.args.spare.now _
-        c.moment-moment.result c.end_shut-done.result c.save_shut-saved.result order-Err known-Err c.self.invariant comes.0 failed c.program-programmed.ensures.stops keeps shuts
+        c.moment-moment.result c.end_shut-done.result c.save_shut-saved.result order-Err known-Err c.self.invariant comes.0 failed c.program-programmed.ensures.stops keeps shuts here comes.2
 
-    stops : OutlastsStops g.F.Flash.state before behind
+    stops : IsSound c.self.inside.handed (g.F.Flash.state c.program-programmed.new.flash) c.end_shut-done.new.self (take c.self.inside.block.len (c.program-programmed.new.block ++ drop (length c.program-programmed.new.block) c.self.inside.block.items)) → OutlastsStops g.F.Flash.state before behind
     stops =
         shut-stops g.F.Flash.state c.self.inside.flash c.program-programmed.new.flash c.save_shut-saved.new.flash c.self.inside.handed c.self.inside.book c.end_shut-done.new.self c.self.inside.keeper c.save_shut-saved.new.self c.self.inside.block.items (take c.self.inside.block.len (c.program-programmed.new.block ++ drop (length c.program-programmed.new.block) c.self.inside.block.items)) c.args.ticket going c.args.spot c.args.spare.now _
-        c.moment-moment.result c.end_shut-done.result c.save_shut-saved.result order-Err known-Err c.self.invariant comes.0 failed c.program-programmed.ensures.stops keeps shuts
+        c.moment-moment.result c.end_shut-done.result c.save_shut-saved.result order-Err known-Err c.self.invariant comes.0 failed c.program-programmed.ensures.stops keeps shuts here comes.2
 
     fails : 0 < c.self.inside.book.spare → FailsToPlace g.F.Flash.state before behind c.args.ticket going c.end_shut-done.result
     fails spare =
         fails-to-place g.F.Flash.state c.self.inside.flash c.program-programmed.new.flash c.save_shut-saved.new.flash c.self.inside.handed c.self.inside.book c.end_shut-done.new.self c.self.inside.keeper c.save_shut-saved.new.self c.self.inside.block.items (take c.self.inside.block.len (c.program-programmed.new.block ++ drop (length c.program-programmed.new.block) c.self.inside.block.items)) c.args.ticket going c.args.spot c.args.spare.now _
-        c.moment-moment.result c.end_shut-done.result c.save_shut-saved.result order-Err known-Err c.self.invariant comes.0 failed c.program-programmed.ensures.stops keeps shuts spare (g.met.F.Flash.well_formed c.program-programmed.new.flash)
+        c.moment-moment.result c.end_shut-done.result c.save_shut-saved.result order-Err known-Err c.self.invariant comes.0 failed c.program-programmed.ensures.stops keeps shuts here comes.2 spare (g.met.F.Flash.well_formed c.program-programmed.new.flash)
         (λ es. emptied-shut c.self.inside.book (g.F.Flash.state c.self.inside.flash) (g.F.Flash.state c.program-programmed.new.flash) c.args.ticket going c.args.spot c.args.spare.now _ order-Err.known.joined order-Err.known.units c.self.invariant.sound.geometry c.self.invariant.sound.stored comes.0 es failed)
         c.moment-moment.ensures
 
@@ -200,4 +204,4 @@ returns-in-Err-clause-step g c going is =
     (λ here comes spare. inr (inr (inr (inr (fails g c going here comes spare))))) is (c.requires.next going is) c.requires.spare
 
 pub returns-in-Err-clause-stops : goal.returns-in-Err-clause-stops
-returns-in-Err-clause-stops g c = subst (λ (s : Seen g.row.F.Denot). OutlastsStops g.F.Flash.state s (behind g c)) c.self.view_is (stops g c c.requires.ticket.going (ready g c) (goes g c))
+returns-in-Err-clause-stops g c = subst (λ (s : Seen g.row.F.Denot). OutlastsStops g.F.Flash.state s (behind g c)) c.self.view_is (stops g c c.requires.ticket.going (ready g c) (goes g c) (sound-Err g c))

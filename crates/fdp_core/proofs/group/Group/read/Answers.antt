@@ -19,7 +19,9 @@ use Rattle.fdp_core.proofs.Sound.{begun}
 use Rattle.fdp_relocation.specs.fdp_pages.Steps.{ChangesOwners}
 use Rattle.fdp_rules.specs.Refusal.{refusal_of}
 use Rattle.fdp_core.proofs.group.Group.read.Given.{Over}
+use Rattle.fdp_core.proofs.Apart.{safe-now, sound-isolated}
 use Rattle.fdp_core.proofs.group.Group.read.Goals as goal
+use Rattle.fdp_core.proofs.Roomy.{leaves-read}
 
 pub read_replies-replies-requires-clause-few : goal.read_replies-replies-requires-clause-few
 read_replies-replies-requires-clause-few g c =
@@ -81,4 +83,9 @@ returns-clause-stops g c =
     let new : Seen g.row.F.Denot = record { book = c.complete-done.new.self; keeper = old.keeper; handed = old.handed; flash = c.read_replies-replies.new.flash } in
     subst (λ (s : Seen g.row.F.Denot). OutlastsStops g.F.Flash.state s new) c.self.view_is
     (entry-stops g.F.Flash.state (record { book = old.book; keeper = old.keeper; handed = old.handed; flash = old.flash }) new (host c.args.queue c.args.number c.args.command c.read_replies-replies.result.history c.moment-moment.result) (completed g c).step (uncompleted g c)
-    (survives-fetched old.book old.keeper.saver old.keeper.firm (g.F.Flash.state old.flash) (g.F.Flash.state c.read_replies-replies.new.flash) c.read_replies-replies.ensures.read c.self.invariant.kept.safe) c.self.invariant.kept.safe (kept g c).safe (omega arith))
+    (survives-fetched old.book old.keeper.saver old.keeper.firm (g.F.Flash.state old.flash) (g.F.Flash.state c.read_replies-replies.new.flash) c.read_replies-replies.ensures.read c.self.invariant.kept.safe
+    (sound-isolated old.handed (g.F.Flash.state old.flash) old.book old.block.items (order g c).known c.self.invariant.sound)) c.self.invariant.kept.safe
+    (safe-now old.handed (g.F.Flash.state c.read_replies-replies.new.flash) c.complete-done.new.self old.keeper old.block.items
+    (record { config = c.known-2.ensures.config; orderly = c.known-2.ensures.orderly; units = c.known-2.ensures.units; joined = c.known-2.ensures.joined; led = c.known-2.ensures.led; generation = c.known-2.ensures.generation })
+    (invariant_of-self g c)) (omega arith) refl
+    (leaves-read old.handed (g.F.Flash.state old.flash) (g.F.Flash.state c.read_replies-replies.new.flash) old.book old.keeper old.block.items (order g c).known c.self.invariant c.read_replies-replies.ensures.read.kept.faults c.read_replies-replies.ensures.read))

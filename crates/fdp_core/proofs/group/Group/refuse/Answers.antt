@@ -1,4 +1,4 @@
-use Rattle.std.proofs.Common.{◌≡◌, ◌<◌, ◌∙◌, ap, sym, subst, [], Some, refl, arith}
+use Rattle.std.proofs.Common.{◌≡◌, ◌<◌, ◌∙◌, ap, sym, subst, [], Some, refl, arith, length}
 use Rattle.std.specs.Prelude.{IsFalse}
 use Rattle.fdp_base.specs.declared.entry.Reply.{Reply}
 use Rattle.fdp_base.specs.declared.status.TheConstants.Status as statuses
@@ -24,7 +24,9 @@ use Rattle.fdp_rules.specs.Refusal.{refusal_of}
 use Rattle.fdp_rules.specs.Step.{IsQueue}
 use Rattle.fdp_loading.specs.fdp_survival.Books.{IsInOrder}
 use Rattle.fdp_core.proofs.group.Group.refuse.Given.{Over}
+use Rattle.fdp_core.proofs.Apart.{safe-now}
 use Rattle.fdp_core.proofs.group.Group.refuse.Goals as goal
+use Rattle.fdp_core.proofs.Roomy.{leaves-uncalled}
 
 -- the answer, from the book before the step began
 completed : (g : Over) (c : goal.After-known-2 g) → book.Completes (begun c.self.inside.book) c.complete-done.new.self [] c.args.queue c.args.number c.args.command c.end-replies.result.1.history c.moment-moment.result c.complete-done.result
@@ -82,4 +84,7 @@ returns-clause-stops g c =
     let new : Seen g.row.F.Denot = record { book = c.complete-done.new.self; keeper = old.keeper; handed = old.handed; flash = old.flash } in
     subst (λ (s : Seen g.row.F.Denot). OutlastsStops g.F.Flash.state s new) c.self.view_is
     (entry-stops g.F.Flash.state (record { book = old.book; keeper = old.keeper; handed = old.handed; flash = old.flash }) new (host c.args.queue c.args.number c.args.command c.end-replies.result.1.history c.moment-moment.result) (completed g c).step (unsuccessful g c)
-    (survives-uncalled old.book old.keeper.firm (g.F.Flash.state old.flash)) c.self.invariant.kept.safe (kept-refused g c).safe (omega arith))
+    (survives-uncalled old.book old.keeper.firm (length old.book.entries) (g.F.Flash.state old.flash)) c.self.invariant.kept.safe
+    (safe-now old.handed (g.F.Flash.state old.flash) c.complete-done.new.self old.keeper old.block.items
+    (record { config = c.known-2.ensures.config; orderly = c.known-2.ensures.orderly; units = c.known-2.ensures.units; joined = c.known-2.ensures.joined; led = c.known-2.ensures.led; generation = c.known-2.ensures.generation })
+    (invariant_of-self g c)) (omega arith) refl (leaves-uncalled old.handed (g.F.Flash.state old.flash) old.book))

@@ -5,6 +5,7 @@ use Rattle.fdp_core.proofs.Kept.{kept-alike}
 use Rattle.fdp_loading.proofs.fdp_isolation.Alike.{laned-alike}
 use Rattle.fdp_loading.proofs.fdp_ledger.Alike.{ledger-alike}
 use Rattle.fdp_core.proofs.group.Group.reserve.Goals as goal
+use Rattle.fdp_roominess.proofs.Runs.{keeps-alike}
 
 pub invariant_of-self : goal.invariant_of-self
 invariant_of-self g c =
@@ -20,7 +21,8 @@ invariant_of-self g c =
         stored = so.stored;
         apart = λ tells opened. laned-alike old.book now f.cells refl refl refl refl (so.apart tells opened);
         ledger = ledger-alike old.handed old.book now f refl refl refl refl refl so.ledger;
+        room = keeps-alike old.handed.faults f.faults f.told old.book now refl refl refl refl refl so.room;
         buffer = so.buffer;
       };
-      kept = kept-alike old.handed f old.book now old.keeper refl refl refl refl c.self.invariant.kept.epochs c.self.invariant.kept;
+      kept = kept-alike old.handed f old.book now old.keeper refl refl refl refl refl c.self.invariant.kept.epochs c.self.invariant.kept;
     })

@@ -1,4 +1,4 @@
-use Rattle.std.proofs.Common.{◌≡◌, ◌<◌, ◌∙◌, ap, subst, None, refl, arith}
+use Rattle.std.proofs.Common.{◌≡◌, ◌<◌, ◌∙◌, ap, subst, None, refl, arith, length}
 use Rattle.fdp_core.specs.Sound.{IsKept}
 use Rattle.fdp_core.specs.Stops.{OutlastsStops}
 use Rattle.fdp_core.proofs.Kept.{kept-begun}
@@ -16,7 +16,9 @@ use Rattle.fdp_core.proofs.Sound.{begun}
 use Rattle.fdp_relocation.specs.fdp_pages.Steps.{ChangesOwners}
 use Rattle.fdp_rules.specs.Refusal.{refusal_of}
 use Rattle.fdp_core.proofs.group.Group.start.Given.{Over}
+use Rattle.fdp_core.proofs.Apart.{safe-now}
 use Rattle.fdp_core.proofs.group.Group.start.Goals as goal
+use Rattle.fdp_core.proofs.Roomy.{leaves-uncalled}
 
 -- a write that is admitted is accepted
 accepted-of : (b : BookSeen) (command : Command) (a : Admission) → IsAdmitted b command a → refusal_of b.config (point_in b) command ≡ None
@@ -62,4 +64,7 @@ returns-in-Write-clause-stops g c =
     let new : Seen g.row.F.Denot = record { book = c.start-ticket.new.self; keeper = old.keeper; handed = old.handed; flash = old.flash } in
     subst (λ (s : Seen g.row.F.Denot). OutlastsStops g.F.Flash.state s new) c.self.view_is
     (entry-stops g.F.Flash.state (record { book = old.book; keeper = old.keeper; handed = old.handed; flash = old.flash }) new _ (started g c).step refl
-    (survives-uncalled old.book old.keeper.firm (g.F.Flash.state old.flash)) c.self.invariant.kept.safe (kept-started g c).safe (omega arith))
+    (survives-uncalled old.book old.keeper.firm (length old.book.entries) (g.F.Flash.state old.flash)) c.self.invariant.kept.safe
+    (safe-now old.handed (g.F.Flash.state old.flash) c.start-ticket.new.self old.keeper old.block.items
+    (record { config = c.known-in-Write.ensures.config; orderly = c.known-in-Write.ensures.orderly; units = c.known-in-Write.ensures.units; joined = c.known-in-Write.ensures.joined; led = c.known-in-Write.ensures.led; generation = c.known-in-Write.ensures.generation })
+    (invariant_of-self g c)) (omega arith) refl (leaves-uncalled old.handed (g.F.Flash.state old.flash) old.book))
