@@ -41,57 +41,63 @@ const SCRIPT: [Step; 9] = [
     Step::Erase(2),
 ];
 
-/// Makes the call of a step, where the flash allows it, and names its answer by a letter.
-fn perform(flash: &mut FlashMem, step: Step) -> char {
-    if flash.geometry().block != 512 {
-        return '?';
+/// Programs a page, where the flash allows it, and names the answer by a letter.
+fn program(flash: &mut FlashMem, at: Spot, fill: u8) -> char {
+    if flash.geometry().block != 512 || !flash.has_place(at) || !flash.has_room(at) {
+        return '-';
+    }
+    letter_of(flash.program(at, &[fill; 32], &[fill; 512]))
+}
+
+/// Looks at a page, where there is one, and names the answer by a letter: of a whole page its last byte.
+fn look(flash: &mut FlashMem, at: Spot) -> char {
+    if flash.geometry().block != 512 || !flash.has_place(at) {
+        return '-';
     }
     let mut bytes = [0; 512];
-    let mut spare = [0; 32];
-    match step {
-        Step::Program(unit, page, fill) => {
-            let at = Spot { unit, page };
-            if !flash.has_place(at) || !flash.has_room(at) {
-                return '-';
-            }
-            letter_of(flash.program(at, &[fill; 32], &[fill; 512]))
-        }
-        Step::Look(unit, page) => {
-            let at = Spot { unit, page };
-            if !flash.has_place(at) {
-                return '-';
-            }
-            match flash.look(at, &mut spare, &mut bytes) {
-                Seen::Whole => bytes[511] as char,
-                Seen::Blank => '.',
-                Seen::Torn => '~',
-                Seen::Failed => 'F',
-            }
-        }
-        Step::Fetch(unit, page, fill) => {
-            let at = Spot { unit, page };
-            if !flash.has_place(at) {
-                return '-';
-            }
-            match flash.fetch(at, &[fill; 32], &mut bytes) {
-                Fetched::Whole => bytes[0] as char,
-                Fetched::Other => 'O',
-                Fetched::Failed => 'F',
-            }
-        }
-        Step::Erase(unit) => {
-            if !flash.has_place(Spot { unit, page: 0 }) {
-                return '-';
-            }
-            letter_of(flash.erase(unit))
-        }
+    match flash.look(at, &mut [0; 32], &mut bytes) {
+        Seen::Whole => bytes[511] as char,
+        Seen::Blank => '.',
+        Seen::Torn => '~',
+        Seen::Failed => 'F',
     }
+}
+
+/// Fetches a page, where there is one, and names the answer by a letter: of a whole page its first byte.
+fn fetch(flash: &mut FlashMem, at: Spot, fill: u8) -> char {
+    if flash.geometry().block != 512 || !flash.has_place(at) {
+        return '-';
+    }
+    let mut bytes = [0; 512];
+    match flash.fetch(at, &[fill; 32], &mut bytes) {
+        Fetched::Whole => bytes[0] as char,
+        Fetched::Other => 'O',
+        Fetched::Failed => 'F',
+    }
+}
+
+/// Erases a unit, where there is one, and names the answer by a letter.
+fn erase(flash: &mut FlashMem, unit: u32) -> char {
+    if !flash.has_place(Spot { unit, page: 0 }) {
+        return '-';
+    }
+    letter_of(flash.erase(unit))
 }
 
 fn letter_of(wrote: Wrote) -> char {
     match wrote {
         Wrote::Done => 'D',
         Wrote::Failed => 'F',
+    }
+}
+
+/// Makes the call of a step, where the flash allows it, and names its answer by a letter.
+fn perform(flash: &mut FlashMem, step: Step) -> char {
+    match step {
+        Step::Program(unit, page, fill) => program(flash, Spot { unit, page }, fill),
+        Step::Look(unit, page) => look(flash, Spot { unit, page }),
+        Step::Fetch(unit, page, fill) => fetch(flash, Spot { unit, page }, fill),
+        Step::Erase(unit) => erase(flash, unit),
     }
 }
 
@@ -104,17 +110,34 @@ fn play(alloc: Global, flash: &mut FlashMem, steps: &[Step]) -> Result<String, A
     Ok(answers)
 }
 
-/// The pages by their letters: a dot is blank, a tilde torn, and a whole page its first byte.
+/// A page by its letter: a dot is blank, a tilde torn, and a whole page its first byte.
+fn letter_in(cell: &Cell) -> char {
+    match cell {
+        Cell::Blank => '.',
+        Cell::Torn => '~',
+        Cell::Whole { spare, bytes: _ } => spare[31] as char,
+    }
+}
+
+/// The pages by their letters.
 fn drawn(alloc: Global, cells: &[Cell]) -> Result<String, AllocError> {
     let mut letters = String::new(alloc);
     for cell in cells {
-        letters.push(match cell {
-            Cell::Blank => '.',
-            Cell::Torn => '~',
-            Cell::Whole { spare, bytes: _ } => spare[31] as char,
-        })?;
+        letters.push(letter_in(cell))?;
     }
     Ok(letters)
+}
+
+/// The one failure of a plan, if there is one.
+fn failures(
+    alloc: Global,
+    failing: Option<(u64, Outcome)>,
+) -> Result<Sequence<(u64, Outcome)>, AllocError> {
+    let mut failures = Vec::new(alloc);
+    if let Some(failure) = failing {
+        failures.push(failure)?;
+    }
+    Ok(Sequence::from_vec(failures))
 }
 
 /// A flash that keeps so many calls, and has this call fail and stops with this one.
@@ -124,11 +147,7 @@ fn made(
     failing: Option<(u64, Outcome)>,
     stop: Option<(u64, Outcome)>,
 ) -> Result<FlashMem, AllocError> {
-    let mut failures = Vec::new(alloc);
-    if let Some(failure) = failing {
-        failures.push(failure)?;
-    }
-    let failing = Sequence::from_vec(failures);
+    let failing = failures(alloc, failing)?;
     FlashMem::new(
         alloc,
         SMALL,
@@ -140,16 +159,15 @@ fn made(
     )
 }
 
-/// Whether a flash with this failure answers the steps so, and then has these pages.
+/// Whether a flash answers the steps so, and then has these pages.
 fn plays(
     alloc: Global,
-    failing: Option<(u64, Outcome)>,
+    flash: &mut FlashMem,
     steps: &[Step],
     answers: &str,
     cells: &str,
 ) -> Result<bool, AllocError> {
-    let mut flash = made(alloc, 0, failing, None)?;
-    let letters = play(alloc, &mut flash, steps)?;
+    let letters = play(alloc, flash, steps)?;
     let drawing = drawn(alloc, flash.cells())?;
     Ok(letters.as_str() == answers && drawing.as_str() == cells)
 }
@@ -178,21 +196,34 @@ const SKIPPED: [Step; 8] = [
 ];
 
 #[test]
-fn torn_and_skipped_pages(rt: HostRuntime) -> Result<(), Fail> {
-    let torn = Some((2, Outcome::Torn));
-    assert!(rt; plays(rt.alloc(), torn, &TORN, "DF~.OO--", "....6.~.")?);
-    assert!(rt; plays(rt.alloc(), None, &SKIPPED, "D-.4-DD7", "..7.....")?);
+fn torn_pages(rt: HostRuntime) -> Result<(), Fail> {
+    let alloc = rt.alloc();
+    let mut flash = made(alloc, 0, Some((2, Outcome::Torn)), None)?;
+    assert!(rt; plays(alloc, &mut flash, &TORN, "DF~.OO--", "....6.~.")?);
     Ok(())
+}
+
+#[test]
+fn skipped_pages(rt: HostRuntime) -> Result<(), Fail> {
+    let alloc = rt.alloc();
+    let mut flash = made(alloc, 0, None, None)?;
+    assert!(rt; plays(alloc, &mut flash, &SKIPPED, "D-.4-DD7", "..7.....")?);
+    Ok(())
+}
+
+/// Erases the area of both units at the end, where there are these.
+fn erase_end(flash: &mut FlashMem) -> Wrote {
+    if !flash.has_place(Spot { unit: 3, page: 0 }) {
+        return Wrote::Failed;
+    }
+    erase_area(flash, 2, 2)
 }
 
 /// Whether the area of both units at the end is blank once it is erased.
 fn erases_an_area(alloc: Global) -> Result<bool, AllocError> {
     let mut flash = made(alloc, 0, None, None)?;
     play(alloc, &mut flash, &TORN)?;
-    if !flash.has_place(Spot { unit: 3, page: 0 }) {
-        return Ok(false);
-    }
-    let wrote = erase_area(&mut flash, 2, 2);
+    let wrote = erase_end(&mut flash);
     Ok(wrote == Wrote::Done && drawn(alloc, flash.cells())?.as_str() == "........")
 }
 

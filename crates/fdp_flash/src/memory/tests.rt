@@ -34,42 +34,50 @@ fn nearly_counted(alloc: Global, failing: bool) -> Result<FlashMem, AllocError> 
     Ok(flash)
 }
 
-/// Programs a page of data where it may, and looks at it; the answers.
-fn used(flash: &mut FlashMem, page: u32) -> Option<(Wrote, Seen)> {
-    let at = Spot { unit: 0, page };
-    if flash.geometry() != SMALL || !flash.has_place(at) || !flash.has_room(at) {
-        return None;
+/// Programs a page where it may, and whether that was answered so.
+fn programs(flash: &mut FlashMem, at: Spot, answer: Wrote) -> bool {
+    if flash.geometry().block != 512 || !flash.has_place(at) || !flash.has_room(at) {
+        return false;
     }
-    let wrote = flash.program(at, &[1; 32], &[2; 512]);
-    Some((wrote, flash.look(at, &mut [0; 32], &mut [0; 512])))
+    flash.program(at, &[1; 32], &[2; 512]) == answer
+}
+
+/// Looks at a page, and whether that was answered so.
+fn looks(flash: &mut FlashMem, at: Spot, answer: Seen) -> bool {
+    if flash.geometry().block != 512 || !flash.has_place(at) {
+        return false;
+    }
+    flash.look(at, &mut [0; 32], &mut [0; 512]) == answer
+}
+
+/// Whether the moment is the last one, and so many faults and programs are counted.
+fn has_counted(flash: &FlashMem, faults: u64, programs: u64) -> bool {
+    flash.moment() == u64::MAX && flash.faults() == faults && flash.programs() == programs
+}
+
+/// Whether a page is programmed and seen, and only the faults have a step left then.
+fn succeeds(flash: &mut FlashMem, page: u32) -> bool {
+    let at = Spot { unit: 0, page };
+    programs(flash, at, Wrote::Done)
+        && looks(flash, at, Seen::Whole)
+        && has_counted(flash, u64::MAX - 1, u64::MAX)
+}
+
+/// Whether a page is neither programmed nor seen, and only the programs have a step left then.
+fn fails(flash: &mut FlashMem, page: u32) -> bool {
+    let at = Spot { unit: 0, page };
+    programs(flash, at, Wrote::Failed)
+        && looks(flash, at, Seen::Failed)
+        && has_counted(flash, u64::MAX, u64::MAX - 1)
 }
 
 #[test]
 fn counts_stay_at_their_last_value(rt: HostRuntime) -> Result<(), Fail> {
-    let last = u64::MAX;
     let mut flash = nearly_counted(rt.alloc(), false)?;
-    for page in 0..2 {
-        assert_eq!(rt;
-            used(&mut flash, page),
-            Some((Wrote::Done, Seen::Whole)),
-            "{page}"
-        );
-        assert_eq!(rt;
-            (flash.moment(), flash.faults(), flash.programs()),
-            (last, last - 1, last)
-        );
-    }
+    assert!(rt; succeeds(&mut flash, 0));
+    assert!(rt; succeeds(&mut flash, 1));
     let mut flash = nearly_counted(rt.alloc(), true)?;
-    for page in 0..2 {
-        assert_eq!(rt;
-            used(&mut flash, page),
-            Some((Wrote::Failed, Seen::Failed)),
-            "{page}"
-        );
-        assert_eq!(rt;
-            (flash.moment(), flash.faults(), flash.programs()),
-            (last, last, last - 1)
-        );
-    }
+    assert!(rt; fails(&mut flash, 0));
+    assert!(rt; fails(&mut flash, 1));
     Ok(())
 }

@@ -1,25 +1,10 @@
 //! What a stop leaves.
 use super::{SCRIPT, SMALL, Step, made, perform, play};
+use crate::cell::Cell;
 use crate::memory::FlashMem;
 use crate::plan::{Outcome, Plan};
 use std::alloc::{AllocError, Global};
 use std::test::Fail;
-
-/// The outcomes in the order of `IMAGES`.
-const OUTCOMES: [Outcome; 3] = [Outcome::Blank, Outcome::Torn, Outcome::Whole];
-
-/// What a stop in each call of the script leaves, with each outcome.
-const IMAGES: [[&str; 3]; 9] = [
-    ["........", "~.......", "1......."],
-    ["1.......", "1~......", "12......"],
-    ["12......", "12..~...", "12..3..."],
-    ["12..3...", "12..3...", "12..3..."],
-    ["12..3...", "12..3...", "12..3..."],
-    ["12..3...", "12.~3...", "12.43..."],
-    ["...43...", "~~.43...", "12.43..."],
-    ["...43...", "~..43...", "5..43..."],
-    ["5..4....", "5..4~~..", "5..43..."],
-];
 
 /// The pages by their letters, as looks tell them.
 fn looked(alloc: Global, flash: &mut FlashMem) -> Result<String, AllocError> {
@@ -30,40 +15,67 @@ fn looked(alloc: Global, flash: &mut FlashMem) -> Result<String, AllocError> {
     Ok(letters)
 }
 
-/// The image of a stop, where a flash that really stopped there has just its cells, as a flash that goes on with it tells it.
-fn image_after(
+/// Whether a flash that really stopped in a call has just these cells.
+fn stops_with(
     alloc: Global,
-    flash: &FlashMem,
     moment: u64,
     outcome: Outcome,
-) -> Result<String, AllocError> {
-    if !flash.has_recorded(moment) {
-        return Ok(String::new(alloc));
-    }
-    let image = flash.image_at(alloc, moment, outcome)?;
+    image: &[Cell],
+) -> Result<bool, AllocError> {
     let mut stopped = made(alloc, 0, None, Some((moment, outcome)))?;
     play(alloc, &mut stopped, &SCRIPT)?;
-    if stopped.cells() != image.as_slice() || !FlashMem::are_cells(SMALL, image.as_slice()) {
+    Ok(stopped.cells() == image)
+}
+
+/// The pages of an image, as a flash that goes on with it tells them.
+fn told(alloc: Global, image: Vec<Cell>) -> Result<String, AllocError> {
+    if !FlashMem::are_cells(SMALL, image.as_slice()) {
         return Ok(String::new(alloc));
     }
     let mut next = FlashMem::of_cells(alloc, SMALL, image, Plan::empty(alloc))?;
     looked(alloc, &mut next)
 }
 
-/// Whether a stop in this call leaves these images, in the order of `OUTCOMES`.
+/// The image of a stop, or nothing where the flash has not recorded the call.
+fn image_after(
+    alloc: Global,
+    flash: &FlashMem,
+    moment: u64,
+    outcome: Outcome,
+) -> Result<Vec<Cell>, AllocError> {
+    if !flash.has_recorded(moment) {
+        return Ok(Vec::new(alloc));
+    }
+    flash.image_at(alloc, moment, outcome)
+}
+
+/// Whether a stop in a call leaves this, as its image tells it and as a flash that really stopped there has it.
 fn leaves(
     alloc: Global,
     flash: &FlashMem,
     moment: u64,
-    images: &[&str; 3],
+    outcome: Outcome,
+    pages: &str,
 ) -> Result<bool, AllocError> {
-    for (outcome, image) in OUTCOMES.iter().zip(images.iter()) {
-        let told = image_after(alloc, flash, moment, *outcome)?;
-        if told.as_str() != *image {
-            return Ok(false);
-        }
-    }
-    Ok(true)
+    let image = image_after(alloc, flash, moment, outcome)?;
+    let same = stops_with(alloc, moment, outcome, image.as_slice())?;
+    Ok(same && told(alloc, image)?.as_str() == pages)
+}
+
+/// Whether a stop in a call leaves this with each outcome.
+fn leave(
+    alloc: Global,
+    flash: &FlashMem,
+    moment: u64,
+    blank: &str,
+    torn: &str,
+    whole: &str,
+) -> Result<bool, AllocError> {
+    Ok(
+        leaves(alloc, flash, moment, Outcome::Blank, blank)?
+            && leaves(alloc, flash, moment, Outcome::Torn, torn)?
+            && leaves(alloc, flash, moment, Outcome::Whole, whole)?,
+    )
 }
 
 /// A flash that has recorded the calls of the script.
@@ -75,11 +87,23 @@ fn recorded(alloc: Global) -> Result<FlashMem, AllocError> {
 
 #[test]
 fn images_are_what_a_stop_leaves(rt: HostRuntime) -> Result<(), Fail> {
+    let alloc = rt.alloc();
+    let flash = recorded(alloc)?;
+    assert!(rt; leave(alloc, &flash, 1, "........", "~.......", "1.......")?);
+    assert!(rt; leave(alloc, &flash, 2, "1.......", "1~......", "12......")?);
+    assert!(rt; leave(alloc, &flash, 3, "12......", "12..~...", "12..3...")?);
+    assert!(rt; leave(alloc, &flash, 4, "12..3...", "12..3...", "12..3...")?);
+    assert!(rt; leave(alloc, &flash, 5, "12..3...", "12..3...", "12..3...")?);
+    assert!(rt; leave(alloc, &flash, 6, "12..3...", "12.~3...", "12.43...")?);
+    assert!(rt; leave(alloc, &flash, 7, "...43...", "~~.43...", "12.43...")?);
+    assert!(rt; leave(alloc, &flash, 8, "...43...", "~..43...", "5..43...")?);
+    assert!(rt; leave(alloc, &flash, 9, "5..4....", "5..4~~..", "5..43...")?);
+    Ok(())
+}
+
+#[test]
+fn other_calls_are_not_recorded(rt: HostRuntime) -> Result<(), Fail> {
     let flash = recorded(rt.alloc())?;
-    for moment in 1..=9 {
-        let images = &IMAGES[moment as usize - 1];
-        assert!(rt; leaves(rt.alloc(), &flash, moment, images)?, "{moment}");
-    }
     assert!(rt; !flash.has_recorded(0));
     assert!(rt; !flash.has_recorded(10));
     Ok(())
