@@ -39,9 +39,9 @@ use Rattle.fdp_workers.specs.Turns as turns
 use Rattle.fdp_workers.proofs.Seated.{ticket-queue}
 use Rattle.fdp_board.specs.Board.{items_of}
 use Rattle.fdp_workers.specs.Marks.{entry_in, mark_in}
-use Rattle.fdp_board.proofs.Charging.{host-charged, quiet-charged, uncharged}
+use Rattle.fdp_board.proofs.Charging.{host-charged, none-charged, uncharged}
 use Rattle.fdp_board.proofs.Outlasting.{AreLate, host-late, silent-late}
-use Rattle.fdp_board.proofs.Items.{IsQuiet, all-quiet, later-joined, later-one, length-marked, quiet-later}
+use Rattle.fdp_board.proofs.Items.{IsQuiet, all-quiet, later-joined, later-one, length-marked, none-completes, quiet-later, quiet-none}
 use Rattle.fdp_board.proofs.Stepping.{Goes, adds-none, adds-own, goes}
 
 -- ---- entries that are no worker's
@@ -49,35 +49,29 @@ use Rattle.fdp_board.proofs.Stepping.{Goes, adds-none, adds-own, goes}
 one-quiet : (e : Entry) → IsQuiet e → All IsQuiet (e ∷ [])
 one-quiet e q = All-cons IsQuiet e [] q (All-nil IsQuiet)
 
-quiet-completes : (queue : ℕ) (es : List Entry) → All IsQuiet es → completed queue es ≡ []
-quiet-completes queue [] all = refl
-quiet-completes queue (e ∷ es) all =
-    ap (λ (o : Option Host). cons_option (option_and_then (λ (h : Host). cond (nat_eq h.queue queue) (Some (h.number, h.command)) None) o) (completed queue es)) (All-head IsQuiet e es all).host
-    ∙ quiet-completes queue es (All-tail IsQuiet e es all)
-
 quiet-late : (m : ℕ) (es : List Entry) → All IsQuiet es → AreLate m es
-quiet-late m es all = silent-late m es (λ queue. quiet-completes queue es all)
+quiet-late m es all = silent-late m es (λ queue. none-completes queue es (quiet-none es all))
 
 lost-quiet : (rg : ℕ) (l : Lost) → All IsQuiet (told_by rg (steps.Fault l))
 lost-quiet rg lost.None = All-nil IsQuiet
-lost-quiet rg (lost.Aside unit) = one-quiet _ (record { host = refl; started = refl; placed = refl; later = λ e. absurd cc })
-lost-quiet rg (lost.Retired unit) = one-quiet _ (record { host = refl; started = refl; placed = refl; later = λ e. absurd cc })
+lost-quiet rg (lost.Aside unit) = one-quiet _ (record { none = record { host = refl; started = refl; placed = refl }; later = λ e. absurd cc })
+lost-quiet rg (lost.Retired unit) = one-quiet _ (record { none = record { host = refl; started = refl; placed = refl }; later = λ e. absurd cc })
 
 shut-quiet : (rg ruh : ℕ) → All IsQuiet (entries.Shut (record { rg = rg; ruh = ruh }) ∷ [])
-shut-quiet rg ruh = one-quiet _ (record { host = refl; started = refl; placed = refl; later = λ e. absurd cc })
+shut-quiet rg ruh = one-quiet _ (record { none = record { host = refl; started = refl; placed = refl }; later = λ e. absurd cc })
 
 -- ---- relocation
 
 step-quiet : {F : Type 0} (state : F → FlashState) (old new : Seen F) (rg : ℕ) (x : Advance) (s : CollectsStep state old new rg x) → All IsQuiet s.es
 step-quiet state old new rg advance.Nothing s = subst (All IsQuiet) (sym s.came.entries_are) (All-nil IsQuiet)
-step-quiet state old new rg advance.Copied s = subst (All IsQuiet) (sym s.came.entries_are) (one-quiet _ (record { host = refl; started = refl; placed = refl; later = λ e. absurd cc }))
-step-quiet state old new rg advance.Moved s = subst (All IsQuiet) (sym s.came.entries_are) (one-quiet _ (record { host = refl; started = refl; placed = refl; later = λ e. absurd cc }))
-step-quiet state old new rg advance.Erased s = subst (All IsQuiet) (sym s.came.entries_are) (one-quiet _ (record { host = refl; started = refl; placed = refl; later = λ e. absurd cc }))
-step-quiet state old new rg advance.Starved s = subst (All IsQuiet) (sym s.came.entries_are) (one-quiet _ (record { host = refl; started = refl; placed = refl; later = λ e. absurd cc }))
+step-quiet state old new rg advance.Copied s = subst (All IsQuiet) (sym s.came.entries_are) (one-quiet _ (record { none = record { host = refl; started = refl; placed = refl }; later = λ e. absurd cc }))
+step-quiet state old new rg advance.Moved s = subst (All IsQuiet) (sym s.came.entries_are) (one-quiet _ (record { none = record { host = refl; started = refl; placed = refl }; later = λ e. absurd cc }))
+step-quiet state old new rg advance.Erased s = subst (All IsQuiet) (sym s.came.entries_are) (one-quiet _ (record { none = record { host = refl; started = refl; placed = refl }; later = λ e. absurd cc }))
+step-quiet state old new rg advance.Starved s = subst (All IsQuiet) (sym s.came.entries_are) (one-quiet _ (record { none = record { host = refl; started = refl; placed = refl }; later = λ e. absurd cc }))
 step-quiet state old new rg advance.Fault s = elim s.came [
   | inl fails ↦ subst (All IsQuiet) (sym fails.entries_are) (lost-quiet rg fails.lost)
   | inr (inl before) ↦ subst (All IsQuiet) (sym before.entries_are) (All-nil IsQuiet)
-  | inr (inr moves) ↦ subst (All IsQuiet) (sym moves.moves.entries_are) (one-quiet _ (record { host = refl; started = refl; placed = refl; later = λ e. absurd cc }))
+  | inr (inr moves) ↦ subst (All IsQuiet) (sym moves.moves.entries_are) (one-quiet _ (record { none = record { host = refl; started = refl; placed = refl }; later = λ e. absurd cc }))
 ]
 
 collects-step : {F : Type 0} (state : F → FlashState) (old new : Seen F) (rg : ℕ) (x : Advance) → Collects state old new rg x → CollectsStep state old new rg x
@@ -97,7 +91,7 @@ pub collects : {F : Type 0} (state : F → FlashState) (old new : Seen F) (rg : 
 collects state old new rg x h =
     let s = collects-step state old new rg x h in
     let quiet = step-quiet state old new rg x s in
-    record { es = s.es; goes_is = goes state old new s.es s.calls s.step (quiet-later s.es quiet) (quiet-late (state old.flash).moment s.es quiet) (quiet-charged (state old.flash).moment (state new.flash) s.es quiet); quiet = quiet }
+    record { es = s.es; goes_is = goes state old new s.es s.calls s.step (quiet-later s.es quiet) (quiet-late (state old.flash).moment s.es quiet) (none-charged (state old.flash).moment (state new.flash) s.es (quiet-none s.es quiet)); quiet = quiet }
 
 -- ---- the end of a command
 
@@ -113,7 +107,7 @@ pub ended-goes : {F : Type 0} (state : F → FlashState) (old new : Seen F) (que
 ended-goes state old new queue number command done e =
     goes state old new _ e.calls e.completes.step (later-joined e.before _ (quiet-later e.before e.quiet) (later-one _ (λ same. absurd cc)))
     (host-late state old new e.before queue number command e.calls done e.completes (quiet-late (state old.flash).moment e.before e.quiet))
-    (host-charged state old new e.before queue number command e.calls done e.completes e.quiet)
+    (host-charged state old new e.before queue number command e.calls done e.completes (quiet-none e.before e.quiet))
 
 pub ended-completes : {F : Type 0} (state : F → FlashState) (old new : Seen F) (gauge : TableId) (queue number : ℕ) (command : Command) (done : Done) → Ended state old new queue number command done
     → turns.Completes (record { config = old.book.config; found = old.book.found; gauge = gauge }) entry_in mark_in (items_of old) (items_of new) queue number command done
@@ -180,7 +174,7 @@ room-goes : {F : Type 0} (state : F → FlashState) (old new : Seen F) (ticket :
 room-goes state old new ticket g next h =
     let es : List Entry = h.before ++ entries.Erased (record { unit = h.unit }) ∷ [] in
     let quiet = all-quiet old.book.config g.rg es h.inside in
-    record { es = es; goes_is = goes state old new es h.calls h.step (quiet-later es quiet) (quiet-late (state old.flash).moment es quiet) (quiet-charged (state old.flash).moment (state new.flash) es quiet); quiet = quiet }
+    record { es = es; goes_is = goes state old new es h.calls h.step (quiet-later es quiet) (quiet-late (state old.flash).moment es quiet) (none-charged (state old.flash).moment (state new.flash) es (quiet-none es quiet)); quiet = quiet }
 
 pub places-goes : {F : Type 0} (state : F → FlashState) (old new : Seen F) (ticket : Ticket) (g : Going) (p : Placed) → Places state old new ticket g p → (es : List Entry) × Goes state old new es
 places-goes state old new ticket g (placed.More next) (inl page) = (_, page-goes state old new ticket g next page.0)

@@ -1,8 +1,10 @@
 -- Entries with their marks.
-use Rattle.std.proofs.Common.{◌≡◌, ℕ, suc, ◌-◌, ◌≤◌, List, [], ◌∷◌, ◌++◌, length, Option, None, refl, ap, sym, ◌∙◌, append_assoc, arith, subst, ◌⊎◌, inl, inr}
-use Rattle.std.specs.Prelude.{All, map}
+use Rattle.std.proofs.Common.{◌≡◌, ℕ, suc, ◌+◌, ◌-◌, ◌≤◌, cond, if◌then◌else◌, nat_eq, List, [], ◌∷◌, ◌++◌, length, Option, Some, None, refl, ap, sym, ◌∙◌, append_assoc, arith}
+use Rattle.std.specs.Prelude.{All, map, option_and_then}
+use Rattle.std.specs.List.{cons_option}
 use Rattle.std.specs.Option.{option_map_or}
-use Rattle.std.proofs.lemmas.List.Elements.{All-append, All-cons, All-head, All-nil, All-tail}
+use Rattle.std.proofs.lemmas.List.Elements.{All-append, All-cons, All-head, All-nil, All-tail, All-weaker}
+use Rattle.std.proofs.lemmas.List.Sums.{sum_by-cons}
 use mathlib.Core.List.{append-nil}
 use Rattle.fdp_base.specs.declared.config.DriveConfig.{DriveConfig}
 use Rattle.fdp_base.specs.declared.entry.Entry.{Entry}
@@ -13,14 +15,16 @@ use Rattle.fdp_base.specs.declared.entry.Started.{Started}
 use Rattle.fdp_base.specs.declared.entry.Totals.{Totals}
 use Rattle.fdp_base.specs.declared.recorded.Mark.{Mark}
 use Rattle.fdp_base.specs.declared.recorded.Snapshot.{Snapshot}
-use Rattle.fdp_base.specs.EntryKinds.{host_of, placed_of, started_of}
+use Rattle.fdp_base.specs.CommandKinds.{blocks_written}
+use Rattle.fdp_base.specs.EntryKinds.{placed_of, started_of}
 use Rattle.fdp_base.specs.Records.{CarriesNone}
 use Rattle.fdp_workers.specs.fdp_relocation.Entries.{AreRelocationIn, IsRelocationIn}
 use Rattle.fdp_rules.specs.History.{Found, totals_of}
 use Rattle.fdp_rules.specs.Seats.{mark_of, marks_after, queue_of_ticket, seat_of_entry}
-use Rattle.fdp_rules.specs.Totals.{erases, host_blocks, media_blocks}
+use Rattle.fdp_rules.specs.Queue.{completed}
+use Rattle.fdp_rules.specs.Totals.{erases, host_blocks, host_blocks_of, media_blocks}
 use Rattle.fdp_workers.specs.Run.{OpensFirst}
-use Rattle.fdp_board.specs.Board.{AreSumsOf}
+use Rattle.fdp_board.specs.Board.{AreSumsOf, ServesNone}
 use Rattle.fdp_workers.specs.Marks.{counts_of, entry_in, mark_in, marked_after}
 
 pub length-marked : (f : Found) (before es : List Entry) → length (marked_after f before es) ≡ length es
@@ -54,42 +58,50 @@ marks-joined f before (x ∷ xs) ys =
 
 -- ---- entries that are no worker's
 
--- an entry that is no host's, for no ticket, and tells of no opening
+-- an entry that serves no host, and tells of no opening
 pub record IsQuiet (e : Entry) : Type 0 where
-  pub host : host_of e ≡ None
-  pub started : started_of e ≡ None
-  pub placed : placed_of e ≡ None
+  pub none : ServesNone e
   pub later : e ≡ entries.Reopened → ⊥
 
 pub quiet-relocation : (c : DriveConfig) (rg : ℕ) (e : Entry) → IsRelocationIn c rg e → IsQuiet e
 quiet-relocation c rg (entries.Host h) is = absurd is
 quiet-relocation c rg (entries.Started s) is = absurd is
 quiet-relocation c rg (entries.Placed p) is = absurd is
-quiet-relocation c rg (entries.Copied x) is = record { host = refl; started = refl; placed = refl; later = λ e. absurd cc }
-quiet-relocation c rg (entries.Moved m) is = record { host = refl; started = refl; placed = refl; later = λ e. absurd cc }
-quiet-relocation c rg (entries.Erased e) is = record { host = refl; started = refl; placed = refl; later = λ e. absurd cc }
-quiet-relocation c rg (entries.Retired r) is = record { host = refl; started = refl; placed = refl; later = λ e. absurd cc }
-quiet-relocation c rg (entries.Aside a) is = record { host = refl; started = refl; placed = refl; later = λ e. absurd cc }
+quiet-relocation c rg (entries.Copied x) is = record { none = record { host = refl; started = refl; placed = refl }; later = λ e. absurd cc }
+quiet-relocation c rg (entries.Moved m) is = record { none = record { host = refl; started = refl; placed = refl }; later = λ e. absurd cc }
+quiet-relocation c rg (entries.Erased e) is = record { none = record { host = refl; started = refl; placed = refl }; later = λ e. absurd cc }
+quiet-relocation c rg (entries.Retired r) is = record { none = record { host = refl; started = refl; placed = refl }; later = λ e. absurd cc }
+quiet-relocation c rg (entries.Aside a) is = record { none = record { host = refl; started = refl; placed = refl }; later = λ e. absurd cc }
 quiet-relocation c rg (entries.Shut s) is = absurd is
-quiet-relocation c rg (entries.Worn w) is = record { host = refl; started = refl; placed = refl; later = λ e. absurd cc }
+quiet-relocation c rg (entries.Worn w) is = record { none = record { host = refl; started = refl; placed = refl }; later = λ e. absurd cc }
 quiet-relocation c rg entries.Reopened is = absurd is
 
 pub all-quiet : (c : DriveConfig) (rg : ℕ) (es : List Entry) → AreRelocationIn c rg es → All IsQuiet es
 all-quiet c rg [] all = All-nil IsQuiet
 all-quiet c rg (e ∷ es) all = All-cons IsQuiet e es (quiet-relocation c rg e (All-head (IsRelocationIn c rg) e es all)) (all-quiet c rg es (All-tail (IsRelocationIn c rg) e es all))
 
-quiet-seat : (f : Found) (before : List Entry) (e : Entry) → IsQuiet e → seat_of_entry f before e ≡ 0
-quiet-seat f before e q =
+pub quiet-none : (es : List Entry) → All IsQuiet es → All ServesNone es
+quiet-none es all = All-weaker IsQuiet ServesNone (λ e q. q.none) es all
+
+none-seat : (f : Found) (before : List Entry) (e : Entry) → ServesNone e → seat_of_entry f before e ≡ 0
+none-seat f before e q =
     ap (λ (o : Option Host). option_map_or (λ (h : Host). h.queue) o (option_map_or (λ (s : Started). s.queue) (started_of e) (option_map_or (λ (p : Placed). queue_of_ticket f before p.ticket) (placed_of e) 0))) q.host
     ∙ ap (λ (o : Option Started). option_map_or (λ (s : Started). s.queue) o (option_map_or (λ (p : Placed). queue_of_ticket f before p.ticket) (placed_of e) 0)) q.started
     ∙ ap (λ (o : Option Placed). option_map_or (λ (p : Placed). queue_of_ticket f before p.ticket) o 0) q.placed
 
 -- they carry no number
-pub quiet-carry : (f : Found) (before es : List Entry) → All IsQuiet es → CarriesNone mark_in (marked_after f before es)
+pub none-carry : (f : Found) (before es : List Entry) → All ServesNone es → CarriesNone mark_in (marked_after f before es)
 unfolding marked_after
-quiet-carry f before [] all = All-nil (λ (x : Entry × Mark). (mark_in x).number ≡ 0)
-quiet-carry f before (e ∷ es) all =
-    All-cons (λ (x : Entry × Mark). (mark_in x).number ≡ 0) (e, mark_of f before e) (marked_after f (before ++ e ∷ []) es) (quiet-seat f before e (All-head IsQuiet e es all)) (quiet-carry f (before ++ e ∷ []) es (All-tail IsQuiet e es all))
+none-carry f before [] all = All-nil (λ (x : Entry × Mark). (mark_in x).number ≡ 0)
+none-carry f before (e ∷ es) all =
+    All-cons (λ (x : Entry × Mark). (mark_in x).number ≡ 0) (e, mark_of f before e) (marked_after f (before ++ e ∷ []) es) (none-seat f before e (All-head ServesNone e es all)) (none-carry f (before ++ e ∷ []) es (All-tail ServesNone e es all))
+
+-- and complete nothing
+pub none-completes : (queue : ℕ) (es : List Entry) → All ServesNone es → completed queue es ≡ []
+none-completes queue [] all = refl
+none-completes queue (e ∷ es) all =
+    ap (λ (o : Option Host). cons_option (option_and_then (λ (h : Host). cond (nat_eq h.queue queue) (Some (h.number, h.command)) None) o) (completed queue es)) (All-head ServesNone e es all).host
+    ∙ none-completes queue es (All-tail ServesNone e es all)
 
 -- ---- openings
 
@@ -144,16 +156,23 @@ sums-rise f es before totals same sums =
 
 -- ---- a history in which nothing was served
 
-pub first-opens : (es : List Entry) → (es ≡ []) ⊎ (es ≡ entries.Reopened ∷ []) → OpensFirst [] es
-unfolding OpensFirst
-first-opens es (inl none) = subst (OpensFirst []) (sym none) tt
-first-opens es (inr opened) = subst (OpensFirst []) (sym opened) ((λ same. refl), tt)
+-- it adds no blocks of hosts
+none-blocks : (es : List Entry) → All ServesNone es → host_blocks es ≡ 0
+none-blocks [] all = refl
+none-blocks (e ∷ es) all =
+    let first : host_blocks_of e ≡ 0 = ap (λ (o : Option Host). option_map_or (λ (h : Host). if h.reply.applied then blocks_written h.command else 0) o 0) (All-head ServesNone e es all).host in
+    omega (arith, sum_by-cons host_blocks_of e es, first, none-blocks es (All-tail ServesNone e es all))
 
-pub first-sums : (f : Found) (es : List Entry) (totals : Totals) → (es ≡ []) ⊎ (es ≡ entries.Reopened ∷ []) → totals ≡ totals_of f es → AreSumsOf f totals
+-- so the sums without what it adds are those before it
+pub sums-without : (f : Found) (es : List Entry) (totals before : Totals) → All ServesNone es → totals ≡ totals_of f es → before.host_blocks ≡ totals.host_blocks → before.media_blocks + media_blocks es ≡ totals.media_blocks → before.erases + erases es ≡ totals.erases → AreSumsOf f before
 unfolding totals_of
-first-sums f es totals (inl none) same =
-    let is : totals ≡ totals_of f [] = same ∙ ap (totals_of f) none in
-    record { host_blocks = omega (arith, ap (λ (t : Totals). t.host_blocks) is); media_blocks = omega (arith, ap (λ (t : Totals). t.media_blocks) is); erases = omega (arith, ap (λ (t : Totals). t.erases) is) }
-first-sums f es totals (inr opened) same =
-    let is : totals ≡ totals_of f (entries.Reopened ∷ []) = same ∙ ap (totals_of f) opened in
-    record { host_blocks = omega (arith, ap (λ (t : Totals). t.host_blocks) is); media_blocks = omega (arith, ap (λ (t : Totals). t.media_blocks) is); erases = omega (arith, ap (λ (t : Totals). t.erases) is) }
+sums-without f es totals before all same hosts media erased = record {
+  host_blocks = omega (arith, hosts, none-blocks es all, ap (λ (t : Totals). t.host_blocks) same);
+  media_blocks = omega (arith, media, ap (λ (t : Totals). t.media_blocks) same);
+  erases = omega (arith, erased, ap (λ (t : Totals). t.erases) same);
+}
+
+-- and it adds no more than there is
+pub sums-least : (f : Found) (es : List Entry) (totals : Totals) → totals ≡ totals_of f es → (media_blocks es ≤ totals.media_blocks) × (erases es ≤ totals.erases)
+unfolding totals_of
+sums-least f es totals same = (omega (arith, ap (λ (t : Totals). t.media_blocks) same), omega (arith, ap (λ (t : Totals). t.erases) same))

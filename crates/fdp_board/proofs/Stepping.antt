@@ -1,6 +1,6 @@
 -- A step of a drive, on its board.
-use Rattle.std.proofs.Common.{◌≡◌, ℕ, ◌<◌, ◌≤◌, Bool, List, [], ◌∷◌, ◌++◌, refl, ap, sym, ◌∙◌, subst, arith, append_assoc, inl, inr, length}
-use Rattle.std.specs.Prelude.{All, IsTrue, map}
+use Rattle.std.proofs.Common.{◌≡◌, ℕ, ◌<◌, ◌≤◌, Bool, List, [], ◌∷◌, ◌++◌, refl, ap, sym, ◌∙◌, subst, arith, append_assoc, inl, inr, ⊎_elim, length}
+use Rattle.std.specs.Prelude.{All, IsFalse, IsTrue, map}
 use mathlib.Core.List.{IsPrefix}
 use Rattle.std.proofs.lemmas.Bool.{cases_lt}
 use Rattle.fdp_base.specs.declared.config.DriveConfig.{DriveConfig}
@@ -18,6 +18,7 @@ use Rattle.fdp_flash.specs.declared.cell.Cell.{Cell}
 use Rattle.fdp_flash.specs.FlashState.{Call, FlashState}
 use Rattle.fdp_image.specs.Kept.{StandsForKept}
 use Rattle.fdp_workers.specs.fdp_isolation.Begun.{OpenedApart}
+use Rattle.fdp_workers.specs.fdp_roominess.Run.{BeganRoomy, IsRoomyImage}
 use Rattle.fdp_workers.specs.fdp_survival.Apart.{StandsApart}
 use Rattle.fdp_workers.proofs.fdp_survival.Images.{grown-apart, less-apart}
 use Rattle.fdp_workers.specs.fdp_ledger.declared.counts.Counts.{Counts}
@@ -26,11 +27,11 @@ use Rattle.fdp_rules.specs.PlainState.{Going, PlainState}
 use Rattle.fdp_rules.specs.Seats.{mark_of, marks_after, marks_of, seat_of_entry}
 use Rattle.fdp_workers.specs.Run.{OpensFirst}
 use Rattle.fdp_workers.specs.Turns.{AddsNone, AddsOwn}
-use Rattle.fdp_board.specs.Board.{AreCharged, AreSumsOf, Began, IsBoard, IsKeptImage, IsSafeSince, IsUnfailing, began_with, items_of}
+use Rattle.fdp_board.specs.Board.{AreCharged, AreSumsOf, Began, IsBoard, IsKeptImage, IsRoomySince, IsSafeSince, IsUnfailing, began_with, items_of}
 use Rattle.fdp_workers.specs.Marks.{entry_in, mark_in, marked_after}
 use Rattle.fdp_board.proofs.Charging.{charged-after}
 use Rattle.fdp_board.proofs.Outlasting.{AreLate, each_later, kept-grown, kept-less}
-use Rattle.fdp_board.proofs.Items.{AreLater, IsQuiet, entries-marked, marked-joined, marks-joined, opens-joined, quiet-carry}
+use Rattle.fdp_board.proofs.Items.{AreLater, IsQuiet, entries-marked, marked-joined, marks-joined, none-carry, opens-joined, quiet-none}
 use Rattle.atomic_table.specs.Seated.{TableId}
 
 -- ---- what the record tells of the state
@@ -105,6 +106,25 @@ safe-after state old new es g stops safe told m image above most there =
       | inr early ↦ before early
     ]
 
+-- what began with room behind a step did so before it
+began-before : {F : Type 0} (state : F → FlashState) (old new : Seen F) (es : List Entry) → Goes state old new es → (state new.flash).told ≡ (state old.flash).told → BeganRoomy (state new.flash).told new.book → BeganRoomy (state old.flash).told old.book
+began-before state old new es g tells began = ⊎_elim
+    (λ (fresh : IsFalse new.book.found.is_image). inl (ap (λ (f : Found). f.is_image) (sym g.found_is) ∙ fresh))
+    (λ (image : IsTrue (state new.flash).told × IsRoomyImage new.book.config new.book.opened).
+    inr (subst IsTrue tells image.0, subst (λ (c : DriveConfig). IsRoomyImage c old.book.opened) g.config_is (subst (IsRoomyImage new.book.config) g.opened_is image.1)))
+    began
+
+-- and roomy, where the run began with room and no call failed
+roomy-after : {F : Type 0} (state : F → FlashState) (old new : Seen F) (es : List Entry) → Goes state old new es → OutlastsStops state old new → IsRoomySince old.handed (state old.flash) old.book → IsRoomySince old.handed (state new.flash) new.book
+roomy-after state old new es g stops roomy told began well m image above most there =
+    let run = stops.stops.images in
+    let told_before : IsTrue (state old.flash).told = sym run.told ∙ told in
+    let began_before = began-before state old new es g run.told began in
+    subst (λ (c : DriveConfig). IsRoomyImage c image) (sym g.config_is) (elim (cases_lt (state old.flash).moment m) [
+      | inl late ↦ (stops.roomy began_before well).images told_before m image late most there
+      | inr early ↦ roomy told_before began_before (λ rose. well (omega (arith, rose, run.faults))) m image above early (run.earlier m image early there)
+    ])
+
 pub board-after : {F : Type 0} (state : F → FlashState) (old new : Seen F) (before : Totals) (told : List Mark) (es : List Entry) → Goes state old new es → OutlastsStops state old new → IsBoard state old before told → IsBoard state new before told
 board-after state old new before told es g stops b = record {
   opens = subst (OpensFirst []) (sym g.entries_are) (opens-joined [] old.book.entries es b.opens g.later);
@@ -114,6 +134,7 @@ board-after state old new before told es g stops b = record {
       (marks_after old.book.found old.book.entries es, sym (marks-joined old.book.found [] old.book.entries es))));
   sums = subst (λ (f : Found). AreSumsOf f before) (sym g.found_is) b.sums;
   safe = subst (λ (h : Counts). IsSafeSince h.moment (state new.flash) new.book) (sym g.handed_is) (safe-after state old new es g stops b.safe);
+  roomy = subst (λ (h : Counts). IsRoomySince h (state new.flash) new.book) (sym g.handed_is) (roomy-after state old new es g stops b.roomy);
   later = subst (λ (h : Counts). h.moment ≤ (state new.flash).moment) (sym g.handed_is) (omega (arith, b.later, stops.stops.images.later));
   charged = subst (λ (h : Counts). AreCharged h.moment (state new.flash) new.book.entries) (sym g.handed_is)
       (subst (AreCharged old.handed.moment (state new.flash)) (sym g.entries_are)
@@ -148,7 +169,7 @@ pub adds-none : {F : Type 0} (state : F → FlashState) (old new : Seen F) (es :
 adds-none state old new es g quiet = record {
   added = marked_after old.book.found old.book.entries es;
   new_is = items-after state old new es g;
-  none = quiet-carry old.book.found old.book.entries es quiet;
+  none = none-carry old.book.found old.book.entries es (quiet-none es quiet);
 }
 
 pub adds-own : {F : Type 0} (state : F → FlashState) (old new : Seen F) (before : List Entry) (e : Entry) (number : ℕ) → Goes state old new (before ++ e ∷ []) → All IsQuiet before → seat_of_entry old.book.found (old.book.entries ++ before) e ≡ number
@@ -162,7 +183,7 @@ adds-own state old new before e number g quiet seat =
       own = own;
       new_is = items-after state old new (before ++ e ∷ []) g ∙ ap (λ (xs : List (Entry × Mark)). items_of old ++ xs) (marked-joined f old.book.entries before (e ∷ []))
           ∙ sym (append_assoc (items_of old) (marked_after f old.book.entries before) (own ∷ []));
-      none = quiet-carry f old.book.entries before quiet;
+      none = none-carry f old.book.entries before (quiet-none before quiet);
       number_is = seat;
       entry_is = refl;
     }

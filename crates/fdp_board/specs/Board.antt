@@ -1,22 +1,22 @@
 -- A drive with its teller, as contracts see it, and the record that it keeps.
-use Rattle.std.specs.Prelude.{◌≡◌, ◌⊎◌, ℕ, ◌-◌, ◌<◌, ◌≤◌, All, Bool, false, true, IsTrue, List, [], ◌∷◌, Some, slice_get}
+use Rattle.std.specs.Prelude.{◌≡◌, ℕ, ◌-◌, ◌<◌, ◌≤◌, All, Bool, false, true, IsTrue, List, [], None, Some, slice_get}
 use Rattle.std.specs.Option.{option_map_or}
 use mathlib.Core.List.{IsPrefix}
 use Rattle.atomic_table.specs.Seated.{TableId}
 use Rattle.fdp_base.specs.declared.config.DriveConfig.{DriveConfig}
 use Rattle.fdp_base.specs.declared.entry.Entry.{Entry}
-use Rattle.fdp_base.specs.declared.entry.Entry.TheVariants as entries
 use Rattle.fdp_base.specs.declared.entry.Host.{Host}
 use Rattle.fdp_base.specs.declared.entry.Totals.{Totals}
 use Rattle.fdp_base.specs.declared.recorded.Mark.{Mark}
 use Rattle.fdp_base.specs.Counts.{Rose}
-use Rattle.fdp_base.specs.EntryKinds.{host_of}
+use Rattle.fdp_base.specs.EntryKinds.{host_of, placed_of, started_of}
 use Rattle.fdp_workers.specs.fdp_book.Book.{BookSeen}
 use Rattle.fdp_workers.specs.fdp_core.Seen.{Seen}
 use Rattle.fdp_flash.specs.declared.cell.Cell.{Cell}
 use Rattle.fdp_flash.specs.FlashState.{Call, FlashState}
 use Rattle.fdp_image.specs.Kept.{StandsForKept}
 use Rattle.fdp_workers.specs.fdp_isolation.Begun.{OpenedApart}
+use Rattle.fdp_workers.specs.fdp_roominess.Run.{BeganRoomy, IsRoomyImage}
 use Rattle.fdp_workers.specs.fdp_survival.Apart.{StandsApart}
 use Rattle.fdp_workers.specs.fdp_ledger.declared.counts.Counts.{Counts}
 use Rattle.fdp_workers.specs.fdp_ledger.Told.{is_media_reply}
@@ -102,6 +102,12 @@ pub record IsKeptImage (c : DriveConfig) (f : Found) (opened : List Cell) (es : 
 abbrev pub IsSafeSince : ℕ → FlashState → BookSeen → Type 0
 IsSafeSince since flash b = IsTrue flash.told → (m : ℕ) (image : List Cell) → since < m → m ≤ flash.moment → flash.during m image → IsKeptImage b.config b.found b.opened b.entries m image
 
+-- and where the run began with room and no call failed since the flash was handed in, it is a roomy image
+abbrev pub IsRoomySince : Counts → FlashState → BookSeen → Type 0
+IsRoomySince handed flash b =
+    IsTrue flash.told → BeganRoomy flash.told b → (Rose handed.faults flash.faults → ⊥)
+    → (m : ℕ) (image : List Cell) → handed.moment < m → m ≤ flash.moment → flash.during m image → IsRoomyImage b.config image
+
 -- Since a moment a call failed at this one: it lies above it, or the count stands at its last value. Where the calls are told, that call failed.
 pub record FailedSince (since : ℕ) (now : FlashState) (moment : ℕ) : Type 0 where
   pub later : Rose since moment
@@ -120,11 +126,19 @@ AreCharged since now es = All (λ e. IsTrue (is_media_reply e) → FailedSince s
 abbrev pub IsUnfailing : Counts → FlashState → Type 0
 IsUnfailing handed flash = IsTrue flash.reliable → flash.faults ≡ handed.faults
 
--- A drive that was just opened: it has served nothing, whatever a stop since its flash was handed in may have left stands for its history, and no call of a
--- reliable flash has failed.
-pub record IsJustOpened {F : Type 0} (state : F → FlashState) (s : Seen F) : Type 0 where
-  pub entries_are : (s.book.entries ≡ []) ⊎ (s.book.entries ≡ entries.Reopened ∷ [])
+-- an entry that serves no host: it completes no command, starts no write and places no page of one
+pub record ServesNone (e : Entry) : Type 0 where
+  pub host : host_of e ≡ None
+  pub started : started_of e ≡ None
+  pub placed : placed_of e ≡ None
+
+-- A drive that has served nothing since it was opened, whatever it relocated: no entry serves a host, and an opening stands at the beginning alone. Whatever
+-- a stop since its flash was handed in may have left stands for its history, and is roomy where it should be; and no call of a reliable flash has failed.
+pub record HasServedNothing {F : Type 0} (state : F → FlashState) (s : Seen F) : Type 0 where
+  pub opens : OpensFirst [] s.book.entries
+  pub none : All ServesNone s.book.entries
   pub safe : IsSafeSince s.handed.moment (state s.flash) s.book
+  pub roomy : IsRoomySince s.handed (state s.flash) s.book
   pub unfailing : IsUnfailing s.handed (state s.flash)
 
 -- the sums before the history are those of what it goes on from
@@ -140,6 +154,7 @@ pub record IsBoard {F : Type 0} (state : F → FlashState) (group : Seen F) (bef
   pub shown : IsPrefix told (marks_of group.book.found group.book.entries)
   pub sums : AreSumsOf group.book.found before
   pub safe : IsSafeSince group.handed.moment (state group.flash) group.book
+  pub roomy : IsRoomySince group.handed (state group.flash) group.book
   pub later : group.handed.moment ≤ (state group.flash).moment
   pub charged : AreCharged group.handed.moment (state group.flash) group.book.entries
   pub unfailing : IsUnfailing group.handed (state group.flash)

@@ -1,8 +1,9 @@
 ghost use Rattle.std.specs.Prelude.{◌≡◌, []};
-ghost use Rattle.fdp_board.specs.Board.{AreCharged, IsJustOpened, IsSafeSince, IsUnfailing};
+ghost use Rattle.fdp_board.specs.Board.{AreCharged, HasServedNothing, IsRoomySince, IsSafeSince, IsUnfailing};
 ghost use Rattle.fdp_gauge.specs.Passes.{told_of};
 ghost use Rattle.fdp_workers.specs.Marks.{counts_of};
 
+use crate::before::sums_before;
 use crate::beginning::Beginning;
 use crate::record::Record;
 use fdp_base::{Command, Entry, MOST_STEPS, Mark, Recorded, Snapshot, Totals};
@@ -34,15 +35,13 @@ impl<F: Flash> Model for Board<F> {
 }
 
 impl<F: Flash> Board<F> {
-    /// The board of a drive that has served nothing yet, whose teller has told nothing.
+    /// The board of a drive that has served nothing yet, whose teller has told nothing. It looks at each entry of the history once.
     pub fn new(group: Group<F>, teller: Teller) -> Board<F>
         requires untold { told_of teller ≡ [] }
-        requires opened { IsJustOpened F.state group }
+        requires unserved { HasServedNothing F.state group }
         ensures { result ≡ record { group = group; gauge = teller.place.table_id; told = [] } }
     {
-        let before = group.totals();
-        // Asked for what is known of the history: the calls came after the flash was handed in.
-        let _known = group.entries();
+        let before = sums_before(group.totals(), group.entries());
         Board {
             group,
             teller,
@@ -55,6 +54,7 @@ impl<F: Flash> Board<F> {
         ensures group { result.0 ≡ self.group }
         ensures teller { (result.1.place.table_id ≡ self.gauge) × (told_of result.1 ≡ self.told) }
         ensures safe { IsSafeSince self.group.handed.moment (F.state self.group.flash) self.group.book }
+        ensures roomy { IsRoomySince self.group.handed (F.state self.group.flash) self.group.book }
         ensures charged { AreCharged self.group.handed.moment (F.state self.group.flash) self.group.book.entries }
         ensures unfailing { IsUnfailing self.group.handed (F.state self.group.flash) }
     {

@@ -1,6 +1,7 @@
 //! A drive behind the lock of its workers.
 #![tactic(auto)]
 
+mod before;
 mod beginning;
 mod board;
 mod record;

@@ -1,5 +1,5 @@
 -- What a run shows.
-use Rattle.std.proofs.Common.{◌≡◌, ◌⊎◌, ℕ, ◌<◌, IsTrue, ap, List, [], ◌∷◌, ◌++◌, length, Err, refl, sym, ◌∙◌, subst, arith, inl, inr, ⊎_elim}
+use Rattle.std.proofs.Common.{◌≡◌, ◌⊎◌, ℕ, ◌-◌, ◌<◌, ◌≤◌, Bool, true, get_or, IsTrue, ap, List, [], ◌∷◌, ◌++◌, length, Err, refl, sym, ◌∙◌, subst, arith, inl, inr, ⊎_elim}
 use mathlib.Core.List.{IsPrefix}
 use Rattle.std.specs.List.{list_any}
 use Rattle.std.specs.Prelude.{All, IsFalse, Result, ⊤}
@@ -9,11 +9,12 @@ use Rattle.fdp_base.specs.declared.command.Command.{Command}
 use Rattle.fdp_base.specs.declared.config.DriveConfig.{DriveConfig}
 use Rattle.fdp_base.specs.declared.entry.Entry.{Entry}
 use Rattle.fdp_base.specs.declared.entry.Entry.TheVariants as entries
+use Rattle.fdp_base.specs.Config.{IsValidConfig}
 use Rattle.fdp_base.specs.Counts.{Rose}
 use Rattle.fdp_drive.specs.fdp_book.Book.{BookSeen, point_in}
 use Rattle.fdp_drive.specs.fdp_core.Loading.{IsLoaded, IsNotLoaded}
-use Rattle.fdp_drive.specs.fdp_core.Seen.{HoldsHistory, IsLegalOver, Seen}
-use Rattle.fdp_drive.specs.fdp_board.Board.{AreCharged, IsJustOpened, IsSafeSince}
+use Rattle.fdp_drive.specs.fdp_core.Seen.{HasMoments, HoldsHistory, IsLegalOver, Seen}
+use Rattle.fdp_drive.specs.fdp_board.Board.{AreCharged, HasServedNothing, IsRoomySince, IsSafeSince, ServesNone}
 use Rattle.fdp_drive.proofs.fdp_board.Outlasting.{AreLate}
 use Rattle.fdp_drive.specs.fdp_crews.Crews.{IsTrace}
 use Rattle.fdp_drive.specs.Session.{HoldsTraces, IsSameDrive, IsSession, KeepsOrders}
@@ -26,6 +27,7 @@ use Rattle.fdp_finding.specs.declared.fault.Fault.{Fault}
 use Rattle.fdp_finding.specs.Traced.{IsServable}
 use Rattle.fdp_flash.specs.declared.cell.Cell.{Cell}
 use Rattle.fdp_flash.specs.FlashState.{FlashState}
+use Rattle.fdp_flash.specs.Runs.{Runs}
 use Rattle.fdp_image.specs.Kept.{AreFirm, StandsForBeginning, StandsForKept, is_owed}
 use Rattle.fdp_io.specs.Sink.{HoldsFront, SinkState}
 use Rattle.fdp_drive.specs.fdp_isolation.Begun.{OpenedApart}
@@ -35,6 +37,13 @@ use Rattle.fdp_drive.proofs.fdp_survival.Images.{less-apart}
 use Rattle.fdp_drive.specs.fdp_ledger.declared.counts.Counts.{Counts}
 use Rattle.fdp_drive.specs.fdp_ledger.Counted.{CountedSince}
 use Rattle.fdp_drive.specs.fdp_ledger.Start.{start_of}
+use Rattle.fdp_drive.specs.fdp_ledger.Told.{is_media_reply}
+use Rattle.fdp_drive.specs.fdp_workers.Run.{OpensFirst}
+use Rattle.fdp_make.specs.Served.{FindsWholeBlocks}
+use Rattle.fdp_make.proofs.Agreeing.{all-agree}
+use Rattle.fdp_make.proofs.Beginnings.{orderly-whole}
+use Rattle.fdp_make.proofs.Forms.{own-trace}
+use Rattle.fdp_make.proofs.Loads.{of-load}
 use Rattle.fdp_printing.specs.declared.closing.Closing.{Closing}
 use Rattle.fdp_printing.specs.declared.pieces.Cut.{Cut}
 use Rattle.fdp_printing.specs.declared.pieces.Cut.TheVariants as cuts
@@ -45,8 +54,11 @@ use Rattle.fdp_drive.specs.fdp_roominess.Capacity.{exceeds_capacity}
 use Rattle.fdp_drive.specs.fdp_roominess.Run.{BeganRoomy, IsRoomyImage, StaysRoomy, WearsByFailure}
 use Rattle.fdp_drive.proofs.fdp_core.Unfailing.{unfailing-fits}
 use Rattle.fdp_rules.specs.History.{Found, point_of}
+use Rattle.fdp_rules.specs.Legal.{IsLegal}
+use Rattle.fdp_rules.specs.Queue.{KeepsQueueOrder}
+use Rattle.fdp_rules.specs.Step.{IsQueue}
 use Rattle.fdp_cli.specs.Loading.{of_opening}
-use Rattle.fdp_cli.specs.Session.{IsRun, StaysIsolated}
+use Rattle.fdp_cli.specs.Session.{CountsSame, IsRun, StaysIsolated}
 use Rattle.fdp_cli.specs.Top.{EndsRun, PrintsText, Refuses, Shows, text_in, text_of}
 
 -- ---- the beginning
@@ -90,12 +102,23 @@ kept-first c f es m image first s = record {
 
 -- ---- the whole run
 
+-- an opening serves no host
+opened-none : (es : List Entry) → (es ≡ []) ⊎ (es ≡ entries.Reopened ∷ []) → All ServesNone es
+opened-none es (inl none) = subst (All ServesNone) (sym none) (All-nil ServesNone)
+opened-none es (inr one) = subst (All ServesNone) (sym one) (All-cons ServesNone entries.Reopened [] (record { host = refl; started = refl; placed = refl }) (All-nil ServesNone))
+
+-- and it is told first
+opened-first : (es : List Entry) → (es ≡ []) ⊎ (es ≡ entries.Reopened ∷ []) → OpensFirst [] es
+unfolding OpensFirst
+opened-first es (inl none) = subst (OpensFirst []) (sym none) tt
+opened-first es (inr one) = subst (OpensFirst []) (sym one) ((λ same. refl), tt)
+
 -- a drive that was opened has served nothing yet
-pub just-opened : {F : Type 0} (state : F → FlashState) (c : DriveConfig) (handed : F) (old : Seen F) → IsLoaded state c handed old → IsJustOpened state old
-just-opened state c handed old loaded = record {
-  entries_are = loaded.entries_are;
+pub served-nothing : {F : Type 0} (state : F → FlashState) (c : DriveConfig) (handed : F) (old : Seen F) → IsLoaded state c handed old → HasServedNothing state old
+served-nothing state c handed old loaded = record {
+  opens = opened-first old.book.entries loaded.entries_are;
+  none = opened-none old.book.entries loaded.entries_are;
   safe = λ told m image above most there.
-      let run = loaded.stops in
       let since = subst (λ (h : Counts). h.moment < m) loaded.handed_is above in
       record {
         stands =
@@ -105,8 +128,13 @@ just-opened state c handed old loaded = record {
             subst (λ (x : DriveConfig). OpenedApart x old.book.found old.book.opened → StandsApart x old.book.found old.book.entries 0 image) (sym loaded.config_is)
             (λ opened. less-apart c old.book.found old.book.entries (length old.book.entries) 0 image (omega arith) ((loaded.apart opened).images.images (sym run.told ∙ told) m image since most there));
       };
+  roomy = λ told began well m image above most there.
+      subst (λ (x : DriveConfig). IsRoomyImage x image) (sym loaded.config_is)
+      ((loaded.stays_roomy began).images (sym run.told ∙ told) m image (subst (λ (h : Counts). h.moment < m) loaded.handed_is above) most there);
   unfailing = λ reliable. loaded.faults ∙ sym (ap (λ (h : Counts). h.faults) loaded.handed_is);
-}
+} where
+  run : Runs (state handed) (state old.flash) (λ m image. StandsForBeginning c old.book.found old.book.entries 0 image)
+  run = loaded.stops
 
 config-is : {F : Type 0} (state : F → FlashState) (c : DriveConfig) (handed : F) (old new : Seen F) → HasServed state c handed old new → IsSameDrive state old new → new.book.config ≡ c
 config-is state c handed old new has same = same.config_is ∙ has.loaded.config_is
@@ -152,6 +180,38 @@ fits-by : {F : Type 0} (state : F → FlashState) (c : DriveConfig) (handed : F)
 fits-by state c handed old new has same goes_on one began well =
     unfailing-fits new.handed (state new.flash) old.book new.book has.loaded.order same.config_is same.found_is has.loaded.entries_are goes_on.0 goes_on.1 has.legal has.counted has.worn began well one
 
+-- the summary of a generated load counts what is the same
+counts-same : {F : Type 0} (state : F → FlashState) (c : DriveConfig) (traces : List (List Command)) (receipts : List (List Receipt)) (end : End) (handed given : F) (old new : Seen F) → length traces ≤ c.queues → HasServed state c handed old new → given ≡ new.flash → IsSession state old new traces receipts end
+    → CountsSame (state given) c traces new.book.found new.book.entries
+counts-same {F} state c traces receipts end handed given old new few has same served number load told moments =
+    all-agree c new.book.found valid.ranges.block whole new.book.entries legal (of-load true c new.book.found number new.book.entries legal (record {
+      orders = λ queue within.
+          let is : IsQueue c queue = (within.0, omega (arith, within.1, few, four)) in
+          subst (λ (t : List Command). KeepsQueueOrder queue t new.book.entries) (ap (λ (ts : List (List Command)). get_or ts (queue - 1) []) load ∙ own-trace number queue within)
+          (served.orders queue (subst (λ (x : DriveConfig). IsQueue x queue) (sym config) is));
+      others = λ queue high. served.others queue (omega (arith, high, four));
+    })) where
+      config : new.book.config ≡ c
+      config = config-is state c handed old new has served.same
+
+      four : length traces ≡ 4
+      four = ap (λ (ts : List (List Command)). length ts) load
+
+      valid : IsValidConfig c
+      valid = subst IsValidConfig has.loaded.config_is has.loaded.order.known.config
+
+      whole : FindsWholeBlocks c new.book.found
+      whole =
+          subst (FindsWholeBlocks c) (sym served.same.found_is)
+          (subst (λ (x : DriveConfig). FindsWholeBlocks x old.book.found) has.loaded.config_is
+          (orderly-whole old.book.config old.book.found old.book.entries has.loaded.order.known.orderly has.loaded.entries_are))
+
+      legal : IsLegal true c new.book.found new.book.entries
+      legal =
+          subst (λ (x : DriveConfig). IsLegal true x new.book.found new.book.entries) config
+          (subst (λ (t : Bool). IsLegal t new.book.config new.book.found new.book.entries) (subst (λ (x : F). IsTrue (state x).told) same told)
+          (has.legal (subst (λ (x : F). IsTrue (list_any is_media_reply new.book.entries) → HasMoments (state x)) same moments)))
+
 -- its session
 run_by : {F : Type 0} (state : F → FlashState) (c : DriveConfig) (traces : List (List Command)) (receipts : List (List Receipt)) (end : End) (handed given : F) (old new : Seen F) → HasServed state c handed old new → given ≡ new.flash → IsSession state old new traces receipts end →
     IsRun state c traces end handed given new.book.found new.book.entries
@@ -181,6 +241,7 @@ run_by {F} state c traces receipts end handed given old new has same served =
         began = began-by state c handed old new has served.same;
         worn = subst (λ (k : Counts). WearsByFailure k.faults (state new.flash).faults (state new.flash).told new.book) is has.worn;
         roomy = λ told. subst (λ (k : Counts). StaysRoomy k.faults (state new.flash).faults (state new.flash).told new.book (state new.flash).cells) is (has.roomy told);
+        stays_roomy = subst (λ (k : Counts). IsRoomySince k (state new.flash) new.book) is served.roomy;
         fits = λ one began well. fits-by state c handed old new has served.same served.goes_on one began (subst (λ (k : Counts). Rose k.faults (state new.flash).faults → ⊥) (sym is) well);
         firm = has.firm;
         stands = has.stands;
@@ -189,9 +250,9 @@ run_by {F} state c traces receipts end handed given old new has same served =
     }
 
 -- how the run ended whose session ended so, and was shown so
-pub ended : {F : Type 0} (state : F → FlashState) (form : Form) (c : DriveConfig) (traces : List (List Command)) (receipts : List (List Receipt)) (count : ℕ) (handed given : F) (old new : Seen F) (end : End) (sink sink' : SinkState) (status : ℕ) → count ≡ length traces → HasServed state c handed old new → given ≡ new.flash →
+pub ended : {F : Type 0} (state : F → FlashState) (form : Form) (c : DriveConfig) (traces : List (List Command)) (receipts : List (List Receipt)) (count : ℕ) (handed given : F) (old new : Seen F) (end : End) (sink sink' : SinkState) (status : ℕ) → count ≡ length traces → length traces ≤ c.queues → HasServed state c handed old new → given ≡ new.flash →
     IsSession state old new traces receipts end → Shows new.book end form count sink sink' status → EndsRun state form c traces handed given sink sink' status
-ended state form c traces receipts count handed given old new ends.Whole sink sink' status is has same served shows =
+ended state form c traces receipts count handed given old new ends.Whole sink sink' status is few has same served shows =
     let config = config-is state c handed old new has served.same in
     inl (
       new.book.found,
@@ -199,13 +260,14 @@ ended state form c traces receipts count handed given old new ends.Whole sink si
       record {
         run = run_by state c traces receipts ends.Whole handed given old new has same served;
         whole = subst (λ (x : DriveConfig). HoldsTraces x traces new.book.entries) config served.ended.0;
+        same = counts-same state c traces receipts ends.Whole handed given old new few has same served;
       },
       subst (λ (k : ℕ). PrintsText (text_of form c new.book.found k new.book.entries) sink sink' status) is
           (subst (λ (x : DriveConfig). PrintsText (text_of form x new.book.found count new.book.entries) sink sink' status) config shows),
     )
-ended state form c traces receipts count handed given old new ends.NoMemory sink sink' status is has same served shows =
+ended state form c traces receipts count handed given old new ends.NoMemory sink sink' status is few has same served shows =
     inr (inl (shows.0, shows.1, (new.book.found, new.book.entries, run_by state c traces receipts ends.NoMemory handed given old new has same served)))
-ended state form c traces receipts count handed given old new ends.Turns sink sink' status is has same served shows =
+ended state form c traces receipts count handed given old new ends.Turns sink sink' status is few has same served shows =
     inr (inr (inl (shows, (new.book.found, new.book.entries, run_by state c traces receipts ends.Turns handed given old new has same served))))
 
 -- how the run ended that opened no drive

@@ -5,10 +5,10 @@ use Rattle.fdp_base.specs.declared.command.Command.{Command}
 use Rattle.fdp_base.specs.declared.config.DriveConfig.{DriveConfig}
 use Rattle.fdp_base.specs.declared.entry.Entry.{Entry}
 use Rattle.fdp_base.specs.Counts.{Rose}
-use Rattle.fdp_drive.specs.fdp_board.Board.{AreCharged, IsSafeSince}
+use Rattle.fdp_drive.specs.fdp_board.Board.{AreCharged, IsRoomySince, IsSafeSince}
 use Rattle.fdp_drive.specs.fdp_book.Book.{point_in}
 use Rattle.fdp_drive.specs.fdp_core.Loading.{IsLoaded}
-use Rattle.fdp_drive.specs.fdp_core.Seen.{HoldsHistory, IsLegalOver, Seen}
+use Rattle.fdp_drive.specs.fdp_core.Seen.{HasMoments, HoldsHistory, IsLegalOver, Seen}
 use Rattle.fdp_drive.specs.Session.{HoldsTraces, IsSession, KeepsOrders, OnlyThese}
 use Rattle.fdp_flash.specs.declared.cell.Cell.{Cell}
 use Rattle.fdp_flash.specs.FlashState.{FlashState}
@@ -18,8 +18,11 @@ use Rattle.fdp_drive.specs.fdp_isolation.Isolated.{IsIsolatedDrive}
 use Rattle.fdp_drive.specs.fdp_survival.Apart.{ReadsIsolated}
 use Rattle.fdp_drive.specs.fdp_ledger.Counted.{CountedSince, counts_of}
 use Rattle.fdp_drive.specs.fdp_ledger.Start.{start_of}
+use Rattle.fdp_drive.specs.fdp_ledger.Told.{is_media_reply}
 use Rattle.fdp_drive.specs.fdp_roominess.Capacity.{exceeds_capacity}
 use Rattle.fdp_drive.specs.fdp_roominess.Run.{BeganRoomy, IsRoomyImage, StaysRoomy, WearsByFailure}
+use Rattle.fdp_make.specs.Load.{make_traces}
+use Rattle.fdp_make.specs.Summary.{same_blocks, unrefuted_blocks}
 use Rattle.fdp_rules.specs.History.{Found}
 use Rattle.fdp_drive.specs.fdp_workers.declared.ends.End.{End}
 use Rattle.fdp_drive.specs.fdp_workers.declared.ends.End.TheVariants as ends
@@ -35,8 +38,8 @@ pub record StaysIsolated (c : DriveConfig) (handed given : FlashState) : Type 0 
 -- it tells its cells, these stand for a beginning of the history in which each completed change is: what the next run goes on from. Whatever a stop in
 -- a call of the run may have left stands for a beginning with each change that was completed at an earlier moment, and data stands apart there as well.
 -- Where the flash that was handed in was isolated, whatever it read as, what was opened keeps data apart, and the flash stays isolated. Where it was roomy,
--- the run began with room; one that did wore a group only where a call failed, and where none did it leaves a roomy image, and with one group
--- it ended no command with Capacity Exceeded
+-- the run began with room; one that did wore a group only where a call failed, and where none did it leaves a roomy image, as does a stop in any
+-- call of it, and with one group it ended no command with Capacity Exceeded
 pub record HoldsRecord {F : Type 0} (state : F → FlashState) (handed : F) (group : Seen F) : Type 0 where
   pub told_is : (state group.flash).told ≡ (state handed).told
   pub counted : CountedSince (counts_of (state handed)) (state group.flash) (start_of group.book) group.book.entries
@@ -49,6 +52,7 @@ pub record HoldsRecord {F : Type 0} (state : F → FlashState) (handed : F) (gro
   pub began : IsTrue (state handed).told → IsRoomyImage group.book.config (state handed).cells → BeganRoomy (state group.flash).told group.book
   pub worn : WearsByFailure (state handed).faults (state group.flash).faults (state group.flash).told group.book
   pub roomy : IsTrue (state group.flash).told → StaysRoomy (state handed).faults (state group.flash).faults (state group.flash).told group.book (state group.flash).cells
+  pub stays_roomy : IsRoomySince (counts_of (state handed)) (state group.flash) group.book
   pub fits : group.book.config.groups ≡ 1 → BeganRoomy (state group.flash).told group.book → (Rose (state handed).faults (state group.flash).faults → ⊥) → IsFalse (list_any exceeds_capacity group.book.entries)
   pub firm : AreFirm group.book.entries group.keeper.firm
   pub stands : IsTrue (state group.flash).told → StandsForBeginning group.book.config group.book.found group.book.entries group.keeper.firm (state group.flash).cells
@@ -71,10 +75,19 @@ pub record IsRun {F : Type 0} (state : F → FlashState) (c : DriveConfig) (trac
   pub others : OnlyThese traces es
   pub held : HoldsRecord state handed new
 
+-- Where the traces are those of a generated load, the blocks that its summary counts are just those that equal the last applied write of the same queue
+-- to that block before the read, or, where there is none, the block as the run found it. It is said over a flash that tells its cells; where
+-- one of the replies tells of a media error, as long as each call has a moment of its own.
+abbrev pub CountsSame : FlashState → DriveConfig → List (List Command) → Found → List Entry → Type 0
+CountsSame flash c traces f es =
+    (number : ℕ) → traces ≡ make_traces number → IsTrue flash.told → (IsTrue (list_any is_media_reply es) → HasMoments flash)
+    → unrefuted_blocks c.block es ≡ same_blocks c f es
+
 -- each queue has completed its whole trace
 pub record IsRecordOf {F : Type 0} (state : F → FlashState) (c : DriveConfig) (traces : List (List Command)) (handed given : F) (f : Found) (es : List Entry) : Type 0 where
   pub run : IsRun state c traces ends.Whole handed given f es
   pub whole : HoldsTraces c traces es
+  pub same : CountsSame (state given) c traces f es
 
 -- it served a part of the traces: a command needs a further step, and the drive has made all that it may make, or memory was wanting
 abbrev pub IsCut : {F : Type 0} → (F → FlashState) → DriveConfig → List (List Command) → End → F → F → Type 0

@@ -17,7 +17,7 @@ use Rattle.fdp_roominess.specs.Run.{BeganRoomy, IsRoomyImage}
 
 -- A drive was opened on a flash, or made there: its history goes on from what the image stood for, in order, and nothing failed. Where the image was
 -- isolated, what was opened keeps data apart, and where it does, data stands apart in what a stop left and in the cells. Where the image was roomy, the
--- run begins with room.
+-- run begins with room; and where it did, whatever a stop left is a roomy image.
 pub record IsLoaded {F : Type 0} (state : F → FlashState) (c : DriveConfig) (flash : F) (group : Seen F) : Type 0 where
   pub config_is : group.book.config ≡ c
   pub handed_is : group.handed ≡ counts_of (state flash)
@@ -31,6 +31,7 @@ pub record IsLoaded {F : Type 0} (state : F → FlashState) (c : DriveConfig) (f
   pub stops : Runs (state flash) (state group.flash) (λ m image. StandsForBeginning c group.book.found group.book.entries 0 image)
   pub opened : IsTrue (state flash).told → ReadsIsolated c (state flash).cells → OpenedApart c group.book.found group.book.opened
   pub roomy : IsTrue (state flash).told → IsRoomyImage c (state flash).cells → BeganRoomy (state flash).told group.book
+  pub stays_roomy : BeganRoomy (state group.flash).told group.book → Runs (state flash) (state group.flash) (λ m image. IsRoomyImage c image)
   pub apart : OpenedApart c group.book.found group.book.opened → IsStopApart c group.book.found group.book.entries (length group.book.entries) (state flash) (state group.flash)
 
 -- no drive was opened: the cause, and what it left of the flash

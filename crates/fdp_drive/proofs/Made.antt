@@ -1,32 +1,30 @@
 -- A session, by what the crews of its drive have done.
-use Rattle.std.proofs.Common.{◌≡◌, ◌≢◌, ◌⊎◌, ℕ, zero, suc, ◌+◌, ◌-◌, ◌≤◌, get_or, List, [], ◌∷◌, ◌++◌, length, ap, sym, ◌∙◌, subst, arith, refl, inl, inr}
-use Rattle.std.specs.Prelude.{map}
+use Rattle.std.proofs.Common.{◌≡◌, ◌≢◌, ℕ, zero, suc, ◌+◌, ◌-◌, ◌≤◌, get_or, List, [], ◌∷◌, ◌++◌, length, ap, sym, ◌∙◌, subst, arith, refl, inl, inr}
+use Rattle.std.specs.Prelude.{All, Bool, Option, false, ◌&&◌, ◌==◌, filter, if◌then◌else◌, map}
+use Rattle.std.specs.Option.{option_map_or}
 use mathlib.Core.List.{IsPrefix, map-append}
 use Rattle.std.proofs.lemmas.Bool.{cases_lt}
-use Rattle.std.proofs.lemmas.List.Elements.{All-cons, All-nil}
+use Rattle.std.proofs.lemmas.List.Elements.{All-head, All-tail, All-weaker}
 use Rattle.fdp_base.specs.declared.command.Command.{Command}
 use Rattle.fdp_base.specs.declared.config.DriveConfig.{DriveConfig}
 use Rattle.fdp_base.specs.declared.entry.Entry.{Entry}
-use Rattle.fdp_base.specs.declared.recorded.Mark.{Mark}
+use Rattle.fdp_base.specs.declared.entry.Started.{Started}
 use Rattle.fdp_base.specs.Records.{CarriesNone}
-use Rattle.fdp_base.specs.declared.entry.Entry.TheVariants as entries
 use Rattle.fdp_base.proofs.Records.{prefix_refl}
-use Rattle.fdp_board.specs.Board.{AreCharged, Began, BoardSeen, IsJustOpened, IsSafeSince, IsUnfailing, began_with, items_of}
-use Rattle.fdp_board.proofs.Charging.{first-charged}
-use Rattle.fdp_board.proofs.Items.{entries-marked}
+use Rattle.fdp_board.specs.Board.{AreCharged, Began, BoardSeen, HasServedNothing, IsRoomySince, IsSafeSince, IsUnfailing, ServesNone, began_with, items_of}
+use Rattle.fdp_board.proofs.Charging.{none-charged}
+use Rattle.fdp_board.proofs.Items.{entries-marked, none-carry, none-completes}
 use Rattle.fdp_crews.specs.Crews.{trace_of}
 use Rattle.fdp_crews.specs.Shifts.{HasLeft as LeavesOne, HasTrace, IsShift}
 use Rattle.fdp_crews.specs.fdp_core.Seen.{Seen}
 use Rattle.fdp_flash.specs.FlashState.{FlashState}
-use Rattle.fdp_rules.specs.History.{Found}
-use Rattle.fdp_rules.specs.Seats.{mark_of}
 use Rattle.fdp_rules.specs.Queue.{HoldsWhole, IsSilent, KeepsQueueOrder, numbered, starting_queue}
 use Rattle.fdp_rules.specs.Step.{IsQueue}
 use Rattle.fdp_crews.specs.fdp_workers.declared.ends.End.{End}
 use Rattle.fdp_crews.specs.fdp_workers.declared.ends.End.TheVariants as ends
 use Rattle.fdp_crews.specs.fdp_workers.declared.receipt.Receipt.{Receipt}
-use Rattle.fdp_crews.specs.fdp_workers.Marks.{entry_in, mark_in, marked_after}
-use Rattle.fdp_crews.specs.fdp_workers.Queues.{receipts_of, times_started}
+use Rattle.fdp_crews.specs.fdp_workers.Marks.{entry_in, mark_in}
+use Rattle.fdp_crews.specs.fdp_workers.Queues.{receipts_of, starts, times_started}
 use Rattle.fdp_crews.specs.fdp_workers.Run.{Run}
 use Rattle.fdp_drive.specs.Session.{EndsAs, HasLeft, IsSameDrive, IsSession}
 
@@ -85,9 +83,9 @@ ended-as s run traces receipts ends.NoMemory few shift = elim shift.ended [
 ]
 
 pub session-made : {F : Type 0} (state : F → FlashState) (old new : BoardSeen F) (traces : List (List Command)) (receipts : List (List Receipt)) (end : End) → length traces ≤ old.group.book.config.queues → began_with state new ≡ began_with state old → IsPrefix (items_of old.group) (items_of new.group) →
-    IsShift (began_with state old).run traces receipts (map entry_in (items_of new.group)) new.group.book.spent end → IsSafeSince new.group.handed.moment (state new.group.flash) new.group.book →
+    IsShift (began_with state old).run traces receipts (map entry_in (items_of new.group)) new.group.book.spent end → IsSafeSince new.group.handed.moment (state new.group.flash) new.group.book → IsRoomySince new.group.handed (state new.group.flash) new.group.book →
     AreCharged new.group.handed.moment (state new.group.flash) new.group.book.entries → IsUnfailing new.group.handed (state new.group.flash) → IsSession state old.group new.group traces receipts end
-session-made state old new traces receipts end few same prefix shift safe charged unfailing =
+session-made state old new traces receipts end few same prefix shift safe roomy charged unfailing =
     let s = new.group in
     let r = (began_with state old).run in
     let here : IsShift r traces receipts s.book.entries s.book.spent end = subst (λ (es : List Entry). IsShift r traces receipts es s.book.spent end) (entries-of s) shift in
@@ -102,47 +100,52 @@ session-made state old new traces receipts end few same prefix shift safe charge
       receipts_are = record { count = here.receipts_are.count; each = λ i low. here.receipts_are.each i low ∙ ap (λ f. receipts_of f (i + 1) s.book.entries) (sym found) };
       ended = ended-as s r traces receipts end (subst (λ (c : DriveConfig). length traces ≤ c.queues) (sym drive.config_is) few) here;
       safe = safe;
+      roomy = roomy;
       charged = charged;
       unfailing = unfailing;
     }
 
-first-silent : (queue : ℕ) (es : List Entry) → queue ≢ 0 → (es ≡ []) ⊎ (es ≡ entries.Reopened ∷ []) → IsSilent queue es
-first-silent queue es low (inl none) = subst (IsSilent queue) (sym none) (record { completes = refl; starts = All-nil (λ e. starting_queue e ≢ queue) })
-first-silent queue es low (inr one) = subst (IsSilent queue) (sym one) (record { completes = refl; starts = All-cons (λ e. starting_queue e ≢ queue) entries.Reopened [] (λ same. low (sym same)) (All-nil (λ e. starting_queue e ≢ queue)) })
+-- ---- entries that serve no host
 
-first-once : (queue number : ℕ) (es : List Entry) → (es ≡ []) ⊎ (es ≡ entries.Reopened ∷ []) → times_started queue number es ≤ 1
-first-once queue number es (inl none) = subst (λ (xs : List Entry). times_started queue number xs ≤ 1) (sym none) (omega arith)
-first-once queue number es (inr one) = subst (λ (xs : List Entry). times_started queue number xs ≤ 1) (sym one) (omega arith)
+none-silent : (queue : ℕ) (es : List Entry) → queue ≢ 0 → All ServesNone es → IsSilent queue es
+none-silent queue es low all = record {
+  completes = none-completes queue es all;
+  starts = All-weaker ServesNone (λ e. starting_queue e ≢ queue)
+      (λ e q same. low (sym same ∙ ap (λ (o : Option Started). option_map_or (λ (s : Started). s.queue) o 0) q.started)) es all;
+}
+
+none-starts : (queue number : ℕ) (es : List Entry) → All ServesNone es → times_started queue number es ≡ 0
+none-starts queue number [] all = refl
+none-starts queue number (e ∷ es) all =
+    let not_it : starts queue number e ≡ false = ap (λ (o : Option Started). option_map_or (λ (s : Started). s.queue == queue && s.number == number) o false) (All-head ServesNone e es all).started in
+    ap (λ (b : Bool). length (if b then e ∷ filter (starts queue number) es else filter (starts queue number) es)) not_it
+    ∙ none-starts queue number es (All-tail ServesNone e es all)
 
 -- nothing was served
-pub session-unserved : {F : Type 0} (state : F → FlashState) (s : Seen F) (traces : List (List Command)) → IsJustOpened state s → IsSession state s s traces [] ends.NoMemory
-session-unserved state s traces opened = record {
+pub session-unserved : {F : Type 0} (state : F → FlashState) (s : Seen F) (traces : List (List Command)) → HasServedNothing state s → IsSession state s s traces [] ends.NoMemory
+session-unserved state s traces unserved = record {
   same = record { config_is = refl; found_is = refl; opened_is = refl; handed_is = refl; told_is = refl; images_are = refl; reliable_is = refl };
   goes_on = prefix_refl s.book.entries;
   orders = λ queue is. (numbered (trace_of traces queue), ap (λ (xs : List (ℕ × Command)). xs ++ numbered (trace_of traces queue)) (sym (silent queue (λ zero. absurd (omega (arith, zero, is.0)))).completes));
-  once = λ queue number low. first-once queue number s.book.entries opened.entries_are;
+  once = λ queue number low. omega (arith, none-starts queue number s.book.entries unserved.none);
   others = λ queue high. silent queue (λ zero. absurd (omega (arith, zero, high)));
   receipts_are = record { count = inr refl; each = λ i low. absurd (omega (arith, low)) };
   ended = inr (record { no_receipts = refl; silent = silent });
-  safe = opened.safe;
-  charged = first-charged (state s.flash) s.handed.moment s.book.entries opened.entries_are;
-  unfailing = opened.unfailing;
+  safe = unserved.safe;
+  roomy = unserved.roomy;
+  charged = none-charged s.handed.moment (state s.flash) s.book.entries unserved.none;
+  unfailing = unserved.unfailing;
 } where
   silent : (queue : ℕ) → queue ≢ 0 → IsSilent queue s.book.entries
-  silent queue low = first-silent queue s.book.entries low opened.entries_are
+  silent queue low = none-silent queue s.book.entries low unserved.none
 
 -- where it ended before it began
-pub ended-early : {F X : Type 0} (items : X → List Receipt) (state : F → FlashState) (s new : Seen F) (traces : List (List Command)) (receipts : List X) (end : End) → new ≡ s → receipts ≡ [] → end ≡ ends.NoMemory → IsJustOpened state s → IsSession state s new traces (map items receipts) end
-ended-early {F} {X} items state s new traces receipts end same none is opened =
+pub ended-early : {F X : Type 0} (items : X → List Receipt) (state : F → FlashState) (s new : Seen F) (traces : List (List Command)) (receipts : List X) (end : End) → new ≡ s → receipts ≡ [] → end ≡ ends.NoMemory → HasServedNothing state s → IsSession state s new traces (map items receipts) end
+ended-early {F} {X} items state s new traces receipts end same none is unserved =
     subst (λ (x : Seen F). IsSession state s x traces (map items receipts) end) (sym same)
     (subst (λ (rs : List X). IsSession state s s traces (map items rs) end) (sym none)
-    (subst (λ (e : End). IsSession state s s traces [] e) (sym is) (session-unserved state s traces opened)))
-
-quiet-first : (f : Found) (es : List Entry) → (es ≡ []) ⊎ (es ≡ entries.Reopened ∷ []) → CarriesNone mark_in (marked_after f [] es)
-unfolding marked_after
-quiet-first f es (inl none) = subst (λ (xs : List Entry). CarriesNone mark_in (marked_after f [] xs)) (sym none) (All-nil (λ (x : Entry × Mark). (mark_in x).number ≡ 0))
-quiet-first f es (inr one) = subst (λ (xs : List Entry). CarriesNone mark_in (marked_after f [] xs)) (sym one) (All-cons (λ (x : Entry × Mark). (mark_in x).number ≡ 0) (entries.Reopened, mark_of f [] entries.Reopened) [] refl (All-nil (λ (x : Entry × Mark). (mark_in x).number ≡ 0)))
+    (subst (λ (e : End). IsSession state s s traces [] e) (sym is) (session-unserved state s traces unserved)))
 
 -- no entry carries a number yet
-pub first-unmarked : {F : Type 0} (s : Seen F) → (s.book.entries ≡ []) ⊎ (s.book.entries ≡ entries.Reopened ∷ []) → CarriesNone mark_in (items_of s)
-first-unmarked s first = quiet-first s.book.found s.book.entries first
+pub none-marked : {F : Type 0} (s : Seen F) → All ServesNone s.book.entries → CarriesNone mark_in (items_of s)
+none-marked s none = none-carry s.book.found [] s.book.entries none

@@ -4,7 +4,7 @@ use mathlib.Core.List.{IsPrefix}
 use Rattle.fdp_base.specs.declared.command.Command.{Command}
 use Rattle.fdp_base.specs.declared.config.DriveConfig.{DriveConfig}
 use Rattle.fdp_base.specs.declared.entry.Entry.{Entry}
-use Rattle.fdp_board.specs.Board.{AreCharged, IsSafeSince, IsUnfailing}
+use Rattle.fdp_board.specs.Board.{AreCharged, IsRoomySince, IsSafeSince, IsUnfailing}
 use Rattle.fdp_crews.specs.fdp_book.Book.{BookSeen}
 use Rattle.fdp_crews.specs.fdp_core.Seen.{Seen}
 use Rattle.fdp_crews.specs.Crews.{trace_of}
@@ -61,8 +61,8 @@ pub record IsSameDrive {F : Type 0} (state : F → FlashState) (old new : Seen F
 
 -- Entries were added to the history, in which each queue was served its trace to this end, whatever the order of the steps of hosts and collectors. The
 -- receipts of a trace are the completions of its queue. Whatever a stop since the flash was handed in may have left stands for a beginning of the history
--- with each change that was completed at an earlier moment, and data stands apart there where the cells that were opened kept it apart; each media
--- error has the moment of a call that failed since.
+-- with each change that was completed at an earlier moment, and data stands apart there where the cells that were opened kept it apart, and it is roomy
+-- where the run began with room and no call failed; each media error has the moment of a call that failed since.
 pub record IsSession {F : Type 0} (state : F → FlashState) (old new : Seen F) (traces : List (List Command)) (receipts : List (List Receipt)) (end : End) : Type 0 where
   pub same : IsSameDrive state old new
   pub goes_on : IsPrefix old.book.entries new.book.entries
@@ -72,5 +72,6 @@ pub record IsSession {F : Type 0} (state : F → FlashState) (old new : Seen F) 
   pub receipts_are : AreReceipts new.book.found traces receipts new.book.entries
   pub ended : EndsAs new.book traces receipts end
   pub safe : IsSafeSince new.handed.moment (state new.flash) new.book
+  pub roomy : IsRoomySince new.handed (state new.flash) new.book
   pub charged : AreCharged new.handed.moment (state new.flash) new.book.entries
   pub unfailing : IsUnfailing new.handed (state new.flash)

@@ -1,5 +1,5 @@
 ghost use Rattle.std.specs.Prelude.{◌≡◌, ◌≤◌, [], All, length, map};
-ghost use Rattle.fdp_board.specs.Board.{IsJustOpened};
+ghost use Rattle.fdp_board.specs.Board.{HasServedNothing};
 ghost use Rattle.fdp_crews.specs.Crews.{IsTrace};
 ghost use Rattle.fdp_drive.specs.Session.{IsSession};
 ghost use Rattle.fdp_gauge.specs.Passes.{IsPassOf, IsTellerOf};
@@ -23,7 +23,7 @@ pub struct SessionEnd<F: Flash> {
     pub end: End,
 }
 
-/// Serves these traces on a drive that was just opened: each by a host of its own, the first in queue 1, each command through the pair of its queue, with so
+/// Serves these traces on a drive that has served nothing since it was opened: each by a host of its own, the first in queue 1, each command through the pair of its queue, with so
 /// many collectors beside them that take at most so many turns each. Hosts and collectors work on threads of their own and take turns with the drive, one
 /// step a turn. A queue without a trace counts as one with an empty trace.
 pub fn run_session<F: Flash + Send + Drop, G: Gate + Sync, R: Threads + Wait + Sync>(
@@ -35,7 +35,7 @@ pub fn run_session<F: Flash + Send + Drop, G: Gate + Sync, R: Threads + Wait + S
     turns: u32,
     gate: &G,
 ) -> SessionEnd<F>
-    requires opened { IsJustOpened F.state group }
+    requires unserved { HasServedNothing F.state group }
     requires traces { All (λ trace. IsTrace group.book.config trace.items) traces.items }
     requires queues { length traces.items ≤ group.book.config.queues }
     requires few { collectors ≤ 8 }

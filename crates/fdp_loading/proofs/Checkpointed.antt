@@ -1,6 +1,7 @@
 -- The first checkpoint of a run.
-use Rattle.std.proofs.Common.{◌≡◌, ℕ, ◌+◌, ◌*◌, ◌<◌, ◌≤◌, Bool, true, false, List, [], ◌∷◌, replicate, refl, sym, ◌∙◌, ap, subst, arith, inl, inr, ⊎_elim}
-use Rattle.std.specs.Prelude.{◌||◌, Err, IfErr, IfOk, IsFalse, IsTrue, Ok, Result, length, not, slice_get}
+use Rattle.std.proofs.Common.{◌≡◌, ℕ, ◌+◌, ◌*◌, ◌<◌, ◌≤◌, Bool, true, false, List, [], ◌∷◌, Some, replicate, refl, sym, ◌∙◌, ap, subst, arith, inl, inr, ⊎_elim}
+use Rattle.std.specs.Prelude.{◌||◌, Contains, Err, IfErr, IfOk, IsFalse, IsTrue, Ok, Result, length, not, slice_get}
+use Rattle.std.proofs.lemmas.List.Elements.{All-cons, All-contains, All-contains_itself, All-head, All-nil, All-tail}
 use Rattle.std.proofs.lemmas.Nat.{mul-le, row_fits}
 use Rattle.fdp_base.specs.declared.config.DriveConfig.{DriveConfig}
 use Rattle.fdp_base.specs.declared.config.Geometry.{Geometry}
@@ -27,6 +28,8 @@ use Rattle.fdp_keeper.proofs.fdp_found.Paging.{blank-tested}
 use Rattle.fdp_keeper.proofs.fdp_found.Reopening.{legal-opened}
 use Rattle.fdp_image.specs.Checkpoint.{reading_of_state}
 use Rattle.fdp_image.specs.Kept.{StandsForBeginning}
+use Rattle.fdp_image.specs.Reading.{Reading}
+use Rattle.fdp_image.specs.Reads.{reads_as}
 use Rattle.fdp_image.specs.Roomy.{is_blank_unit}
 use Rattle.fdp_image.specs.Saving.{SameDataPages}
 use Rattle.fdp_survival.specs.fdp_isolation.Begun.{OpenedApart}
@@ -42,7 +45,7 @@ use Rattle.fdp_ledger.proofs.Begun.{AreUnitsBegun, HasOpened, ledger-begun}
 use Rattle.fdp_ledger.proofs.System.{same-blank}
 use Rattle.fdp_loading.specs.declared.loaded.Loaded.{Loaded}
 use Rattle.fdp_loading.specs.Begun.{BeginsFound, BeginsFresh}
-use Rattle.fdp_loading.specs.Loaded.{IsIdle, IsLoaded, IsPrepared, StandsBegun}
+use Rattle.fdp_loading.specs.Loaded.{IsIdle, IsLoaded, IsPrepared, ReadsAsBegun, StandsBegun}
 use Rattle.fdp_loading.specs.Made.{IsBegun, KeepsNone, SavesFirst}
 use Rattle.fdp_loading.specs.Refused.{IsNotLoaded}
 use Rattle.fdp_loading.proofs.Blank.{blank-unit_from}
@@ -50,12 +53,15 @@ use Rattle.fdp_loading.proofs.Drawing.{media-none, media-reopened}
 use Rattle.fdp_loading.proofs.Looked.{IsAlike, alike-looks}
 use Rattle.fdp_loading.proofs.Unwritten.{free-first}
 use Rattle.fdp_keeper.specs.fdp_locations.Stored.{HoldsWritten}
+use Rattle.fdp_keeper.specs.fdp_readings.Drawn.{drawn}
 use Rattle.fdp_keeper.specs.fdp_recovery.declared.opened.OpenFault.{OpenFault}
 use Rattle.fdp_keeper.specs.fdp_recovery.declared.opened.OpenFault.TheVariants as faults
 use Rattle.fdp_keeper.specs.fdp_recovery.Opened.{IsFresh}
 use Rattle.fdp_keeper.specs.fdp_recovery.Walking.{OnlyLooks}
 use Rattle.fdp_rules.specs.History.{Found, point_of}
 use Rattle.fdp_rules.specs.Legal.{IsLegal, IsLegalAfter}
+use Rattle.fdp_keeper.specs.fdp_saving.Said.{ReadsAsOneOf}
+use Rattle.fdp_keeper.specs.fdp_saving.Saving.{within_checkpoint}
 use Rattle.fdp_survival.specs.Apart.{StandsApart}
 use Rattle.fdp_survival.specs.Books.{IsSafe, KeepsApart, KeepsIsolated, Survives}
 use Rattle.fdp_survival.specs.Safe.{IsSafeImage}
@@ -89,6 +95,15 @@ had-not x is = ap not is
 told-of : (image told : Bool) → image ≡ true → (not image || told) ≡ true → told ≡ true
 told-of true told is knows = knows
 told-of false told is knows = absurd cc
+
+-- one of three readings, of which the first two are the same, is one of two
+one-of : (x y z r : Reading) → z ≡ y → Contains (x ∷ x ∷ z ∷ []) r → Contains (x ∷ y ∷ []) r
+one-of x y z r same has =
+    let IsOne : Reading → Type 0 = Contains (x ∷ y ∷ []) in
+    let all = All-contains_itself (x ∷ y ∷ []) in
+    let first : IsOne x = All-head IsOne x (y ∷ []) all in
+    let last : IsOne y = All-head IsOne y [] (All-tail IsOne x (y ∷ []) all) in
+    All-contains IsOne (x ∷ x ∷ z ∷ []) r (All-cons IsOne x (x ∷ z ∷ []) first (All-cons IsOne x (z ∷ []) first (All-cons IsOne z [] (subst IsOne (sym same) last) (All-nil IsOne)))) has
 
 -- what a prepared book draws can be saved
 can-here : (flash : FlashState) (b : BookSeen) (k : KeeperSeen) (epoch : ℕ) → IsPrepared b.config flash b k epoch → IsTrue flash.told → CanBeSaved b.config (point_in b) b.pages.units flash.cells
@@ -207,6 +222,32 @@ module _ (old mid new : FlashState) (b : BookSeen) (k : KeeperSeen) (looks : Onl
         (λ t m image above most e. subst (IsSafeImage b.config b.found b.opened b.entries 0 (length b.entries)) (sym e) (image-old formed t)))
         (survives-begun b k.saver now.saver 0 mid new answer p.order p.can.geometry p.stored (isolated-mid formed) p.can.keeper.geometry p.durable p.said saved)
 
+    -- whatever a stop leaves reads as what stood there, or as what is drawn
+    reads-here : IsTrue old.told → ReadsAsBegun b.config b old new
+    reads-here t =
+        let m = told-mid t in
+        let one = p.says m in
+        let r = one.reading in
+        let d = drawn b.config (point_in b) in
+        let same = alike.cells t in
+        let IsOne : List Cell → Type 0 = λ image. ReadsAsOneOf b.config old.cells (r ∷ d ∷ []) image in
+        let read : reads_as b.config old.cells ≡ Some r = subst (λ (xs : List Cell). reads_as b.config xs ≡ Some r) same one.read in
+        record {
+          reading = r;
+          read = read;
+          images =
+              runs_joined old mid new (λ k image. IsOne image)
+              (runs_weakened old mid (λ k image. image ≡ old.cells) (λ k image. IsOne image) looks.reads.held.run
+              (λ told k image above most is. subst IsOne (sym is) (record { reading = r; reads = read; among = one-of r d d r refl (All-head (Contains (r ∷ r ∷ d ∷ [])) r (r ∷ d ∷ []) (All-contains_itself (r ∷ r ∷ d ∷ []))); data_pages_same = λ page below. refl })))
+              (runs_weakened mid new (λ k image. ReadsAsOneOf b.config mid.cells (within_checkpoint r r saved.given) image) (λ k image. IsOne image) (saved.stops r r (λ again. one.say)).run
+              (λ told k image above most h. record {
+                reading = h.reading;
+                reads = h.reads;
+                among = one-of r d (reading_of_state saved.given) h.reading saved.drive h.among;
+                data_pages_same = subst (λ (xs : List Cell). SameDataPages b.config xs image) same h.data_pages_same;
+              }));
+        }
+
     stored-new : IsTrue new.told → HoldsWritten new.geometry new.cells (written_in b) b.pages.units
     stored-new t =
         let was : HoldsWritten g mid.cells (written_in b) b.pages.units = subst (λ (x : Geometry). HoldsWritten x mid.cells (written_in b) b.pages.units) p.can.geometry (p.stored (told-back t)) in
@@ -279,6 +320,7 @@ module _ (old mid new : FlashState) (b : BookSeen) (k : KeeperSeen) (looks : Onl
     same = same-old now wrote.Done keeps;
     ledger = ledger-new now wrote.Done keeps formed then;
     faults = keeps.saves.ends ∙ begun.faults;
+    reads = reads-here now wrote.Done keeps;
     stops = survives now wrote.Done keeps formed;
     isolated = λ t opened. let safe = safe-new now keeps formed in
         durable-stands-apart b.config b.found b.entries now.firm now.saver b.pages.units new.cells (safe.at.durable t) (safe.apart t opened) (isolated-new now wrote.Done keeps formed t opened);

@@ -33,7 +33,7 @@ use Rattle.fdp_image.specs.Valid.{IsValid}
 use Rattle.fdp_keeper.specs.fdp_journal.JournalState.{JournalState}
 use Rattle.fdp_keeper.specs.Keeper.{KeeperSeen}
 use Rattle.fdp_loading.specs.Begun.{Begins}
-use Rattle.fdp_loading.specs.Loaded.{IsPrepared}
+use Rattle.fdp_loading.specs.Loaded.{IsPrepared, SayOne}
 use Rattle.fdp_loading.specs.Made.{IsFoundDrive}
 use Rattle.fdp_loading.proofs.Drawing.{outline-found, position-drawn, written-reopened}
 use Rattle.fdp_keeper.specs.fdp_locations.Held.{pages_held}
@@ -50,7 +50,7 @@ use Rattle.fdp_rules.specs.History.{Found, point_of}
 use Rattle.fdp_rules.specs.Next.{next}
 use Rattle.fdp_rules.specs.Point.{Point}
 use Rattle.fdp_keeper.specs.fdp_saving.Saver.{IsSaverIn, first_saver}
-use Rattle.fdp_keeper.proofs.fdp_saving.Beginning.{found_stands}
+use Rattle.fdp_keeper.proofs.fdp_saving.Beginning.{found_says, found_stands}
 use Rattle.fdp_snapshot.specs.declared.state.State.{State}
 use Rattle.fdp_survival.specs.Apart.{AreSaidApart, ReadsIsolated}
 use Rattle.fdp_survival.specs.fdp_isolation.Begun.{OpenedApart}
@@ -155,6 +155,12 @@ module _ (flash : FlashState) (b : BookSeen) (k : KeeperSeen) (s : State) (area 
       (subst (OpenedApart b.config (found_in b.config cells r)) (sym h.book.opened_is)
       (subst (λ (xs : List Cell). OpenedApart b.config (found_in b.config xs r) xs) (sym (cells-are t)) opened))
 
+  says-here : IsTrue flash.told → SayOne b.config k.saver flash.cells
+  says-here t =
+      let l = (found-here t).left in
+      let z = saver-here t in
+      subst (λ (x : JournalState). SayOne b.config x flash.cells) (sym z.2) (record { reading = r; read = l.reads; say = found_says b.config flash.cells area z.0 r z.1 l.reads })
+
   said-here : IsTrue flash.told → OpenedApart b.config b.found b.opened → AreSaidApart b.config k.saver flash.cells
   said-here t opened =
       let l = (found-here t).left in
@@ -186,6 +192,7 @@ module _ (flash : FlashState) (b : BookSeen) (k : KeeperSeen) (s : State) (area 
     stored = stored-here;
     units = units-here;
     durable = durable-here;
+    says = says-here;
     said = said-here;
     can = record {
       keeper = record { geometry = ap (λ (x : JournalState). x.geometry) h.saver_is; outline = outline-here };

@@ -14,7 +14,7 @@ use Rattle.fdp_image.specs.StandsFor.{StandsFor}
 use Rattle.fdp_keeper.specs.Keeper.{KeeperSeen}
 use Rattle.fdp_loading.specs.declared.loaded.Loaded.{Loaded}
 use Rattle.fdp_loading.specs.Begun.{Begins, BeginsFound, BeginsFresh}
-use Rattle.fdp_loading.specs.Loaded.{IsPrepared}
+use Rattle.fdp_loading.specs.Loaded.{IsPrepared, SayOne}
 use Rattle.fdp_loading.specs.Made.{IsBegun, IsFoundDrive, IsFreshDrive, TellsPages}
 use Rattle.fdp_loading.specs.Refused.{IsNotLoaded}
 use Rattle.fdp_loading.proofs.Looked.{IsAlike, alike-back, alike-looks, looks-joined, told-over}
@@ -59,6 +59,7 @@ module _ (c : DriveConfig) (old new : FlashState) (alike : IsAlike old new) wher
     stored = told-over (λ g cells. HoldsWritten g cells (written_in b) b.pages.units) old new alike h.stored;
     units = told-over (λ g cells. (unit : ℕ) → IsUnit b.pages.units unit → IsTrue (is_free (state_at b.pages.units unit)) ⊎ IsFalse (is_blank_unit (geometry_of c) cells unit)) old new alike h.units;
     durable = told-over (λ g cells. IsDurable b.config b.found b.entries 0 k.saver b.pages.units cells) old new alike h.durable;
+    says = told-over (λ g cells. SayOne b.config k.saver cells) old new alike h.says;
     said = λ t opened. told-over (λ g cells. AreSaidApart b.config k.saver cells) old new alike (λ was. h.said was opened) t;
     can = record {
       keeper = h.can.keeper;

@@ -24,7 +24,7 @@ use Rattle.fdp_keeper.specs.fdp_journal.JournalState.{JournalState}
 use Rattle.fdp_keeper.specs.Keeper.{KeeperSeen}
 use Rattle.fdp_keeper.proofs.Begun.{drawn-fresh}
 use Rattle.fdp_loading.specs.Begun.{Begins}
-use Rattle.fdp_loading.specs.Loaded.{IsPrepared}
+use Rattle.fdp_loading.specs.Loaded.{IsPrepared, SayOne}
 use Rattle.fdp_loading.specs.Made.{IsFreshDrive}
 use Rattle.fdp_loading.proofs.Blank.{blank-unit_from}
 use Rattle.fdp_keeper.specs.fdp_locations.Held.{no_pages, pages_held}
@@ -37,7 +37,7 @@ use Rattle.fdp_keeper.specs.fdp_readings.Drawn.{drawn}
 use Rattle.fdp_keeper.specs.fdp_recovery.Opened.{IsFresh}
 use Rattle.fdp_rules.specs.History.{Found, point_of}
 use Rattle.fdp_keeper.specs.fdp_saving.Saver.{IsSaverIn}
-use Rattle.fdp_keeper.proofs.fdp_saving.Beginning.{fresh_stands}
+use Rattle.fdp_keeper.proofs.fdp_saving.Beginning.{fresh_says, fresh_stands}
 use Rattle.fdp_survival.specs.Apart.{AreSaidApart}
 use Rattle.fdp_survival.proofs.Apart.{said-fresh}
 use Rattle.fdp_survival.proofs.fdp_isolation.Promised.{opened-fresh}
@@ -59,7 +59,7 @@ written-first c b first =
       cells-of k = replicate (all_pages (geometry_of k)) Blank
 
 -- nothing else is read where no area is sealed and the data pages are blank
-reads-fresh : (c : DriveConfig) (cells : List Cell) → current_area (geometry_of c) cells ≡ None → IsTrue (list_all is_blank (take (data_pages (geometry_of c)) cells)) → reads_as c cells ≡ Some (fresh_reading c)
+pub reads-fresh : (c : DriveConfig) (cells : List Cell) → current_area (geometry_of c) cells ≡ None → IsTrue (list_all is_blank (take (data_pages (geometry_of c)) cells)) → reads_as c cells ≡ Some (fresh_reading c)
 unfolding reads_as said_by_current
 reads-fresh c cells none blank = ap (said_by_current c cells) none ∙ ap (λ (b : Bool). if b then Some (fresh_reading c) else None) blank
 
@@ -124,6 +124,10 @@ module _ (flash : FlashState) (b : BookSeen) (k : KeeperSeen) (config : IsValidC
     stored = stored-here;
     units = λ t unit there. inl (free-first b.config b h.book unit (in-cut unit there));
     durable = durable-here;
+    says = λ t.
+        let read = reads-fresh b.config flash.cells (none-here t) (fresh-here t).blank in
+        subst (λ (s : JournalState). SayOne b.config s flash.cells) (sym h.saver_is)
+        (record { reading = fresh_reading b.config; read = read; say = fresh_says b.config flash.cells (fresh_reading b.config) (none-here t) read });
     said = λ t opened.
         subst (λ (s : JournalState). AreSaidApart b.config s flash.cells) (sym h.saver_is)
         (said-fresh b.config flash.cells (fresh_reading b.config) (none-here t) (reads-fresh b.config flash.cells (none-here t) (fresh-here t).blank));

@@ -55,14 +55,14 @@ one-leaves : (c : DriveConfig) (rs : List Reading) (r : Reading) → All (Leaves
 one-leaves c rs r all is = subst (LeavesRoom c) is.2 (all is.0 r is.1)
 
 -- an image that reads as one of them is roomy
-one-roomy : (c : DriveConfig) (old : List Cell) (rs : List Reading) (image : List Cell) → All (LeavesRoom c) rs → ReadsAsOneOf c old rs image → IsRoomyImage c image
+pub one-roomy : (c : DriveConfig) (old : List Cell) (rs : List Reading) (image : List Cell) → All (LeavesRoom c) rs → ReadsAsOneOf c old rs image → IsRoomyImage c image
 one-roomy c old rs image all h = (h.reading, h.reads, room-roomy c image h.reading (one-leaves c rs h.reading all h.among))
 
-pub three : (c : DriveConfig) (x y z : Reading) → LeavesRoom c x → LeavesRoom c y → LeavesRoom c z → All (LeavesRoom c) (x ∷ y ∷ z ∷ [])
+three : (c : DriveConfig) (x y z : Reading) → LeavesRoom c x → LeavesRoom c y → LeavesRoom c z → All (LeavesRoom c) (x ∷ y ∷ z ∷ [])
 three c x y z h k l = All-cons (LeavesRoom c) x (y ∷ z ∷ []) h (All-cons (LeavesRoom c) y (z ∷ []) k (All-cons (LeavesRoom c) z [] l (All-nil (LeavesRoom c))))
 
 -- whatever a stop leaves of some calls is roomy, where it reads as one of readings that leave room
-pub stops-roomy : (c : DriveConfig) (s : JournalState) (old now : FlashState) (rs : Reading → Reading → List Reading) (some : Reading) → ((own tried : Reading) → (IsTrue old.told → AreasSay c s old.cells own tried) → Holds (ReadsAsOneOf c old.cells (rs own tried)) old now)
+stops-roomy : (c : DriveConfig) (s : JournalState) (old now : FlashState) (rs : Reading → Reading → List Reading) (some : Reading) → ((own tried : Reading) → (IsTrue old.told → AreasSay c s old.cells own tried) → Holds (ReadsAsOneOf c old.cells (rs own tried)) old now)
     → (IsTrue old.told → (own : Reading) × AreasSay c s old.cells own own × All (LeavesRoom c) (rs own own)) → Runs old now (λ m image. IsRoomyImage c image)
 stops-roomy c s old now rs some stops known = by old.told refl where
   never : false ≡ true → ⊥

@@ -12,4 +12,4 @@ pub mod Fitting
 pub mod Capacity
 pub mod Reading
 pub mod Images
-pub mod First
+pub mod Leaving

@@ -1,12 +1,12 @@
-use Rattle.std.proofs.Common.{◌≡◌, ◌∙◌, length, sym}
+use Rattle.std.proofs.Common.{◌≡◌, ◌≤◌, ◌∙◌, arith, length, sym}
 use Rattle.std.specs.Prelude.{map}
 use Rattle.std.proofs.lemmas.List.{length-map}
 use Rattle.fdp_finding.specs.Wanted.{commands_of}
-use Rattle.fdp_cli.proofs.Shown.{ended, just-opened, not_opened, trace_served}
+use Rattle.fdp_cli.proofs.Shown.{ended, not_opened, served-nothing, trace_served}
 use Rattle.fdp_cli.proofs.top.run_on.Goals as goal
 
-pub run_session-group-requires-clause-opened : goal.run_session-group-requires-clause-opened
-run_session-group-requires-clause-opened g c = λ κs live. just-opened g.F.Flash.state c.args.config.now c.args.flash c.in-Ok.group c.in-Ok.ensures
+pub run_session-group-requires-clause-unserved : goal.run_session-group-requires-clause-unserved
+run_session-group-requires-clause-unserved g c = λ κs live. served-nothing g.F.Flash.state c.args.config.now c.args.flash c.in-Ok.group c.in-Ok.ensures
 
 pub run_session-group-requires-clause-traces : goal.run_session-group-requires-clause-traces
 run_session-group-requires-clause-traces g c = λ κs live.
@@ -17,7 +17,8 @@ returns-in-Ok-clause-ends g c =
     let session = c.run_session-group in
     let traces = commands_of c.args.traces.items in
     let count : c.len-count.result ≡ length traces = c.len-count.ensures ∙ c.args.traces.ok.0 ∙ sym (length-map c.args.traces.items (λ trace. trace.items)) in
-    ended g.F.Flash.state c.args.form c.args.config.now traces (map (λ got. got.items) session.result.receipts.items) c.len-count.result c.args.flash c.finish-flash.result.0 c.in-Ok.group session.result.group session.result.end (g.K.Sink.state c.args.sink.now) (g.K.Sink.state c.show-status.new.sink) c.show-status.result count
+    let few : length traces ≤ c.args.config.now.queues = omega (arith, c.requires.queued, length-map c.args.traces.items (λ trace. trace.items)) in
+    ended g.F.Flash.state c.args.form c.args.config.now traces (map (λ got. got.items) session.result.receipts.items) c.len-count.result c.args.flash c.finish-flash.result.0 c.in-Ok.group session.result.group session.result.end (g.K.Sink.state c.args.sink.now) (g.K.Sink.state c.show-status.new.sink) c.show-status.result count few
     (record { loaded = c.in-Ok.ensures; legal = c.finish-flash.ensures.legal; cells = c.finish-flash.ensures.cells; apart = c.finish-flash.ensures.apart; reads = c.finish-flash.ensures.reads; counted = c.finish-flash.ensures.counted; worn = c.finish-flash.ensures.worn; roomy = c.finish-flash.ensures.roomy; firm = c.finish-flash.ensures.firm; stands = c.finish-flash.ensures.stands })
     c.finish-flash.ensures.flash session.ensures c.show-status.ensures.shows
 

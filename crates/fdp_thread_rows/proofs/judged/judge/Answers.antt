@@ -1,10 +1,10 @@
 use Rattle.fdp_flash.specs.FlashMem.{state_of}
-use Rattle.fdp_cli.proofs.Shown.{just-opened, trace_served}
+use Rattle.fdp_cli.proofs.Shown.{served-nothing, trace_served}
 use Rattle.fdp_thread_rows.proofs.judged.judge.Goals as goal
 
-pub run_session-group-requires-clause-opened : goal.run_session-group-requires-clause-opened
-run_session-group-requires-clause-opened g c κs within =
-    just-opened state_of c.in-Ok.wanted.config c.in_ok-flash.flash c.in-Ok-load.group c.in-Ok-load.ensures
+pub run_session-group-requires-clause-unserved : goal.run_session-group-requires-clause-unserved
+run_session-group-requires-clause-unserved g c κs within =
+    served-nothing state_of c.in-Ok.wanted.config c.in_ok-flash.flash c.in-Ok-load.group c.in-Ok-load.ensures
 
 pub run_session-group-requires-clause-traces : goal.run_session-group-requires-clause-traces
 run_session-group-requires-clause-traces g c κs within =

@@ -1,10 +1,14 @@
 use Rattle.std.proofs.Common.{subst}
-use Rattle.fdp_board.specs.Board.{AreCharged, BoardSeen, IsSafeSince, IsUnfailing}
+use Rattle.fdp_board.specs.Board.{AreCharged, BoardSeen, IsRoomySince, IsSafeSince, IsUnfailing}
 use Rattle.fdp_board.proofs.board.Board.into_parts.Goals as goal
 
 pub returns-clause-safe : goal.returns-clause-safe
 returns-clause-safe g c =
     subst (λ (b : BoardSeen g.row.F.Denot). IsSafeSince b.group.handed.moment (g.F.Flash.state b.group.flash) b.group.book) c.self.view_is c.self.invariant.safe
+
+pub returns-clause-roomy : goal.returns-clause-roomy
+returns-clause-roomy g c =
+    subst (λ (b : BoardSeen g.row.F.Denot). IsRoomySince b.group.handed (g.F.Flash.state b.group.flash) b.group.book) c.self.view_is c.self.invariant.roomy
 
 pub returns-clause-charged : goal.returns-clause-charged
 returns-clause-charged g c =

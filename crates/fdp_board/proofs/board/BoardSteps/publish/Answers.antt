@@ -29,6 +29,7 @@ invariant_of-self g c =
       shown = subst (λ (ms : List Mark). IsPrefix ms (marks_of b.found b.entries)) (sym (c.meet.ensures.teller ∙ c.publish.ensures.told ∙ marks-marked b.found [] b.entries)) (prefix_refl (marks_of b.found b.entries));
       sums = was.sums;
       safe = was.safe;
+      roomy = was.roomy;
       later = was.later;
       charged = was.charged;
       unfailing = was.unfailing;

@@ -1,36 +1,23 @@
--- The images of an opening: those of the first checkpoint of a drive over a roomy image.
-use Rattle.std.proofs.Common.{◌≡◌, ℕ, ◌+◌, ◌*◌, ◌<◌, ◌≤◌, Bool, true, false, ◌||◌, not, List, Option, Some, None, refl, sym, ◌∙◌, ap, subst, arith, inl, inr, ⊎_elim}
-use Rattle.std.specs.Prelude.{◌==◌, IsTrue, slice_get}
+-- Readings that leave room: that of a roomy image, and one without a block.
+use Rattle.std.proofs.Common.{◌≡◌, ℕ, ◌+◌, ◌*◌, ◌<◌, ◌≤◌, Bool, true, false, ◌||◌, not, List, Option, Some, None, refl, sym, ◌∙◌, ap, arith, inl, inr, ⊎_elim}
+use Rattle.std.specs.Prelude.{◌==◌, slice_get}
 use Rattle.std.specs.List.{list_any}
 use Rattle.std.specs.Option.{option_and_then, option_map_or}
 use Rattle.fdp_base.specs.declared.config.DriveConfig.{DriveConfig}
-use Rattle.fdp_base.specs.declared.entry.Entry.{Entry}
 use Rattle.fdp_base.specs.Numbers.{count_below, numbers_below}
 use Rattle.fdp_base.specs.Placement.{geometry_of}
 use Rattle.fdp_book.proofs.fdp_found.Paging.{blank-unit}
-use Rattle.fdp_durability.specs.Saved.{SavesDrive}
-use Rattle.fdp_durability.specs.fdp_journal.JournalState.{JournalState}
-use Rattle.fdp_durability.specs.fdp_readings.Drawn.{drawn}
-use Rattle.fdp_durability.specs.fdp_saving.Said.{AreasSay}
-use Rattle.fdp_durability.specs.fdp_saving.Saving.{within_checkpoint}
-use Rattle.fdp_flash.specs.declared.answer.Wrote.{Wrote}
 use Rattle.fdp_flash.specs.declared.cell.Cell.{Cell}
 use Rattle.fdp_flash.specs.declared.cell.Cell.TheVariants.{Blank}
-use Rattle.fdp_flash.specs.FlashState.{FlashState}
 use Rattle.fdp_flash.specs.Layout.{page_number}
-use Rattle.fdp_flash.specs.Runs.{Runs}
-use Rattle.fdp_image.specs.Checkpoint.{reading_of_state}
 use Rattle.fdp_image.specs.Reading.{Reading, has_page, size_in}
 use Rattle.fdp_image.specs.Roomy.{IsRoomy, holds_block, is_blank_unit, is_spare_unit, is_unused, is_unused_group, page_in}
 use Rattle.fdp_image.specs.Valid.{IsValid, block_from}
-use Rattle.fdp_rules.specs.History.{Found, point_of}
 use Rattle.fdp_rules.specs.PlainState.{Block}
 use Rattle.fdp_rules.specs.Room.{namespace_ids}
 use Rattle.fdp_roominess.specs.Roomy.{LeavesRoom}
-use Rattle.fdp_roominess.specs.Run.{IsRoomyImage}
 use Rattle.fdp_roominess.proofs.Begun.{page-of}
 use Rattle.fdp_roominess.proofs.Counting.{row-more}
-use Rattle.fdp_roominess.proofs.Images.{stops-roomy, three}
 use Rattle.fdp_roominess.proofs.Reading.{each-passes, none-passes}
 
 -- ---- a roomy image leaves room
@@ -74,12 +61,3 @@ empty-leaves c r none rg low =
     each-passes (λ page. not (holds_block c r (page_in (rg * c.units + i) page))) 0 c.unit_pages (λ page k j. ap not
     (none-passes (λ nsid. list_any (has_page r (page_number (geometry_of c) (page_in (rg * c.units + i) page)) nsid) (numbers_below (size_in r nsid))) namespace_ids
     (λ nsid. none-passes (has_page r (page_number (geometry_of c) (page_in (rg * c.units + i) page)) nsid) (numbers_below (size_in r nsid)) (λ lba. ap (λ (o : Option ℕ). option_map_or (λ x. x == page_number (geometry_of c) (page_in (rg * c.units + i) page)) o false) (none nsid lba)))))))
-
--- ---- the first checkpoint
-
--- each image of a first checkpoint is roomy, where what the areas said and what is drawn leave room
-pub roomy-first : (c : DriveConfig) (f : Found) (es : List Entry) (s then' : JournalState) (old now : FlashState) (answer : Wrote) → (IsTrue old.told → (r : Reading) × AreasSay c s old.cells r r × LeavesRoom c r) → LeavesRoom c (drawn c (point_of c f es))
-    → SavesDrive c f es s then' old now answer → Runs old now (λ m image. IsRoomyImage c image)
-roomy-first c f es s then' old now answer said leaves saved =
-    stops-roomy c s old now (λ own tried. within_checkpoint own tried saved.given) (drawn c (point_of c f es)) saved.stops
-    (λ told. let h = said told in (h.0, h.1, three c h.0 h.0 (reading_of_state saved.given) h.2 h.2 (subst (LeavesRoom c) (sym saved.drive) leaves)))
