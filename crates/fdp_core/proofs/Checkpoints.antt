@@ -18,6 +18,7 @@ use Rattle.fdp_core.specs.Seen.{Seen}
 use Rattle.fdp_core.proofs.Apart.{known-begun, safe-now, sound-isolated}
 use Rattle.fdp_core.proofs.Sound.{begun, sound-begun}
 use Rattle.fdp_image.specs.Kept.{is_owed}
+use Rattle.fdp_core.proofs.Isolating.{data-prefix, leaves-data}
 use Rattle.fdp_core.proofs.Kept.{kept-unwritten, kept-written}
 use Rattle.fdp_core.proofs.Wholes.{low-faults}
 use Rattle.fdp_core.proofs.Outlasting.{outlasts-stops}
@@ -56,6 +57,7 @@ module _ {F : Type 0} (state : F → FlashState) (x y : F) (handed : Counts) (b 
         (survives-written b k.saver l.saver k.firm (state x) (state y) wrote.Done order whole.sound.geometry whole.sound.stored apart-before whole.kept.safe keeps.saves) (safe-now handed (state y) (begun b) l block (known-begun b order.known) written-whole)
         (let all = keeps.firm_is in omega (arith, all, whole.kept.safe.at.within))
         (leaves-checkpoint handed (state x) (state y) b k block order.known whole keeps.saves.calls.made.run.faults l.saver wrote.Done keeps.saves)
+        (leaves-data b (begun b) (state x) (state y) refl refl refl (data-prefix b (state x) (state y) keeps.saves.calls.calls written) (safe-now handed (state y) (begun b) l block (known-begun b order.known) written-whole).isolated)
 
     pub saves-all : 0 < b.spare → SavesAll state before (record { book = begun b; keeper = l; handed = handed; flash = y })
     saves-all spare = record {
@@ -93,6 +95,7 @@ module _ {F : Type 0} (state : F → FlashState) (x y : F) (handed : Counts) (b 
         (survives-written b k.saver l.saver k.firm (state x) (state y) wrote.Failed order whole.sound.geometry whole.sound.stored apart-before whole.kept.safe keeps.saves) (safe-now handed (state y) b l block order.known unwritten-whole)
         (let same = keeps.firm_is in omega (arith, same))
         (leaves-checkpoint handed (state x) (state y) b k block order.known whole keeps.saves.calls.made.run.faults l.saver wrote.Failed keeps.saves)
+        (leaves-data b b (state x) (state y) refl refl refl (data-prefix b (state x) (state y) keeps.saves.calls.calls unwritten) (safe-now handed (state y) b l block order.known unwritten-whole).isolated)
 
     pub fails-to-save : FailsToSave state before (record { book = b; keeper = l; handed = handed; flash = y })
     fails-to-save = record {

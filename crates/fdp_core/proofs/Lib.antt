@@ -37,3 +37,5 @@ pub mod Views
 pub mod Wholes
 pub mod Roomy
 pub mod RoomySteps
+pub mod Isolating
+pub mod IsolatedSteps

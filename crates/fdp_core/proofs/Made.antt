@@ -20,6 +20,7 @@ use Rattle.fdp_core.proofs.Called.{last-failed}
 use Rattle.fdp_core.proofs.Grown.{completes, host}
 use Rattle.fdp_core.proofs.Ends.{no-read}
 use Rattle.fdp_core.proofs.Kept.{kept-begun, kept-not-saved, kept-saved}
+use Rattle.fdp_core.proofs.Isolating.{data-prefix, leaves-data}
 use Rattle.fdp_core.proofs.Outlasting.{outlasts-stops}
 use Rattle.fdp_core.proofs.Passing.{longer-none, prefix-matches, saving-prefix}
 use Rattle.fdp_core.proofs.Places.{moment-new}
@@ -121,6 +122,8 @@ module _ {F : Type 0} (state : F → FlashState) (x y : F) (handed : Counts) (b 
         (survives-saved (begun b) d change k.saver l.saver k.firm (state x) (state y) answer (order-begun b order) whole.sound.geometry whole.sound.stored apart-before whole.kept.safe keeps.saves then_order ends.step go so.stored apart-then)
         (record { safe = safe; isolated = apart-then }) (subst (λ (n : ℕ). k.firm ≤ n) (sym keeps.firm_is) (firm-up answer))
         (leaves-saving handed (state x) (state y) (begun b) k block (order-begun b order).known (whole-begun handed (state x) b k block whole) keeps.saves.calls.made.run.faults change d then_order.known so.room keeps.saves.calls.made.run.told ends.step l.saver answer keeps.saves)
+        (leaves-data b d (state x) (state y) ends.step.config_is ends.step.found_is ends.step.opened_is
+        (data-prefix b (state x) (state y) keeps.saves.calls.calls (saving-prefix b change k.saver l.saver k.firm (state x) (state y) answer whole.kept.safe keeps.saves)) apart-then)
 
     pub made-whole : ((moment : ℕ) → answer ≢ savings.Unsaved moment) → (answer ≢ savings.Done → IsFalse (durable.completes change)) → IsWhole handed (state y) d l block × OutlastsStops state before after
     made-whole made none = let safe = made-safe none in (record { sound = so; kept = made-kept made safe }, made-stops safe)
@@ -169,8 +172,10 @@ module _ {F : Type 0} (state : F → FlashState) (x y : F) (handed : Counts) (b 
   unmade-whole then_known so = (
     record { sound = so; kept = unmade-kept },
     entry-stops state (record { book = b; keeper = k; handed = handed; flash = x }) (record { book = d; keeper = l; handed = handed; flash = y }) answer ends.step (uncompleted command (bare statuses.WRITE_FAULT false) refl)
-        (survives-not-saved b e k.saver l.saver k.firm (state x) (state y) moment order whole.sound.geometry whole.sound.stored apart-old whole.kept.safe keeps.saves) whole.kept.safe (record { safe = unmade-kept.safe; isolated = sound-isolated handed (state y) d block then_known so }) (let same = keeps.firm_is in omega (arith, same)) refl
-        (leaves-failed handed (state x) (state y) b (low-faults handed b (state x) whole.sound.ledger) keeps.saves.ends.faulted.rose),
+        (survives-not-saved b e k.saver l.saver k.firm (state x) (state y) moment order whole.sound.geometry whole.sound.stored apart-old whole.kept.safe keeps.saves) whole.kept.safe (record { safe = unmade-kept.safe; isolated = sound-isolated handed (state y) d block then_known so }) (let same = keeps.firm_is in omega (arith, same))
+        (leaves-failed handed (state x) (state y) b (low-faults handed b (state x) whole.sound.ledger) keeps.saves.ends.faulted.rose)
+        (leaves-data b d (state x) (state y) ends.step.config_is ends.step.found_is ends.step.opened_is
+        (data-prefix b (state x) (state y) keeps.saves.calls.calls (saving-prefix b e k.saver l.saver k.firm (state x) (state y) (savings.Unsaved moment) whole.kept.safe keeps.saves)) (sound-isolated handed (state y) d block then_known so)),
   )
 
   pub unmade-completes : 0 < b.spare → steps.Completes state (record { book = b; keeper = k; handed = handed; flash = x }) (record { book = d; keeper = l; handed = handed; flash = y }) [] queue number command keeps.saves.calls.calls done

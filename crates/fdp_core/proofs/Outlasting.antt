@@ -1,12 +1,13 @@
 -- What a stop may leave of steps that follow one another.
 use Rattle.std.proofs.Common.{◌≡◌, ◌∙◌, ℕ, ◌+◌, ◌≤◌, List, [], ◌++◌, length, refl, ap, sym, subst, arith, length-append}
-use Rattle.std.specs.Prelude.{All, IsFalse}
+use Rattle.std.specs.Prelude.{All, IsFalse, IsTrue}
 use Rattle.std.proofs.lemmas.List.Elements.{All-append, All-nil, All-weaker}
 use Rattle.fdp_base.specs.declared.config.DriveConfig.{DriveConfig}
 use Rattle.fdp_base.specs.declared.entry.Entry.{Entry}
 use Rattle.fdp_relocation.specs.fdp_book.Book.{IsLonger}
 use Rattle.fdp_core.specs.Seen.{Seen}
-use Rattle.fdp_core.specs.Stops.{IsSafeNow, LeavesRoomy, Outlasts, OutlastsStops}
+use Rattle.fdp_core.specs.Stops.{IsIsolatedBy, IsSafeNow, KeepsPart, LeavesIsolated, LeavesRoomy, Outlasts, OutlastsStops, Retains, UsesNoMore}
+use Rattle.fdp_core.proofs.Isolating.{bridge-retained, opened-longer, part-joined, part-leaves, part-none, retains-joined}
 use Rattle.fdp_core.proofs.Looping.{IsPassing}
 use Rattle.fdp_core.proofs.Passing.{longer-joined, longer-none}
 use Rattle.fdp_relocation.specs.fdp_durability.Firm.{completes}
@@ -32,6 +33,7 @@ use Rattle.fdp_roominess.proofs.Runs.{began-later}
 pub record GoesOn {F : Type 0} (state : F → FlashState) (start now : Seen F) (rg : ℕ) : Type 0 where
   pub passing : IsPassing state start now rg
   pub stops : Outlasts state start now
+  pub retains : Retains start.book (state start.flash) (state now.flash)
 
 -- ---- within a step
 
@@ -41,14 +43,15 @@ outlasts-none state s = record {
   longer = longer-none s.book;
   none = All-nil (λ e. IsFalse (completes e));
   images = no_run (state s.flash) (λ m image. IsSafeImage s.book.config s.book.found s.book.opened s.book.entries s.keeper.firm (length s.book.entries) image);
+  isolated = part-none s.book (state s.flash);
   handed = refl;
   roomy = λ began well. no_run (state s.flash) (λ m image. IsRoomyImage s.book.config image);
   more = omega arith;
 }
 
 -- what survives a part of a step
-pub outlasts-part : {F : Type 0} (state : F → FlashState) (old new : Seen F) (es : List Entry) → IsLonger old.book new.book es → All (λ e. IsFalse (completes e)) es → Survives new.book old.keeper.firm (length old.book.entries) (state old.flash) (state new.flash) → old.keeper.firm ≤ new.keeper.firm → new.handed ≡ old.handed → LeavesRoomy state old new → Outlasts state old new
-outlasts-part state old new es longer none run more handed roomy = record {
+pub outlasts-part : {F : Type 0} (state : F → FlashState) (old new : Seen F) (es : List Entry) → IsLonger old.book new.book es → All (λ e. IsFalse (completes e)) es → Survives new.book old.keeper.firm (length old.book.entries) (state old.flash) (state new.flash) → old.keeper.firm ≤ new.keeper.firm → new.handed ≡ old.handed → LeavesRoomy state old new → KeepsPart old.book new.book (state old.flash) (state new.flash) → Outlasts state old new
+outlasts-part state old new es longer none run more handed roomy isolated = record {
   es = es;
   longer = longer;
   none = none;
@@ -56,18 +59,21 @@ outlasts-part state old new es longer none run more handed roomy = record {
       subst (λ (c : DriveConfig). Runs (state old.flash) (state new.flash) (λ m image. IsSafeImage c old.book.found old.book.opened new.book.entries old.keeper.firm (length old.book.entries) image)) longer.config_is
       (subst (λ (f : Found). Runs (state old.flash) (state new.flash) (λ m image. IsSafeImage new.book.config f old.book.opened new.book.entries old.keeper.firm (length old.book.entries) image)) longer.found_is
       (subst (λ (cells : List Cell). Runs (state old.flash) (state new.flash) (λ m image. IsSafeImage new.book.config new.book.found cells new.book.entries old.keeper.firm (length old.book.entries) image)) longer.opened_is run));
+  isolated = isolated;
   handed = handed;
   roomy = roomy;
   more = more;
 }
 
--- one part behind another
-pub outlasts-joined : {F : Type 0} (state : F → FlashState) (old mid new : Seen F) → Outlasts state old mid → Outlasts state mid new → Outlasts state old new
-outlasts-joined state old mid new p q = record {
+-- one part behind another, where the cells before the first are isolated by the history behind both as soon as those between them are
+pub outlasts-joined : {F : Type 0} (state : F → FlashState) (old mid new : Seen F) → Outlasts state old mid → Outlasts state mid new
+    → (IsTrue (state old.flash).told → OpenedApart old.book.config old.book.found old.book.opened → IsIsolatedBy new.book (state mid.flash).cells → IsIsolatedBy new.book (state old.flash).cells) → Outlasts state old new
+outlasts-joined state old mid new p q bridge = record {
   es = p.es ++ q.es;
   longer = longer-joined old.book mid.book new.book p.es q.es p.longer q.longer;
   none = All-append (λ e. IsFalse (completes e)) p.es q.es p.none q.none;
   images = runs_joined (state old.flash) (state mid.flash) (state new.flash) Image before behind;
+  isolated = part-joined old.book mid.book new.book (state old.flash) (state mid.flash) (state new.flash) p.longer.config_is p.longer.found_is p.longer.opened_is p.images.told p.isolated q.isolated bridge;
   handed = q.handed ∙ p.handed;
   roomy = λ began well.
       let up = q.images.faults in
@@ -102,12 +108,30 @@ outlasts-joined state old mid new p q = record {
       (subst (λ (cells : List Cell). IsSafeImage mid.book.config mid.book.found cells new.book.entries old.keeper.firm (length old.book.entries) image) p.longer.opened_is
       (image-less mid.book.config mid.book.found mid.book.opened new.book.entries mid.keeper.firm old.keeper.firm (length mid.book.entries) (length old.book.entries) image p.more later safe))))
 
+-- behind a part that retains the pages
+pub outlasts-behind : {F : Type 0} (state : F → FlashState) (old mid new : Seen F) → Outlasts state old mid → Outlasts state mid new → Retains old.book (state old.flash) (state mid.flash) → Outlasts state old new
+outlasts-behind state old mid new p q retains =
+    outlasts-joined state old mid new p q (bridge-retained old.book mid.book new.book (state old.flash) (state mid.flash) (q.longer.config_is ∙ p.longer.config_is) p.isolated.setting q.isolated.setting retains)
+
+pub goes-behind : {F : Type 0} (state : F → FlashState) (old mid new : Seen F) → Outlasts state old mid → Retains old.book (state old.flash) (state mid.flash) → Retains mid.book (state mid.flash) (state new.flash) → Retains old.book (state old.flash) (state new.flash)
+goes-behind state old mid new p first then' = retains-joined old.book mid.book (state old.flash) (state mid.flash) (state new.flash) p.es p.longer p.images.told p.isolated.setting first then'
+
+-- before entries by which no unit comes into use
+pub outlasts-before : {F : Type 0} (state : F → FlashState) (old mid new : Seen F) → Outlasts state old mid → Outlasts state mid new → IsSafeNow (state mid.flash) mid.book mid.keeper → UsesNoMore mid.book new.book (state mid.flash) → Outlasts state old new
+outlasts-before state old mid new p q now uses =
+    outlasts-joined state old mid new p q
+    (λ told opened there.
+    let then_told = p.images.told ∙ told in
+    let then_opened = opened-longer old.book mid.book p.es p.longer opened in
+    uses then_told then_opened (state old.flash).cells (p.isolated.first told opened (now.isolated then_told then_opened)))
+
 -- ---- a whole step
 
 -- none of the entries that were added is owed at the end, and what is firm is safe then
 pub outlasts-stops : {F : Type 0} (state : F → FlashState) (old new : Seen F) (es : List Entry) → new.book.config ≡ old.book.config → new.book.found ≡ old.book.found → new.book.opened ≡ old.book.opened → new.book.entries ≡ old.book.entries ++ es → AreFirm old.book.entries old.keeper.firm
-    → All (λ e. IsFalse (is_owed (state new.flash).moment e)) es → Survives new.book old.keeper.firm (length old.book.entries) (state old.flash) (state new.flash) → IsSafeNow (state new.flash) new.book new.keeper → old.keeper.firm ≤ new.keeper.firm → LeavesRoomy state old new → OutlastsStops state old new
-outlasts-stops state old new es config_is found_is opened_is entries_are firmed none run now more roomy = record {
+    → All (λ e. IsFalse (is_owed (state new.flash).moment e)) es → Survives new.book old.keeper.firm (length old.book.entries) (state old.flash) (state new.flash) → IsSafeNow (state new.flash) new.book new.keeper → old.keeper.firm ≤ new.keeper.firm → LeavesRoomy state old new
+    → LeavesIsolated old.book new.book (state old.flash) (state new.flash) → OutlastsStops state old new
+outlasts-stops state old new es config_is found_is opened_is entries_are firmed none run now more roomy isolated = record {
   stops =
       subst (λ (c : DriveConfig). IsStopSafe c old.book.found new.book.entries old.keeper.firm new.keeper.firm (state old.flash) (state new.flash)) config_is
       (subst (λ (f : Found). IsStopSafe new.book.config f new.book.entries old.keeper.firm new.keeper.firm (state old.flash) (state new.flash)) found_is
@@ -117,6 +141,7 @@ outlasts-stops state old new es config_is found_is opened_is entries_are firmed 
       (subst (λ (f : Found). OpenedApart new.book.config f old.book.opened → IsStopApart new.book.config f new.book.entries (length old.book.entries) (state old.flash) (state new.flash)) found_is
       (subst (λ (cells : List Cell). OpenedApart new.book.config new.book.found cells → IsStopApart new.book.config new.book.found new.book.entries (length old.book.entries) (state old.flash) (state new.flash)) opened_is
       (stop-apart new.book new.keeper.saver old.keeper.firm new.keeper.firm (length old.book.entries) (state old.flash) (state new.flash) run now.safe now.isolated)));
+  isolated = isolated;
   roomy = roomy;
   more = more;
   firm = now.safe.at.firm_is;
@@ -130,4 +155,4 @@ outlasts-all state old new firmed now h =
     (subst (λ (c : DriveConfig). Runs (state old.flash) (state new.flash) (λ m image. IsSafeImage c new.book.found new.book.opened new.book.entries old.keeper.firm (length old.book.entries) image)) (sym h.longer.config_is)
     (subst (λ (f : Found). Runs (state old.flash) (state new.flash) (λ m image. IsSafeImage old.book.config f new.book.opened new.book.entries old.keeper.firm (length old.book.entries) image)) (sym h.longer.found_is)
     (subst (λ (cells : List Cell). Runs (state old.flash) (state new.flash) (λ m image. IsSafeImage old.book.config old.book.found cells new.book.entries old.keeper.firm (length old.book.entries) image)) (sym h.longer.opened_is) h.images)))
-    now h.more h.roomy
+    now h.more h.roomy (part-leaves old.book new.book (state old.flash) (state new.flash) h.longer.config_is h.longer.found_is h.longer.opened_is h.isolated now.isolated)

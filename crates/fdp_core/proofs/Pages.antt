@@ -1,5 +1,5 @@
 -- A page of a write that was programmed, or not: what saves the drive stands for its history, and no stop in the step loses what was firm.
-use Rattle.std.proofs.Common.{◌≡◌, ℕ, ◌≤◌, ◌<◌, Bool, true, false, List, [], ◌∷◌, ◌-◌, Some, length, refl, sym, ◌∙◌, ap, subst, arith, length-append}
+use Rattle.std.proofs.Common.{◌≡◌, ℕ, ◌≤◌, ◌<◌, inr, Bool, true, false, List, [], ◌∷◌, ◌-◌, Some, length, refl, sym, ◌∙◌, ap, subst, arith, length-append}
 use Rattle.std.specs.Prelude.{IsFalse, IsTrue}
 use Rattle.std.specs.List.{slice_get}
 use Rattle.std.proofs.lemmas.Bool.{false≢true}
@@ -7,13 +7,13 @@ use Rattle.std.proofs.lemmas.List.Elements.{All-cons, All-nil}
 use Rattle.fdp_base.specs.declared.entry.Entry.TheVariants as entries
 use Rattle.fdp_base.specs.declared.status.TheConstants.Status as statuses
 use Rattle.fdp_relocation.specs.fdp_book.Steps as book
-use Rattle.fdp_flash.specs.declared.cell.Cell.TheVariants.{Whole}
+use Rattle.fdp_flash.specs.declared.cell.Cell.TheVariants.{Blank, Whole}
 use Rattle.fdp_relocation.specs.fdp_saving.declared.saved.Saved.TheVariants as savings
 use Rattle.fdp_relocation.specs.fdp_book.Book.{BookSeen, point_in, state_in}
 use Rattle.fdp_flash.specs.FlashState.{Call, FlashState, IsWellFormed as IsFlashFormed}
 use Rattle.fdp_relocation.specs.fdp_durability.Beginnings.{CanBeSaved}
 use Rattle.fdp_loading.specs.fdp_ledger.declared.counts.Counts.{Counts}
-use Rattle.fdp_base.specs.declared.config.DriveConfig.{DriveConfig}
+use Rattle.fdp_base.specs.declared.config.Geometry.{Geometry}
 use Rattle.fdp_base.specs.declared.entry.Entry.{Entry}
 use Rattle.fdp_calls.specs.Calls.{FailedAt, MakesCalls, program_at}
 use Rattle.fdp_core.specs.Answers.{FailsToPlace}
@@ -24,23 +24,26 @@ use Rattle.fdp_core.specs.Sound.{IsKept, IsSound, IsWhole}
 use Rattle.fdp_loading.specs.fdp_isolation.Laned.{IsKnown}
 use Rattle.fdp_loading.specs.fdp_survival.Safe.{IsSafeImage}
 use Rattle.fdp_relocation.specs.fdp_book.Tickets.{IsNextSpot, IsTicketOf}
-use Rattle.fdp_core.proofs.Passing.{IsPrefix, matches-joined, prefix-matches, saving-prefix}
+use Rattle.fdp_core.proofs.Passing.{IsPrefix, matches-joined, prefix-as, prefix-matches, saving-prefix}
 use Rattle.fdp_calls.specs.Media.{IsProgrammedTo}
 use Rattle.fdp_relocation.specs.fdp_keeper.Keeper.{KeeperSeen, KeepsMade}
 use Rattle.fdp_loading.specs.fdp_ledger.Emptied.{OnlyErasesEmpty}
-use Rattle.fdp_core.specs.Stops.{IsSafeNow, OutlastsStops}
+use Rattle.fdp_core.specs.Stops.{IsSafeNow, KeepsPart, OutlastsStops}
 use Rattle.fdp_flash.specs.Cells.{ProgramMayLeave}
 use Rattle.fdp_flash.specs.Runs.{Runs}
-use Rattle.fdp_image.specs.Saving.{SameDataPages}
 use Rattle.fdp_relocation.specs.fdp_saving.declared.saved.Saved.{Saved}
 use Rattle.fdp_relocation.specs.fdp_book.Shutting.{ShutsAndEnds}
 use Rattle.fdp_base.specs.declared.entry.Spot.{Spot}
 use Rattle.fdp_image.specs.Kept.{is_completed, is_owed}
 use Rattle.fdp_relocation.specs.fdp_book.declared.ticket.Ticket.{Ticket}
 use Rattle.fdp_rules.specs.Answer.{bare}
-use Rattle.fdp_core.proofs.Apart.{safe-now}
+use Rattle.fdp_core.proofs.Apart.{safe-now, sound-isolated}
 use Rattle.fdp_core.proofs.Sound.{begun}
-use Rattle.fdp_loading.proofs.fdp_survival.Steps.{IsNextSpare, can-failed, isolated-unplaced, safe-page, safe-placed, safe-shut, safe-unplaced, survives-longer, survives-page, survives-shut}
+use Rattle.fdp_loading.proofs.fdp_isolation.Later.{setting-later, setting-same}
+use Rattle.fdp_loading.proofs.fdp_isolation.Placed.{placed-generation, shut-generation}
+use Rattle.fdp_loading.specs.fdp_isolation.Stays.{IsSameSetting}
+use Rattle.fdp_core.proofs.Isolating.{data-prefix, part-data, part-joined, part-leaves, part-page}
+use Rattle.fdp_loading.proofs.fdp_survival.Steps.{IsNextSpare, can-failed, isolated-unplaced, next-blank, page-left, safe-page, safe-placed, safe-shut, safe-unplaced, survives-longer, survives-page, survives-shut}
 use Rattle.fdp_calls.proofs.Made.{counted_more-none, failed-last}
 use Rattle.fdp_core.proofs.Wholes.{entry-stops, low-faults, order-begun}
 use Rattle.fdp_loading.proofs.fdp_ledger.Blank.{erased-none}
@@ -59,6 +62,21 @@ use Rattle.fdp_relocation.proofs.fdp_durability.Owed.{unowed}
 use Rattle.fdp_relocation.specs.fdp_book.declared.ticket.Done.{Done}
 use Rattle.fdp_core.proofs.Roomy.{leaves-failed, leaves-program}
 
+-- ---- the program of a page keeps data apart, done or failed
+
+programs-page : (b d : BookSeen) (f n : FlashState) (handed : Counts) (k : KeeperSeen) (block : List ℕ) (ticket : Ticket) (g : Going) (spot : Spot) (spare bytes : List ℕ) → IsInOrder b → IsWhole handed f b k block → IsNextSpot b ticket g spot → Runs f n (λ m image. ProgramMayLeave f.geometry f.cells spot spare bytes image)
+    → (IsTrue f.told → ProgramMayLeave f.geometry f.cells spot spare bytes n.cells) → IsTicketOf (state_in b) ticket g → IsNextSpare b g spare → d.config ≡ b.config → IsSameSetting (state_in b) (state_in d) → KeepsPart b d f n
+programs-page b d f n handed k block ticket g spot spare bytes order whole goes run left is named config setting =
+    part-page b d f n spot spare bytes config setting
+    (λ told. subst (λ (x : Geometry). slice_get f.cells (page_number x spot) ≡ Some Blank) geometry (next-blank b ticket g spot f geometry whole.sound.stored goes told))
+    (subst (λ (x : Geometry). Runs f n (λ m image. ProgramMayLeave x f.cells spot spare bytes image)) geometry run)
+    (λ told. subst (λ (x : Geometry). ProgramMayLeave x f.cells spot spare bytes n.cells) geometry (left told))
+    (λ image told opened there.
+    page-left b ticket g spot spare bytes k.saver k.firm f n geometry whole.sound.stored goes order is named whole.sound.apart whole.kept.safe image told opened (subst (λ (x : Geometry). ProgramMayLeave x f.cells spot spare bytes image) (sym geometry) there))
+  where
+    geometry : f.geometry ≡ geometry_of b.config
+    geometry = whole.sound.geometry
+
 -- ---- it was programmed
 
 module _ {F : Type 0} (state : F → FlashState) (x y : F) (handed : Counts) (b d : BookSeen) (k : KeeperSeen) (block : List ℕ) (ticket : Ticket) (g : Going) (spot : Spot) (spare bytes : List ℕ) (last : Bool) (order : IsInOrder b) (whole : IsWhole handed (state x) b k block)
@@ -75,8 +93,12 @@ module _ {F : Type 0} (state : F → FlashState) (x y : F) (handed : Counts) (b 
   pub page-stops : IsSafeNow (state y) d k → OutlastsStops state (record { book = b; keeper = k; handed = handed; flash = x }) (record { book = d; keeper = k; handed = handed; flash = y })
   page-stops now =
       entry-stops state (record { book = b; keeper = k; handed = handed; flash = x }) (record { book = d; keeper = k; handed = handed; flash = y }) _ placed.step refl
-      (survives-page b ticket g spot spare bytes k.saver k.firm (state x) (state y) whole.sound.geometry whole.sound.stored goes order is named whole.sound.apart whole.kept.safe run) whole.kept.safe now (omega arith) refl
+      (survives-page b ticket g spot spare bytes k.saver k.firm (state x) (state y) whole.sound.geometry whole.sound.stored goes order is named whole.sound.apart whole.kept.safe run) whole.kept.safe now (omega arith)
       (leaves-program handed (state x) (state y) b k block order.known whole run.faults ticket g spot spare bytes goes run)
+      (part-leaves b d (state x) (state y) placed.step.config_is placed.step.found_is placed.step.opened_is
+      (programs-page b d (state x) (state y) handed k block ticket g spot spare bytes order whole goes run (λ told. record { cell = Whole spare bytes; page = inr (inr refl); cells = programmed.cells told }) is named placed.step.config_is
+      (setting-later (begun b) d _ placed.step (placed-generation (begun b) d ticket g spot last placed)))
+      now.isolated)
 
 -- ---- that failed: the handle is shut, and this is saved
 
@@ -121,7 +143,7 @@ module _ {F : Type 0} (state : F → FlashState) (x m y : F) (handed : Counts) (
   shut-sound : IsSound handed (state m) d now → IsSound handed (state y) d now
   shut-sound so =
       sound-prefix handed (state m) (state y) d keeps.saves.calls.calls now then_known
-      (record { made = prefix.made; behind = prefix.behind; programs = prefix.programs; same = λ told. subst (λ (c : DriveConfig). SameDataPages c (state m).cells (state y).cells) (sym shuts.completes.step.config_is) (prefix.same told) }) so
+      (prefix-as b d (state m) (state y) keeps.saves.calls.calls shuts.completes.step.config_is prefix) so
 
   shut-safe : IsSafe d l.saver l.firm (state y)
   shut-safe =
@@ -149,6 +171,11 @@ module _ {F : Type 0} (state : F → FlashState) (x m y : F) (handed : Counts) (
       (survives-longer (begun b) d (shut ∷ ended ∷ []) k.firm (length b.entries) (state x) (state m) shuts.completes.step (survives-page b ticket g spot spare bytes k.saver k.firm (state x) (state m) whole.sound.geometry whole.sound.stored goes order is named whole.sound.apart whole.kept.safe run))
       (survives-shut (begun b) d ticket g spot statuses.WRITE_FAULT moment done k.saver l.saver k.firm (state m) (state y) answer (order-begun b order) can apart-there unplaced keeps.saves shuts)
 
+  programmed : KeepsPart b d (state x) (state m)
+  programmed =
+      programs-page b d (state x) (state m) handed k block ticket g spot spare bytes order whole goes run failed.left is named shuts.completes.step.config_is
+      (setting-later (begun b) d (shut ∷ ended ∷ []) shuts.completes.step (shut-generation (begun b) d ticket g spot statuses.WRITE_FAULT moment done shuts))
+
   pub shut-stops : IsSound handed (state m) d now → OutlastsStops state (record { book = b; keeper = k; handed = handed; flash = x }) (record { book = d; keeper = l; handed = handed; flash = y })
   shut-stops so =
       let P : Entry → Type 0 = λ e. IsFalse (is_owed (state y).moment e) in
@@ -156,6 +183,9 @@ module _ {F : Type 0} (state : F → FlashState) (x m y : F) (handed : Counts) (
       (All-cons P shut (ended ∷ []) (unowed (state y).moment shut refl) (All-cons P ended [] (unowed (state y).moment ended unsuccessful) (All-nil P)))
       survives (safe-now handed (state y) d l now then_known (shut-whole so)) (subst (λ (n : ℕ). k.firm ≤ n) (sym keeps.firm_is) (firm-up answer))
       (leaves-failed handed (state x) (state y) b (low-faults handed b (state x) whole.sound.ledger) (let rose = (failed.made.fault refl).rose in let up = prefix.made.run.faults in omega (arith, rose, up)))
+      (part-leaves b d (state x) (state y) shuts.completes.step.config_is shuts.completes.step.found_is shuts.completes.step.opened_is
+      (part-joined b d d (state x) (state m) (state y) shuts.completes.step.config_is shuts.completes.step.found_is shuts.completes.step.opened_is failed.made.run.told programmed (part-data d d (state m) (state y) refl (setting-same (state_in d)) (data-prefix d (state m) (state y) keeps.saves.calls.calls (prefix-as b d (state m) (state y) keeps.saves.calls.calls shuts.completes.step.config_is prefix))) programmed.first)
+      (sound-isolated handed (state y) d now then_known (shut-whole so).sound))
 
   -- what it comes to
   pub fails-to-place : 0 < b.spare → IsFlashFormed (state m) → ((es : List Entry) → IsTrue (state x).told → OnlyErasesEmpty (state x).geometry (state x).cells (state m).cells es) → moment ≡ (state m).moment →

@@ -50,7 +50,7 @@ use Rattle.fdp_relocation.specs.fdp_durability.Saved.{SavesDrive, SavesEntry, Se
 use Rattle.fdp_relocation.specs.fdp_journal.JournalState.{JournalState}
 use Rattle.fdp_loading.specs.fdp_survival.Books.{IsSafe, KeepsApart}
 use Rattle.fdp_image.specs.Saving.{SameDataPages}
-use Rattle.fdp_loading.proofs.fdp_survival.Savings.{checkpoint-same, saving-same, settling-same}
+use Rattle.fdp_loading.proofs.fdp_survival.Savings.{checkpoint-same, checkpoint-stopped, saving-same, saving-stopped, settling-same, settling-stopped}
 use Rattle.fdp_relocation.specs.fdp_saving.declared.saved.Saved.{Saved}
 use Rattle.fdp_flash.specs.declared.answer.Wrote.{Wrote}
 use Rattle.fdp_relocation.proofs.Resting.{uncalled-calls, uncalled-same}
@@ -59,9 +59,9 @@ use Rattle.fdp_loading.proofs.fdp_isolation.Saved.{holds-saved, laned-saved}
 
 -- ---- no call
 
--- a run, of which nothing is said of what a stop leaves
-pub runs-plain : (f n : FlashState) (Image : ℕ → List Cell → Type 0) → Runs f n Image → Runs f n (λ m image. Unit {0})
-runs-plain f n Image run = record {
+-- a run, with what is known of each image of a stop in it
+pub runs-saying : (f n : FlashState) (Image Other : ℕ → List Cell → Type 0) → Runs f n Image → (IsTrue f.told → (m : ℕ) (image : List Cell) → f.moment < m → m ≤ n.moment → n.during m image → Other m image) → Runs f n Other
+runs-saying f n Image Other run said = record {
   geometry = run.geometry;
   reliable = run.reliable;
   told = run.told;
@@ -70,12 +70,16 @@ runs-plain f n Image run = record {
   faults = run.faults;
   no_fault = run.no_fault;
   programs = run.programs;
-  images = λ told m image low high left. tt;
+  images = said;
   earlier = run.earlier;
   kept = run.kept;
   listed_before = run.listed_before;
   listed = run.listed;
 }
+
+-- a run, of which nothing is said of what a stop leaves
+pub runs-plain : (f n : FlashState) (Image : ℕ → List Cell → Type 0) → Runs f n Image → Runs f n (λ m image. Unit {0})
+runs-plain f n Image run = runs-saying f n Image (λ m image. Unit {0}) run (λ told m image above most during. tt)
 
 -- a run in which no call was made
 pub uncalled-made : (f n : FlashState) (Image : ℕ → List Cell → Type 0) → Runs f n Image → IsUncalled f n → MakesCalls f n []
@@ -179,28 +183,39 @@ worn-told handed n b d es rg longer worn =
 
 -- ---- calls in the system units
 
--- calls in the units behind those of data: no page of data changed
+-- calls in the units behind those of data: no page of data changed, nor does one in what a stop leaves
 pub record IsPrefix (b : BookSeen) (old now : FlashState) (calls : List Call) : Type 0 where
   pub made : MakesCalls old now calls
   pub behind : AreBehindData old.geometry calls
   pub programs : now.programs ≡ old.programs
   pub same : IsTrue old.told → SameDataPages b.config old.cells now.cells
+  pub stopped : IsTrue old.told → (m : ℕ) (image : List Cell) → old.moment < m → m ≤ now.moment → now.during m image → SameDataPages b.config old.cells image
 
 -- so are those of a saving
 pub saving-prefix : (b : BookSeen) (e : Entry) (s now : JournalState) (firm : ℕ) (f n : FlashState) (answer : Saved) → IsSafe b s firm f → (h : SavesEntry b.config b.found b.entries e s now f n answer) → IsPrefix b f n h.calls.calls
-saving-prefix b e s now firm f n answer safe h = record { made = h.calls.made; behind = h.calls.system; programs = h.calls.programs; same = saving-same b.config b.found b.entries e b.pages.units s now firm f n answer safe.at h }
+saving-prefix b e s now firm f n answer safe h = record { made = h.calls.made; behind = h.calls.system; programs = h.calls.programs; same = saving-same b.config b.found b.entries e b.pages.units s now firm f n answer safe.at h; stopped = saving-stopped b.config b.found b.entries e b.pages.units s now firm f n answer safe.at h }
 
 -- of a checkpoint
 pub written-prefix : (b : BookSeen) (s now : JournalState) (firm : ℕ) (f n : FlashState) (answer : Wrote) → IsSafe b s firm f → (h : SavesDrive b.config b.found b.entries s now f n answer) → IsPrefix b f n h.calls.calls
-written-prefix b s now firm f n answer safe h = record { made = h.calls.made; behind = h.calls.system; programs = h.calls.programs; same = checkpoint-same b.config b.found b.entries b.pages.units s now firm f n answer safe.at h }
+written-prefix b s now firm f n answer safe h = record { made = h.calls.made; behind = h.calls.system; programs = h.calls.programs; same = checkpoint-same b.config b.found b.entries b.pages.units s now firm f n answer safe.at h; stopped = checkpoint-stopped b.config b.found b.entries b.pages.units s now firm f n answer safe.at h }
 
 -- and of one that ends a doubt
 pub settled-prefix : (b : BookSeen) (s now : JournalState) (firm : ℕ) (f n : FlashState) (answer : Wrote) → IsSafe b s firm f → (h : SettlesDrive b.config b.found b.entries s now f n answer) → IsPrefix b f n h.calls.calls
-settled-prefix b s now firm f n answer safe h = record { made = h.calls.made; behind = h.calls.system; programs = h.calls.programs; same = settling-same b.config b.found b.entries b.pages.units s now firm f n answer safe.at h }
+settled-prefix b s now firm f n answer safe h = record { made = h.calls.made; behind = h.calls.system; programs = h.calls.programs; same = settling-same b.config b.found b.entries b.pages.units s now firm f n answer safe.at h; stopped = settling-stopped b.config b.found b.entries b.pages.units s now firm f n answer safe.at h }
 
 -- no call is such
 pub resting-prefix : (b : BookSeen) (f n : FlashState) → StaysUncalled f n → IsPrefix b f n []
-resting-prefix b f n h = record { made = uncalled-calls f n h; behind = All-nil (λ (call : Call). data_units f.geometry ≤ call.at.unit); programs = h.uncalled.programs; same = uncalled-same b.config f n h }
+resting-prefix b f n h = record { made = uncalled-calls f n h; behind = All-nil (λ (call : Call). data_units f.geometry ≤ call.at.unit); programs = h.uncalled.programs; same = uncalled-same b.config f n h; stopped = λ told m image above most during. absurd (h.run.images told m image above most during) }
+
+-- they are such by a book that goes on, too
+pub prefix-as : (b d : BookSeen) (f n : FlashState) (calls : List Call) → d.config ≡ b.config → IsPrefix b f n calls → IsPrefix d f n calls
+prefix-as b d f n calls config h = record {
+  made = h.made;
+  behind = h.behind;
+  programs = h.programs;
+  same = λ told. subst (λ (c : DriveConfig). SameDataPages c f.cells n.cells) (sym config) (h.same told);
+  stopped = λ told m image above most during. subst (λ (c : DriveConfig). SameDataPages c f.cells image) (sym config) (h.stopped told m image above most during);
+}
 
 -- beside entries that tell of no page and no erase, and of a failure only where a call failed
 pub prefix-matches : (b : BookSeen) (f n : FlashState) (calls : List Call) (es : List Entry) → f.geometry ≡ geometry_of b.config → media_blocks es ≡ 0 → (list_any tells_failure es ≡ true → list_any has_failed calls ≡ true) → ErasesNoUnit es → IsPrefix b f n calls → Matches f n es calls

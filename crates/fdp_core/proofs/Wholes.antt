@@ -2,6 +2,7 @@
 use Rattle.std.proofs.Common.{◌≡◌, ℕ, ◌≤◌, false, not, List, [], ◌∷◌, length, refl, ap, arith}
 use Rattle.std.specs.Prelude.{IsFalse}
 use Rattle.std.specs.List.{count_by}
+use Rattle.std.proofs.lemmas.List.Elements.{All-cons, All-nil}
 use Rattle.fdp_base.specs.declared.command.Command.{Command}
 use Rattle.fdp_base.specs.declared.entry.Entry.{Entry}
 use Rattle.fdp_base.specs.declared.entry.Reply.{Reply}
@@ -12,17 +13,18 @@ use Rattle.fdp_relocation.specs.fdp_book.Steps as book
 use Rattle.fdp_calls.specs.Media.{IsReadFrom}
 use Rattle.fdp_core.specs.Seen.{Seen}
 use Rattle.fdp_core.specs.Sound.{IsKept, IsWhole}
-use Rattle.fdp_core.specs.Stops.{IsSafeNow, LeavesRoomy, Outlasts, OutlastsStops}
+use Rattle.fdp_core.specs.Stops.{IsSafeNow, KeepsPart, LeavesIsolated, LeavesRoomy, Outlasts, OutlastsStops}
 use Rattle.fdp_core.proofs.Apart.{known-begun}
 use Rattle.fdp_core.proofs.Grown.{host}
 use Rattle.fdp_core.proofs.Kept.{kept-begun, kept-entry}
-use Rattle.fdp_core.proofs.Outlasting.{outlasts-all, outlasts-part}
+use Rattle.fdp_core.proofs.Outlasting.{outlasts-part, outlasts-stops}
 use Rattle.fdp_core.proofs.Rooms.{begun_seen}
 use Rattle.fdp_core.proofs.Sound.{begun, sound-begun}
 use Rattle.fdp_relocation.specs.fdp_durability.Firm.{completes}
+use Rattle.fdp_relocation.proofs.fdp_durability.Owed.{unowed}
 use Rattle.fdp_flash.specs.FlashState.{FlashState}
 use Rattle.fdp_flash.proofs.Runs.{no_run}
-use Rattle.fdp_image.specs.Kept.{is_completed}
+use Rattle.fdp_image.specs.Kept.{is_completed, is_owed}
 use Rattle.fdp_relocation.specs.fdp_keeper.Keeper.{KeeperSeen}
 use Rattle.fdp_loading.specs.fdp_ledger.declared.counts.Counts.{Counts}
 use Rattle.fdp_relocation.specs.fdp_pages.Steps.{ChangesOwners}
@@ -45,19 +47,23 @@ whole-begun handed f b k block h = record { sound = sound-begun handed f b block
 
 -- a stop cannot tell whether the step had begun
 pub unbegun : {F : Type 0} (state : F → FlashState) (old new : Seen F) → OutlastsStops state (begun_seen old) new → OutlastsStops state old new
-unbegun state old new h = record { stops = h.stops; apart = h.apart; roomy = h.roomy; more = h.more; firm = h.firm }
+unbegun state old new h = record { stops = h.stops; apart = h.apart; isolated = h.isolated; roomy = h.roomy; more = h.more; firm = h.firm }
 
 -- ---- an entry that completes no change
 
 -- part of a step
-pub outlasts-entry : {F : Type 0} (state : F → FlashState) (old new : Seen F) (e : Entry) → IsLonger old.book new.book (e ∷ []) → IsFalse (completes e) → Survives old.book old.keeper.firm (length old.book.entries) (state old.flash) (state new.flash) → old.keeper.firm ≤ new.keeper.firm → new.handed ≡ old.handed → LeavesRoomy state old new → Outlasts state old new
-outlasts-entry state old new e longer none run more handed roomy =
-    outlasts-part state old new (e ∷ []) longer (one-none e none) (survives-longer old.book new.book (e ∷ []) old.keeper.firm (length old.book.entries) (state old.flash) (state new.flash) longer run) more handed roomy
+pub outlasts-entry : {F : Type 0} (state : F → FlashState) (old new : Seen F) (e : Entry) → IsLonger old.book new.book (e ∷ []) → IsFalse (completes e) → Survives old.book old.keeper.firm (length old.book.entries) (state old.flash) (state new.flash) → old.keeper.firm ≤ new.keeper.firm → new.handed ≡ old.handed → LeavesRoomy state old new → KeepsPart old.book new.book (state old.flash) (state new.flash) → Outlasts state old new
+outlasts-entry state old new e longer none run more handed roomy isolated =
+    outlasts-part state old new (e ∷ []) longer (one-none e none) (survives-longer old.book new.book (e ∷ []) old.keeper.firm (length old.book.entries) (state old.flash) (state new.flash) longer run) more handed roomy isolated
 
 -- a whole step
 pub entry-stops : {F : Type 0} (state : F → FlashState) (old new : Seen F) (e : Entry) → IsLonger (begun old.book) new.book (e ∷ []) → IsFalse (completes e) → Survives old.book old.keeper.firm (length old.book.entries) (state old.flash) (state new.flash) → IsSafe old.book old.keeper.saver old.keeper.firm (state old.flash) →
-    IsSafeNow (state new.flash) new.book new.keeper → old.keeper.firm ≤ new.keeper.firm → new.handed ≡ old.handed → LeavesRoomy state old new → OutlastsStops state old new
-entry-stops state old new e longer none run was safe more handed roomy = unbegun state old new (outlasts-all state (begun_seen old) new was.at.firm_is safe (outlasts-entry state (begun_seen old) new e longer none run more handed roomy))
+    IsSafeNow (state new.flash) new.book new.keeper → old.keeper.firm ≤ new.keeper.firm → LeavesRoomy state old new → LeavesIsolated old.book new.book (state old.flash) (state new.flash) → OutlastsStops state old new
+entry-stops state old new e longer none run was safe more roomy isolated =
+    let P : Entry → Type 0 = λ x. IsFalse (is_owed (state new.flash).moment x) in
+    outlasts-stops state old new (e ∷ []) longer.config_is longer.found_is longer.opened_is longer.entries_are was.at.firm_is
+    (All-cons P e [] (unowed (state new.flash).moment e none) (All-nil P))
+    (survives-longer (begun old.book) new.book (e ∷ []) old.keeper.firm (length old.book.entries) (state old.flash) (state new.flash) longer run) safe more roomy isolated
 
 -- no call loses nothing
 pub survives-uncalled : (b : BookSeen) (firm from : ℕ) (f : FlashState) → Survives b firm from f f

@@ -1,7 +1,10 @@
 -- What a queue may go on with, and what its step comes to.
-use Rattle.std.proofs.Common.{◌≡◌, ℕ, Option, Some, inl, inr, sym, subst, ◌∙◌}
+use Rattle.std.proofs.Common.{◌≡◌, ℕ, ◌<◌, List, Option, Some, inl, inr, ap, length, slice_set, sym, subst, ◌∙◌}
+use Rattle.std.specs.Prelude.{option_map}
+use Rattle.std.specs.Option.{option_flatten}
 use Rattle.fdp_rules.specs.PlainState.{Going}
 use Rattle.fdp_flash.specs.FlashState.{FlashState}
+use Rattle.fdp_flash.proofs.Lists.{slice_get-set_same}
 use Rattle.fdp_core.specs.declared.answer.Placed.{Placed}
 use Rattle.fdp_core.specs.declared.answer.Placed.TheVariants as placed
 use Rattle.fdp_core.specs.fdp_book.declared.stage.Stage.{Stage}
@@ -12,7 +15,8 @@ use Rattle.fdp_core.specs.Answers.{MakesRoom, Places, PlacesPage}
 use Rattle.fdp_core.specs.fdp_book.Book.{state_in}
 use Rattle.fdp_core.specs.Seen.{Seen}
 use Rattle.fdp_core.specs.fdp_book.Tickets.{IsTicketOf}
-use Rattle.fdp_core_tests.specs.Played.{CameToPlace, MayGoOn, Played, ended}
+use Rattle.fdp_core_tests.specs.declared.noted.Noted.{Noted}
+use Rattle.fdp_core_tests.specs.Played.{CameToPlace, MayGoOn, Played, ended, ticket_in}
 
 ticket-same : (x y : Ticket) → Some x ≡ Some y → x ≡ y
 ticket-same x y e = cc
@@ -20,6 +24,16 @@ ticket-same x y e = cc
 -- a queue has one ticket
 pub ticket-one : {F : Type 0} (p : Played F) (queue : ℕ) (x y : Stage) (t u : Ticket) → MayGoOn p queue x t → MayGoOn p queue y u → t ≡ u
 ticket-one p queue x y t u h k = ticket-same t u (sym h.known ∙ k.known)
+
+-- the ticket of a write that was noted in its queue
+pub noted-ticket : (noted : List (Option Noted)) (queue place number position : ℕ) (x : Noted) (ticket : Ticket) → queue < length noted → place ≡ queue → ticket ≡ record { queue = queue; number = number; position = position } → x ≡ record { number = ticket.number; position = ticket.position }
+    → ticket_in (slice_set noted place (Some x)) queue ≡ Some ticket
+noted-ticket noted queue place number position x ticket low here is noted_is =
+    ap (λ (k : ℕ). ticket_in (slice_set noted k (Some x)) queue) here
+    ∙ ap (λ (o : Option (Option Noted)). option_map (λ (y : Noted). record { queue = queue; number = y.number; position = y.position }) (option_flatten o)) (slice_get-set_same noted queue (Some x) low)
+    ∙ ap (λ (y : Noted). Some (record { queue = queue; number = y.number; position = y.position })) noted_is
+    ∙ ap (λ (t : Ticket). Some (record { queue = queue; number = t.number; position = t.position })) is
+    ∙ ap Some (sym is)
 
 -- what placing a page came to
 pub came-to_place : {F : Type 0} (state : F → FlashState) (old new : Seen F) (ticket : Ticket) (g : Going) (p : Placed) → Places state old new ticket g p → CameToPlace state old new ticket g (ended p)

@@ -7,6 +7,7 @@ use Rattle.fdp_base.specs.declared.config.DriveConfig.{DriveConfig}
 use Rattle.fdp_base.specs.declared.entry.Entry.{Entry}
 use Rattle.fdp_base.specs.declared.entry.Entry.TheVariants as entries
 use Rattle.fdp_base.specs.declared.entry.Reply.{Reply}
+use Rattle.fdp_base.specs.declared.entry.Spot.{Spot}
 use Rattle.fdp_base.specs.declared.status.Status.{Status}
 use Rattle.fdp_base.specs.CommandKinds.{is_setting, is_write}
 use Rattle.fdp_book.specs.declared.ticket.Done.{Done}
@@ -15,11 +16,12 @@ use Rattle.fdp_book.specs.Steps.{Completes}
 use Rattle.fdp_flash.specs.declared.cell.Cell.{Cell}
 use Rattle.fdp_isolation.specs.Isolated.{sets_placement, since_setting}
 use Rattle.fdp_isolation.specs.Laned.{AreLaned, IsKnown, IsLaned}
-use Rattle.fdp_isolation.proofs.Entries.{and-false, no, only-placed-host, since-set}
+use Rattle.fdp_isolation.proofs.Entries.{IsQuietStep, and-false, no, only-placed-host, since-set}
 use Rattle.fdp_isolation.proofs.Keeping.{FillsNoMore, FillsNone, TakesNoMore, laned-renewed, laned-still, owners-fill, taken-kept}
 use Rattle.fdp_isolation.proofs.Owning.{KeepsOwners, StoodBehind, book-owners, host-site, stood-other, stood-unmade, stood-written}
 use Rattle.fdp_isolation.proofs.Setting.{generation-set, set-unwritten}
 use Rattle.fdp_book.proofs.fdp_locations.Grouped.{generation-next}
+use Rattle.fdp_owners.specs.declared.owner.Owner.{Owner}
 use Rattle.fdp_owners.specs.OwnerTable.{owner_at}
 use Rattle.fdp_book.specs.fdp_pages.Steps.{ChangesOwners}
 use Rattle.fdp_pointers.specs.Contents.{content_at}
@@ -60,7 +62,7 @@ unset-write (commands.Other o) reply write = absurd (no (sym write))
 
 module _ (old new : BookSeen) (queue number : ℕ) (command : Command) (reply : Reply) (moment : ℕ) (done : Done) (cells : List Cell) (known : IsKnown old) (led : IsLed new)
     (completes : Completes old new [] queue number command reply moment done) where
-  abbrev ended : Entry
+  abbrev pub ended : Entry
   ended = entries.Host (record { queue = queue; number = number; command = command; reply = reply; moment = moment })
 
   abbrev pub Stood : Type 0
@@ -73,25 +75,35 @@ module _ (old new : BookSeen) (queue number : ℕ) (command : Command) (reply : 
   placed h = subst HasOnlyPlaced (sym point) (only-placed-host old.config (point_in old) queue number command reply moment h)
 
   -- what stands behind the pointers stood there before: so no page has an owner that had none
-  taken : Stood → TakesNoMore old.pages new.pages old.entries new.entries
-  taken behind =
+  owned-before : Stood → (spot : Spot) (x : Owner) → owner_at new.pages.owners spot ≡ Some x → (y : Owner) × (owner_at old.pages.owners spot ≡ Some y)
+  owned-before behind spot x owned =
       let sites : (point_in new).trail.site ≡ (point_in old).trail.site = ap (λ (p : Point). p.trail.site) point ∙ host-site old.config (point_in old) queue number command reply moment in
       let stood : StoodBehind (content_at old.config (state_in old)) (content_at old.config (state_in new)) =
       subst (λ (p : Point). StoodBehind (content_at old.config (state_in old)) (content_at old.config p.state)) (sym point) behind in
       let keeps : KeepsOwners (owner_at old.pages.owners) (owner_at new.pages.owners) = book-owners old new known.led led completes.step.config_is (written-one old new ended completes.step) sites stood in
-      taken-kept old new (ended ∷ []) completes.step (λ spot x owned. let was = keeps spot x owned in (was.0, was.1)) (λ unit. refl)
+      let was = keeps spot x owned in
+      (was.0, was.1)
+
+  taken : Stood → TakesNoMore old.pages new.pages old.entries new.entries
+  taken behind = taken-kept old new (ended ∷ []) completes.step (owned-before behind) (λ unit. refl)
 
   -- ---- no other configuration comes in force
+
+  generation : IsUnset command reply → (state_in new).generation ≡ (state_in old).generation
+  generation unset = ap (λ (p : Point). p.state.generation) point ∙ generation-next old.config (point_in old) ended unset
+
+  quiet-ended : IsUnset command reply → HasOnlyPlaced (point_in old) → IsQuietStep old new (ended ∷ [])
+  quiet-ended unset was = record {
+    longer = completes.step;
+    quiet = ap (λ (b : Bool). b || false) unset;
+    generation = generation unset;
+    placed = placed was;
+  }
 
   pub laned-ended : FillsNoMore old.pages new.pages → IsUnset command reply → Stood → AreLaned old cells → AreLaned new cells
   laned-ended fills unset behind h =
       laned-still old new (ended ∷ []) cells cells
-      (record {
-        longer = completes.step;
-        quiet = ap (λ (b : Bool). b || false) unset;
-        generation = ap (λ (p : Point). p.state.generation) point ∙ generation-next old.config (point_in old) ended unset;
-        placed = placed h.placed;
-      })
+      (quiet-ended unset h.placed)
       fills (taken behind) (λ unit lies page spare bytes low is. is) (λ unit. refl) h
 
   -- a command was answered that changes nothing
@@ -99,6 +111,16 @@ module _ (old new : BookSeen) (queue number : ℕ) (command : Command) (reply : 
   laned-answered changes unmade =
       laned-ended (owners-fill old.pages new.pages changes) (unset-unmade command reply unmade)
       (stood-unmade old.config (point_in old) queue number command reply moment known.orderly.state unmade)
+
+  -- its entry puts no other configuration in force, and no page gets an owner
+  pub answered-quiet : reply.applied ≡ false → HasOnlyPlaced (point_in old) → IsQuietStep old new (ended ∷ [])
+  answered-quiet unmade was = quiet-ended (unset-unmade command reply unmade) was
+
+  pub answered-generation : reply.applied ≡ false → (state_in new).generation ≡ (state_in old).generation
+  answered-generation unmade = generation (unset-unmade command reply unmade)
+
+  pub answered-owned : reply.applied ≡ false → (spot : Spot) (x : Owner) → owner_at new.pages.owners spot ≡ Some x → (y : Owner) × (owner_at old.pages.owners spot ≡ Some y)
+  answered-owned unmade = owned-before (stood-unmade old.config (point_in old) queue number command reply moment known.orderly.state unmade)
 
   -- a command was made that is neither a write nor a setting, whatever its status
   pub laned-commanded : FillsNoMore old.pages new.pages → is_write command ≡ false → is_setting command ≡ false → AreLaned old cells → AreLaned new cells

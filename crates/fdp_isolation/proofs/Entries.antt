@@ -58,7 +58,7 @@ since-more (e ∷ es) more quiet =
       cases rest true = rest
       cases rest false = refl
 
-or-true : (a b : Bool) → b ≡ true → (a || b) ≡ true
+pub or-true : (a b : Bool) → b ≡ true → (a || b) ≡ true
 or-true true b e = refl
 or-true false b e = e
 

@@ -10,18 +10,13 @@ use Rattle.fdp_base.specs.declared.entry.Entry.TheVariants as entries
 use Rattle.fdp_base.specs.declared.entry.Host.{Host}
 use Rattle.fdp_base.proofs.Entries.{by-host}
 use Rattle.fdp_image.specs.Kept.{IsBeginning}
+use Rattle.fdp_isolation.specs.Stays.{IsSameSetting}
 use Rattle.fdp_rules.specs.Change.{after, changed_by}
 use Rattle.fdp_rules.specs.Effect.{effect_of}
 use Rattle.fdp_rules.specs.History.{Found, state_of}
 use Rattle.fdp_rules.specs.PlainState.{PlainState}
 use Rattle.fdp_rules.proofs.Effects.{by-effect}
 use Rattle.fdp_rules.proofs.LastWrites.{keeps_data}
-
--- the same configuration is in force, with the same generation
-pub record IsSameSetting (old new : PlainState) : Type 0 where
-  pub enabled : new.enabled ≡ old.enabled
-  pub index : new.index ≡ old.index
-  pub generation : new.generation ≡ old.generation
 
 -- the same is in force, or the next generation
 abbrev SetsNext : PlainState → PlainState → Type 0

@@ -21,3 +21,4 @@ pub mod LeftByRelocation
 pub mod Generations
 pub mod Stopped
 pub mod Readings
+pub mod Later

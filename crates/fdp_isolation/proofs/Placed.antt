@@ -54,7 +54,7 @@ use Rattle.fdp_rules.specs.Point.{Point}
 use Rattle.fdp_rules.specs.Sites.{group_of}
 use Rattle.fdp_book.proofs.fdp_trails.Moving.{owner-there}
 use Rattle.fdp_rules.specs.Step.{Follows, IsPlaced}
-use Rattle.fdp_book.proofs.Longer.{point-two, written-two}
+use Rattle.fdp_book.proofs.Longer.{point-one, point-two, written-two}
 
 -- ---- the next page of a write
 
@@ -150,7 +150,23 @@ laned-placed old new ticket g w spot last bytes cells now kept led is write next
     taken
     (λ other put. ⊎_elim inl (λ (here : IsTrue (spot.unit == other)). inr (sym (eqb-true spot.unit other here))) (put-cases other (since_setting old.entries) e put)))
 
+-- the generation stays
+pub placed-generation : (old new : BookSeen) (ticket : Ticket) (g : Going) (spot : Spot) (last : Bool) → Places old new ticket g spot last → (state_in new).generation ≡ (state_in old).generation
+placed-generation old new ticket g spot last places =
+    let e : Entry = entries.Placed (record { ticket = ticket.position; index = g.placed; unit = spot.unit; page = spot.page }) in
+    ap (λ (p : Point). p.state.generation) (point-one old new e places.step) ∙ generation-next old.config (point_in old) e refl
+
 -- ---- its program failed
+
+-- the generation stays
+pub shut-generation : (old new : BookSeen) (ticket : Ticket) (g : Going) (spot : Spot) (status : Status) (moment : ℕ) (done : Done) → ShutsAndEnds old new ticket g spot status moment done → (state_in new).generation ≡ (state_in old).generation
+shut-generation old new ticket g spot status moment done shuts =
+    let c : DriveConfig = old.config in
+    let a : Entry = entries.Shut (record { rg = g.rg; ruh = g.ruh }) in
+    let b : Entry = entries.Host (record { queue = ticket.queue; number = g.number; command = g.command; reply = bare status false; moment = moment }) in
+    ap (λ (p : Point). p.state.generation) (point-two old new a b shuts.completes.step)
+    ∙ generation-next c (after_entry c (point_in old) a) b (and-false (is_setting g.command))
+    ∙ generation-next c (point_in old) a refl
 
 pub laned-shut : (old new : BookSeen) (ticket : Ticket) (g : Going) (w : Write) (spot : Spot) (status : Status) (moment : ℕ) (done : Done) (bytes : List ℕ) (cells now : List Cell) → StandsOver old cells → IsLed new
     → IsTicketOf (state_in old) ticket g → write_of g.command ≡ Some w → IsNextSpot old ticket g spot → ShutsAndEnds old new ticket g spot status moment done
@@ -167,7 +183,7 @@ laned-shut old new ticket g w spot status moment done bytes cells now kept led i
     let point : point_in new ≡ after_entry c middle b = point-two old new a b longer in
     let unmade : sets_placement b ≡ false = and-false (is_setting g.command) in
     let quiet : AreQuiet (a ∷ b ∷ []) = ap (λ (x : Bool). x || false) unmade in
-    let generation : (state_in new).generation ≡ (state_in old).generation = ap (λ (p : Point). p.state.generation) point ∙ generation-next c middle b unmade ∙ generation-next c (point_in old) a refl in
+    let generation : (state_in new).generation ≡ (state_in old).generation = shut-generation old new ticket g spot status moment done shuts in
     let placed : HasOnlyPlaced (point_in new) =
     subst HasOnlyPlaced (sym point) (only-placed-host c middle ticket.queue g.number g.command reply moment (only-placed-next true c (point_in old) a kept.known.orderly (shuts.follows true) h.placed)) in
     let sites : (point_in new).trail.site ≡ (point_in old).trail.site = ap (λ (p : Point). p.trail.site) point ∙ host-site c middle ticket.queue g.number g.command reply moment ∙ shut-site c (point_in old) s in

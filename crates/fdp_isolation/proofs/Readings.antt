@@ -35,7 +35,8 @@ use Rattle.fdp_isolation.specs.Begun.{OpenedApart}
 use Rattle.fdp_isolation.specs.Isolated.{IsIsolatedDrive, has_live, since_setting}
 use Rattle.fdp_isolation.specs.Reads.{ReadsApart}
 use Rattle.fdp_isolation.proofs.Found.{found-isolates}
-use Rattle.fdp_isolation.proofs.Generations.{IsSameSetting, beginning-setting}
+use Rattle.fdp_isolation.specs.Stays.{IsSameSetting}
+use Rattle.fdp_isolation.proofs.Generations.{beginning-setting}
 use Rattle.fdp_isolation.proofs.Stopped.{LeavesApart, PutsNone, PutsOne, isolated-as, isolated-kept, way-isolated}
 use Rattle.fdp_base.specs.EntryKinds.{puts_into}
 use Rattle.fdp_pointers.proofs.Rows.{any-found}

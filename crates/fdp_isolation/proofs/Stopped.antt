@@ -36,7 +36,7 @@ use Rattle.fdp_image.specs.Roomy.{page_in}
 use Rattle.fdp_image.specs.Saving.{SameDataPages}
 use Rattle.fdp_isolation.specs.Isolated.{IsIsolatedDrive}
 use Rattle.fdp_isolation.specs.Laned.{AreLaned, StandsOver}
-use Rattle.fdp_isolation.proofs.Generations.{IsSameSetting}
+use Rattle.fdp_isolation.specs.Stays.{IsSameSetting}
 use Rattle.fdp_isolation.proofs.Keeping.{GoesWay}
 use Rattle.fdp_isolation.proofs.Pages.{KeepsPages, each-kept, each-weaker, erase-keeps, program-others}
 use Rattle.fdp_isolation.proofs.Placed.{next-pages, next-write}

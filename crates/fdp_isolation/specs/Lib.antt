@@ -5,3 +5,4 @@ pub mod Laned
 pub mod Alone
 pub mod Begun
 pub mod Reads
+pub mod Stays

@@ -1,5 +1,5 @@
 -- What is safe stays so behind a saving, and a stop within it loses nothing.
-use Rattle.std.proofs.Common.{◌≡◌, ◌≢◌, ℕ, ◌+◌, ◌≤◌, Bool, true, false, IsTrue, List, [], ◌∷◌, ◌++◌, length, refl, sym, ◌∙◌, ap, subst, arith}
+use Rattle.std.proofs.Common.{◌≡◌, ◌≢◌, ℕ, ◌+◌, ◌<◌, ◌≤◌, Bool, true, false, IsTrue, List, [], ◌∷◌, ◌++◌, length, refl, sym, ◌∙◌, ap, subst, arith}
 use Rattle.std.specs.Prelude.{IsFalse}
 use Rattle.fdp_base.specs.declared.config.DriveConfig.{DriveConfig}
 use Rattle.fdp_base.specs.declared.entry.Entry.{Entry}
@@ -121,6 +121,19 @@ checkpoint-same c f es t s now firm old new answer was saved told = let h = was.
 
 pub settling-same : (c : DriveConfig) (f : Found) (es : List Entry) (t : UnitTable) (s now : JournalState) (firm : ℕ) (old new : FlashState) (answer : Wrote) → IsSafeAt c f es t s firm old → SettlesDrive c f es s now old new answer → IsTrue old.told → SameDataPages c old.cells new.cells
 settling-same c f es t s now firm old new answer was saved told = let h = was.durable told in ((saved.stops h.own h.tried (λ again. h.say)).cells told).data_pages_same
+
+-- nor does a stop within it
+pub saving-stopped : (c : DriveConfig) (f : Found) (es : List Entry) (e : Entry) (t : UnitTable) (s now : JournalState) (firm : ℕ) (old new : FlashState) (answer : Saved) → IsSafeAt c f es t s firm old → SavesEntry c f es e s now old new answer → IsTrue old.told
+    → (m : ℕ) (image : List Cell) → old.moment < m → m ≤ new.moment → new.during m image → SameDataPages c old.cells image
+saving-stopped c f es e t s now firm old new answer was saved told m image above most during = let h = was.durable told in ((saved.stops h.own h.tried (λ again. h.say)).run.images told m image above most during).data_pages_same
+
+pub checkpoint-stopped : (c : DriveConfig) (f : Found) (es : List Entry) (t : UnitTable) (s now : JournalState) (firm : ℕ) (old new : FlashState) (answer : Wrote) → IsSafeAt c f es t s firm old → SavesDrive c f es s now old new answer → IsTrue old.told
+    → (m : ℕ) (image : List Cell) → old.moment < m → m ≤ new.moment → new.during m image → SameDataPages c old.cells image
+checkpoint-stopped c f es t s now firm old new answer was saved told m image above most during = let h = was.durable told in ((saved.stops h.own h.tried (λ again. h.say)).run.images told m image above most during).data_pages_same
+
+pub settling-stopped : (c : DriveConfig) (f : Found) (es : List Entry) (t : UnitTable) (s now : JournalState) (firm : ℕ) (old new : FlashState) (answer : Wrote) → IsSafeAt c f es t s firm old → SettlesDrive c f es s now old new answer → IsTrue old.told
+    → (m : ℕ) (image : List Cell) → old.moment < m → m ≤ new.moment → new.during m image → SameDataPages c old.cells image
+settling-stopped c f es t s now firm old new answer was saved told m image above most during = let h = was.durable told in ((saved.stops h.own h.tried (λ again. h.say)).run.images told m image above most during).data_pages_same
 
 -- ---- the whole drive
 

@@ -200,7 +200,7 @@ placed-page c p ticket index unit page h = h
 next-within : (b : BookSeen) (ticket : Ticket) (g : Going) (spot : Spot) → IsNextSpot b ticket g spot → IsPage b.config spot
 next-within b ticket g spot goes = (placed-page b.config (point_in b) ticket.position g.placed spot.unit spot.page (goes.follows true)).spot
 
-next-blank : (b : BookSeen) (ticket : Ticket) (g : Going) (spot : Spot) (old : FlashState) → old.geometry ≡ geometry_of b.config → HoldsBook b old → IsNextSpot b ticket g spot → IsTrue old.told → slice_get old.cells (page_number old.geometry spot) ≡ Some Blank
+pub next-blank : (b : BookSeen) (ticket : Ticket) (g : Going) (spot : Spot) (old : FlashState) → old.geometry ≡ geometry_of b.config → HoldsBook b old → IsNextSpot b ticket g spot → IsTrue old.told → slice_get old.cells (page_number old.geometry spot) ≡ Some Blank
 next-blank b ticket g spot old geometry stored goes told =
     let size : old.geometry.unit_pages ≡ b.config.unit_pages = ap (λ (x : Geometry). x.unit_pages) geometry in
     let inside = (next-within b ticket g spot goes).1 in
@@ -235,7 +235,7 @@ module _ (b : BookSeen) (ticket : Ticket) (g : Going) (spot : Spot) (spare bytes
   there image left = subst (λ (x : Geometry). ProgramMayLeave x old.cells spot spare bytes image) geometry left
 
   -- whatever the program left, it put the page where its handle's are
-  page-left : (image : List Cell) → IsTrue old.told → OpenedApart b.config b.found b.opened → ProgramMayLeave old.geometry old.cells spot spare bytes image → LeavesApart b.config (state_in b) old.cells image
+  pub page-left : (image : List Cell) → IsTrue old.told → OpenedApart b.config b.found b.opened → ProgramMayLeave old.geometry old.cells spot spare bytes image → LeavesApart b.config (state_in b) old.cells image
   page-left image told opened left =
       let w = spare-of b g spare named in
       write-left b ticket g w.0 spot bytes old.cells image (stands-over b old order.known geometry stored told) is goes

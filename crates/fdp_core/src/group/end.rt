@@ -7,7 +7,7 @@ ghost use Rattle.fdp_core.specs.Ending.{Ends, MayEnd};
 ghost use Rattle.fdp_rules.specs.Answer.{bare};
 ghost use Rattle.fdp_rules.specs.Change.{is_media_error, is_status};
 ghost use Rattle.fdp_base.specs.declared.status.TheConstants.Status as statuses;
-ghost use Rattle.fdp_core.specs.Stops.{IsSafeNow, Outlasts, OutlastsStops};
+ghost use Rattle.fdp_core.specs.Stops.{IsSafeNow, Outlasts, OutlastsStops, UsesNoMore};
 ghost use Rattle.fdp_rules.specs.PlainState.{Going};
 
 use super::Group;
@@ -38,6 +38,7 @@ impl<F: Flash> Group<F> {
         requires may { (g : Going) → IsTicketOf (state_in self.old.book) ticket g → MayEnd F.state self.old g status }
         ensures step { (g : Going) → IsTicketOf (state_in self.old.book) ticket g → Ends F.state self.old self.new ticket g status result }
         ensures stops { Outlasts F.state self.old self.new }
+        ensures uses { UsesNoMore self.old.book self.new.book (F.state self.old.flash) }
         ensures safe { IsSafeNow (F.state self.new.flash) self.new.book self.new.keeper }
     {
         let moment = self.flash.moment();

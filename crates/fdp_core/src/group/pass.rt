@@ -1,7 +1,7 @@
 ghost use Rattle.std.specs.Prelude.{◌+◌, ◌≤◌, ◌<◌, IsTrue, length};
 ghost use Rattle.fdp_core.specs.Passes.{EndsPass, EndsRest, MayBeginPass, MayEndPass};
 ghost use Rattle.fdp_core.specs.Seen.{Stands, stage_of};
-ghost use Rattle.fdp_core.specs.Stops.{IsSafeNow, Outlasts};
+ghost use Rattle.fdp_core.specs.Stops.{IsSafeNow, Outlasts, RetainsBehind};
 ghost use Rattle.fdp_loading.specs.fdp_isolation.Laned.{IsKnown};
 ghost use Rattle.fdp_relocation.specs.fdp_pages.PageTables.{passes_at};
 ghost use Rattle.fdp_passes.specs.declared.due.Due.TheVariants.{Move};
@@ -73,6 +73,7 @@ impl<F: Flash> Group<F> {
         ensures collects { Collects F.state (stage_of self.old) (stage_of self.new) rg result }
         ensures told { TellsMore F.state self.old self.new rg result }
         ensures stops { Outlasts F.state self.old self.new }
+        ensures retains { RetainsBehind self.old.book (F.state self.old.flash) (F.state self.new.flash) result }
         ensures safe { IsSafeNow (F.state self.new.flash) self.new.book self.new.keeper }
         ensures epochs { self.new.keeper.saver.stamp.epoch + length self.old.book.entries ≤ self.old.keeper.saver.stamp.epoch + length self.new.book.entries }
         ensures old { Stands (F.state self.old.flash) self.old.book }

@@ -3,9 +3,10 @@ use Rattle.std.specs.Prelude.{IsTrue}
 use Rattle.fdp_core.specs.Advancing.{Advances, TellsMore}
 use Rattle.fdp_core.specs.Seen.{Seen, Stands, stage_of}
 use Rattle.fdp_core.specs.Sound.{IsKept, IsSound}
-use Rattle.fdp_core.specs.Stops.{Outlasts}
+use Rattle.fdp_core.specs.Stops.{Outlasts, RetainsBehind}
 use Rattle.fdp_core.proofs.Advancing.{advanced, told-more}
 use Rattle.fdp_core.proofs.Collected.{firm-collected, kept-collected, relocation-none, survives-collected}
+use Rattle.fdp_core.proofs.IsolatedSteps.{keeps-collected, retains-collected}
 use Rattle.fdp_core.proofs.Outlasting.{outlasts-part}
 use Rattle.fdp_core.proofs.Placing.{filled-buffer}
 use Rattle.fdp_core.proofs.Relocated.{sound-collected, told-collected}
@@ -103,7 +104,16 @@ returns-clause-stops g c =
     (firm-collected g.F.Flash.state (stage_of (old g c)) (stage_of (new g c)) c.args.rg c.self.inside.handed (order g c) c.self.invariant.sound.geometry c.self.invariant.sound.stored c.self.invariant.sound.apart c.self.invariant.kept (low g c) (then-order g c) (stored g c) (then-isolated g c) (low-now g c)
     c.collect-advance.ensures.keeper c.collect-advance.result c.collect-advance.ensures.step)
     refl
-    (leaves-collected g.F.Flash.state (stage_of (old g c)) (stage_of (new g c)) c.args.rg c.self.inside.handed c.self.inside.block.items (order g c) c.self.invariant (then-order g c).known (sound g c).room c.collect-advance.result c.collect-advance.ensures.step))
+    (leaves-collected g.F.Flash.state (stage_of (old g c)) (stage_of (new g c)) c.args.rg c.self.inside.handed c.self.inside.block.items (order g c) c.self.invariant (then-order g c).known (sound g c).room c.collect-advance.result c.collect-advance.ensures.step)
+    (keeps-collected g.F.Flash.state (stage_of (old g c)) (stage_of (new g c)) c.args.rg (order g c).known (then-order g c).known (low g c) c.self.invariant.sound.geometry c.self.invariant.sound.stored c.self.invariant.sound.apart c.self.invariant.kept.safe
+    (record { enabled = a.relocates.kept.enabled; index = a.relocates.kept.index; generation = a.relocates.kept.generation }) c.collect-advance.result c.collect-advance.ensures.step))
+
+pub returns-clause-retains : goal.returns-clause-retains
+returns-clause-retains g c =
+    let a = advances g c in
+    subst (λ (s : Seen g.row.F.Denot). RetainsBehind s.book (g.F.Flash.state s.flash) (g.F.Flash.state c.collect-advance.new.flash) c.collect-advance.result) c.self.view_is
+    (retains-collected g.F.Flash.state (stage_of (old g c)) (stage_of (new g c)) c.args.rg (order g c).known (then-order g c).known (low g c) c.self.invariant.sound.geometry c.self.invariant.sound.stored c.self.invariant.sound.apart c.self.invariant.kept.safe
+    (record { enabled = a.relocates.kept.enabled; index = a.relocates.kept.index; generation = a.relocates.kept.generation }) c.collect-advance.result c.collect-advance.ensures.step)
 
 pub returns-clause-safe : goal.returns-clause-safe
 returns-clause-safe g c = record { safe = (kept g c).safe; isolated = then-isolated g c }

@@ -6,7 +6,7 @@ use Rattle.fdp_core.specs.Answers as answers
 use Rattle.fdp_core.specs.Seen.{Seen, stage_of}
 use Rattle.fdp_core.specs.Sound.{IsWhole}
 use Rattle.fdp_core.specs.Steps.{IsGrown}
-use Rattle.fdp_core.specs.Stops.{OutlastsStops}
+use Rattle.fdp_core.specs.Stops.{IsIsolatedBy, OutlastsStops}
 use Rattle.fdp_core.proofs.Collecting.{cancelled, cancelled-epochs, collect-stops, collected, from-begun, grown-cancelled, grown-kept, may-still, sound-cancelled}
 use Rattle.fdp_core.proofs.Kept.{kept-alike}
 use Rattle.fdp_core.proofs.Rooms.{begun_seen}
@@ -50,8 +50,8 @@ is-mid state old mid new now rg x is step told handed flash pages same grown =
     collected state old mid new rg handed flash pages same x a (from-begun old now (λ s. TellsMore state s mid rg x) is told) (grown a)
 
 -- a flash that is the same one is counted as the same
-stops-mid : {F : Type 0} (state : F → FlashState) (old mid new : Seen F) → new.keeper ≡ mid.keeper → new.flash ≡ mid.flash → new.book.entries ≡ mid.book.entries → OutlastsStops state old mid → OutlastsStops state old new
-stops-mid {F} state old mid new keeper flash entries_are h = record {
+stops-mid : {F : Type 0} (state : F → FlashState) (old mid new : Seen F) → new.keeper ≡ mid.keeper → new.flash ≡ mid.flash → new.book ≡ cancelled mid.book → OutlastsStops state old mid → OutlastsStops state old new
+stops-mid {F} state old mid new keeper flash book h = record {
   stops =
       subst (λ (x : F). IsStopSafe old.book.config old.book.found new.book.entries old.keeper.firm new.keeper.firm (state old.flash) (state x)) (sym flash)
       (subst (λ (k : KeeperSeen). IsStopSafe old.book.config old.book.found new.book.entries old.keeper.firm k.firm (state old.flash) (state mid.flash)) (sym keeper)
@@ -61,9 +61,14 @@ stops-mid {F} state old mid new keeper flash entries_are h = record {
   apart = λ opened.
       subst (λ (x : F). IsStopApart old.book.config old.book.found new.book.entries (length old.book.entries) (state old.flash) (state x)) (sym flash)
       (subst (λ (es : List Entry). IsStopApart old.book.config old.book.found es (length old.book.entries) (state old.flash) (state mid.flash)) (sym entries_are) (h.apart opened));
+  isolated = λ opened.
+      subst (λ (x : F). Runs (state old.flash) (state x) (λ m image. IsIsolatedBy new.book image)) (sym flash)
+      (subst (λ (b : BookSeen). Runs (state old.flash) (state mid.flash) (λ m image. IsIsolatedBy b image)) (sym book) (h.isolated opened));
   more = subst (λ (k : KeeperSeen). old.keeper.firm ≤ k.firm) (sym keeper) h.more;
   firm = subst (λ (k : KeeperSeen). AreFirm new.book.entries k.firm) (sym keeper) (subst (λ (es : List Entry). AreFirm es mid.keeper.firm) (sym entries_are) h.firm);
-}
+} where
+  entries_are : new.book.entries ≡ mid.book.entries
+  entries_are = ap (λ (b : BookSeen). b.entries) book
 
 pub invariant_of-self-then-has_added_nothing : goal.invariant_of-self-then-has_added_nothing
 invariant_of-self-then-has_added_nothing g c =
@@ -109,7 +114,7 @@ returns-then-has_added_nothing-clause-stops g c =
     let old : Seen g.row.F.Denot = record { book = inside.book; keeper = inside.keeper; handed = inside.handed; flash = inside.flash } in
     let new : Seen g.row.F.Denot = record { book = c.cancel.new.self; keeper = c.self-2.inside.keeper; handed = c.self-2.inside.handed; flash = c.self-2.inside.flash } in
     subst (λ (s : Seen g.row.F.Denot). OutlastsStops state s new) c.self.view_is
-    (stops-mid state old mid new (ap (λ (s : Seen g.row.F.Denot). s.keeper) c.self-2.view_is) (ap (λ (s : Seen g.row.F.Denot). s.flash) c.self-2.view_is) (ap (λ (b : BookSeen). b.entries) c.cancel.ensures ∙ ap (λ (s : Seen g.row.F.Denot). s.book.entries) c.self-2.view_is)
+    (stops-mid state old mid new (ap (λ (s : Seen g.row.F.Denot). s.keeper) c.self-2.view_is) (ap (λ (s : Seen g.row.F.Denot). s.flash) c.self-2.view_is) (c.cancel.ensures ∙ ap cancelled (ap (λ (s : Seen g.row.F.Denot). s.book) c.self-2.view_is))
     (collect-stops state old mid c.begin.new.self c.begin.ensures c.advance-advance.ensures.stops c.self.invariant.kept.safe c.advance-advance.ensures.safe))
 
 -- ---- an entry was added

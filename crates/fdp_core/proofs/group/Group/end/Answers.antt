@@ -5,7 +5,10 @@ use Rattle.fdp_relocation.specs.fdp_book.Tickets.{IsTicketOf}
 use Rattle.fdp_core.specs.Ending.{Ends, MayEnd}
 use Rattle.fdp_core.specs.Seen.{Seen}
 use Rattle.fdp_core.specs.Sound.{IsKept}
-use Rattle.fdp_core.specs.Stops.{Outlasts}
+use Rattle.fdp_core.specs.Stops.{Outlasts, UsesNoMore}
+use Rattle.fdp_core.proofs.Isolating.{data-none, part-data}
+use Rattle.fdp_loading.proofs.fdp_isolation.Answered.{answered-generation, answered-owned, answered-quiet}
+use Rattle.fdp_loading.proofs.fdp_isolation.Later.{isolated-later, setting-later}
 use Rattle.fdp_core.proofs.Ends.{no-read, sound-ended}
 use Rattle.fdp_core.proofs.Grown.{host}
 use Rattle.fdp_core.proofs.Refusals.{uncompleted}
@@ -69,7 +72,28 @@ returns-clause-stops g c =
     let new : Seen g.row.F.Denot = record { book = c.end-done.new.self; keeper = inside.keeper; handed = inside.handed; flash = inside.flash } in
     subst (λ (s : Seen g.row.F.Denot). Outlasts g.F.Flash.state s new) c.self.view_is
     (outlasts-entry g.F.Flash.state old new (host c.args.ticket.queue k.going.number k.going.command (bare c.args.status false) (g.F.Flash.state inside.flash).moment) (completed g c k.going (here g c)).step
-    (uncompleted k.going.command (bare c.args.status false) c.requires.failed) (survives-uncalled inside.book inside.keeper.firm (length inside.book.entries) (g.F.Flash.state inside.flash)) (omega arith) refl (leaves-uncalled inside.handed (g.F.Flash.state inside.flash) inside.book))
+    (uncompleted k.going.command (bare c.args.status false) c.requires.failed) (survives-uncalled inside.book inside.keeper.firm (length inside.book.entries) (g.F.Flash.state inside.flash)) (omega arith) refl (leaves-uncalled inside.handed (g.F.Flash.state inside.flash) inside.book)
+    (part-data inside.book new.book (g.F.Flash.state inside.flash) (g.F.Flash.state inside.flash) (completed g c k.going (here g c)).step.config_is
+    (setting-later inside.book new.book _ (completed g c k.going (here g c)).step
+    (answered-generation inside.book new.book c.args.ticket.queue k.going.number k.going.command (bare c.args.status false) (g.F.Flash.state inside.flash).moment c.end-done.result (g.F.Flash.state inside.flash).cells (order g c).known c.known-2.ensures.led (completed g c k.going (here g c)) refl))
+    (data-none inside.book.config (g.F.Flash.state inside.flash))))
+
+-- no unit comes into use by it
+pub returns-clause-uses : goal.returns-clause-uses
+returns-clause-uses g c =
+    let inside = c.self.inside in
+    let k = c.requires.going in
+    subst (λ (s : Seen g.row.F.Denot). UsesNoMore s.book c.end-done.new.self (g.F.Flash.state s.flash)) c.self.view_is
+    (λ told opened cells.
+    let ends = completed g c k.going (here g c) in
+    let f = g.F.Flash.state inside.flash in
+    let laned = c.self.invariant.sound.apart told opened in
+    isolated-later inside.book c.end-done.new.self _ (order g c).known
+    (record { config = c.known-2.ensures.config; orderly = c.known-2.ensures.orderly; units = c.known-2.ensures.units; joined = c.known-2.ensures.joined; led = c.known-2.ensures.led; generation = c.known-2.ensures.generation })
+    laned.placed
+    (answered-quiet inside.book c.end-done.new.self c.args.ticket.queue k.going.number k.going.command (bare c.args.status false) f.moment c.end-done.result f.cells (order g c).known c.known-2.ensures.led ends refl laned.placed)
+    (λ unit. refl)
+    (answered-owned inside.book c.end-done.new.self c.args.ticket.queue k.going.number k.going.command (bare c.args.status false) f.moment c.end-done.result f.cells (order g c).known c.known-2.ensures.led ends refl) cells)
 
 pub returns-clause-safe : goal.returns-clause-safe
 returns-clause-safe g c =

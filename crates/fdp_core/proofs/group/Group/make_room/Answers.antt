@@ -11,7 +11,7 @@ use Rattle.fdp_core.specs.Seen.{Seen}
 use Rattle.fdp_core.specs.Sound.{IsWhole}
 use Rattle.fdp_core.specs.Stops.{Outlasts, OutlastsStops}
 use Rattle.fdp_core.proofs.Collecting.{from-begun}
-use Rattle.fdp_core.proofs.Outlasting.{outlasts-all, outlasts-joined}
+use Rattle.fdp_core.proofs.Outlasting.{outlasts-all, outlasts-before}
 use Rattle.fdp_core.proofs.Wholes.{unbegun, whole-begun}
 use Rattle.fdp_core.proofs.Rooms.{begun_seen, crowded-may, ends-crowded, ends-in-pass, ends-starved, failed-may, makes-room, starved-may}
 use Rattle.fdp_core.proofs.Sound.{begun}
@@ -155,18 +155,18 @@ returns-in-Nothing-clause-stops g c =
     let inside = c.self.inside in
     let old : Seen g.row.F.Denot = record { book = inside.book; keeper = inside.keeper; handed = inside.handed; flash = inside.flash } in
     subst (λ (s : Seen g.row.F.Denot). OutlastsStops g.F.Flash.state s c.end.new.self) c.self.view_is
-    (unbegun g.F.Flash.state old c.end.new.self (outlasts-all g.F.Flash.state (begun_seen old) c.end.new.self c.self.invariant.kept.safe.at.firm_is c.end.ensures.safe (outlasts-joined g.F.Flash.state (begun_seen old) c.make_pass.new.self c.end.new.self (from-begun old c.begin.new.self (λ s. Outlasts g.F.Flash.state s c.make_pass.new.self) c.begin.ensures c.in-Nothing.ensures.stops) c.end.ensures.stops)))
+    (unbegun g.F.Flash.state old c.end.new.self (outlasts-all g.F.Flash.state (begun_seen old) c.end.new.self c.self.invariant.kept.safe.at.firm_is c.end.ensures.safe (outlasts-before g.F.Flash.state (begun_seen old) c.make_pass.new.self c.end.new.self (from-begun old c.begin.new.self (λ s. Outlasts g.F.Flash.state s c.make_pass.new.self) c.begin.ensures c.in-Nothing.ensures.stops) c.end.ensures.stops c.in-Nothing.ensures.safe c.end.ensures.uses)))
 
 pub returns-in-Starved-clause-stops : goal.returns-in-Starved-clause-stops
 returns-in-Starved-clause-stops g c =
     let inside = c.self.inside in
     let old : Seen g.row.F.Denot = record { book = inside.book; keeper = inside.keeper; handed = inside.handed; flash = inside.flash } in
     subst (λ (s : Seen g.row.F.Denot). OutlastsStops g.F.Flash.state s c.end-in-Starved.new.self) c.self.view_is
-    (unbegun g.F.Flash.state old c.end-in-Starved.new.self (outlasts-all g.F.Flash.state (begun_seen old) c.end-in-Starved.new.self c.self.invariant.kept.safe.at.firm_is c.end-in-Starved.ensures.safe (outlasts-joined g.F.Flash.state (begun_seen old) c.make_pass.new.self c.end-in-Starved.new.self (from-begun old c.begin.new.self (λ s. Outlasts g.F.Flash.state s c.make_pass.new.self) c.begin.ensures c.in-Starved.ensures.stops) c.end-in-Starved.ensures.stops)))
+    (unbegun g.F.Flash.state old c.end-in-Starved.new.self (outlasts-all g.F.Flash.state (begun_seen old) c.end-in-Starved.new.self c.self.invariant.kept.safe.at.firm_is c.end-in-Starved.ensures.safe (outlasts-before g.F.Flash.state (begun_seen old) c.make_pass.new.self c.end-in-Starved.new.self (from-begun old c.begin.new.self (λ s. Outlasts g.F.Flash.state s c.make_pass.new.self) c.begin.ensures c.in-Starved.ensures.stops) c.end-in-Starved.ensures.stops c.in-Starved.ensures.safe c.end-in-Starved.ensures.uses)))
 
 pub returns-in-Fault-clause-stops : goal.returns-in-Fault-clause-stops
 returns-in-Fault-clause-stops g c =
     let inside = c.self.inside in
     let old : Seen g.row.F.Denot = record { book = inside.book; keeper = inside.keeper; handed = inside.handed; flash = inside.flash } in
     subst (λ (s : Seen g.row.F.Denot). OutlastsStops g.F.Flash.state s c.end-in-Fault.new.self) c.self.view_is
-    (unbegun g.F.Flash.state old c.end-in-Fault.new.self (outlasts-all g.F.Flash.state (begun_seen old) c.end-in-Fault.new.self c.self.invariant.kept.safe.at.firm_is c.end-in-Fault.ensures.safe (outlasts-joined g.F.Flash.state (begun_seen old) c.make_pass.new.self c.end-in-Fault.new.self (from-begun old c.begin.new.self (λ s. Outlasts g.F.Flash.state s c.make_pass.new.self) c.begin.ensures c.in-Fault.ensures.stops) c.end-in-Fault.ensures.stops)))
+    (unbegun g.F.Flash.state old c.end-in-Fault.new.self (outlasts-all g.F.Flash.state (begun_seen old) c.end-in-Fault.new.self c.self.invariant.kept.safe.at.firm_is c.end-in-Fault.ensures.safe (outlasts-before g.F.Flash.state (begun_seen old) c.make_pass.new.self c.end-in-Fault.new.self (from-begun old c.begin.new.self (λ s. Outlasts g.F.Flash.state s c.make_pass.new.self) c.begin.ensures c.in-Fault.ensures.stops) c.end-in-Fault.ensures.stops c.in-Fault.ensures.safe c.end-in-Fault.ensures.uses)))

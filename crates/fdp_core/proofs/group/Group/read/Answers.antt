@@ -3,6 +3,7 @@ use Rattle.std.specs.Prelude.{IsFalse}
 use Rattle.fdp_base.specs.declared.command.Command.{Command}
 use Rattle.fdp_core.specs.Sound.{IsKept}
 use Rattle.fdp_core.specs.Stops.{OutlastsStops}
+use Rattle.fdp_core.proofs.Isolating.{data-read, leaves-data}
 use Rattle.fdp_core.proofs.Grown.{host}
 use Rattle.fdp_core.proofs.Kept.{kept-begun}
 use Rattle.fdp_core.proofs.Wholes.{answered-kept, entry-stops, order-begun}
@@ -87,5 +88,10 @@ returns-clause-stops g c =
     (sound-isolated old.handed (g.F.Flash.state old.flash) old.book old.block.items (order g c).known c.self.invariant.sound)) c.self.invariant.kept.safe
     (safe-now old.handed (g.F.Flash.state c.read_replies-replies.new.flash) c.complete-done.new.self old.keeper old.block.items
     (record { config = c.known-2.ensures.config; orderly = c.known-2.ensures.orderly; units = c.known-2.ensures.units; joined = c.known-2.ensures.joined; led = c.known-2.ensures.led; generation = c.known-2.ensures.generation })
-    (invariant_of-self g c)) (omega arith) refl
-    (leaves-read old.handed (g.F.Flash.state old.flash) (g.F.Flash.state c.read_replies-replies.new.flash) old.book old.keeper old.block.items (order g c).known c.self.invariant c.read_replies-replies.ensures.read.kept.faults c.read_replies-replies.ensures.read))
+    (invariant_of-self g c)) (omega arith)
+    (leaves-read old.handed (g.F.Flash.state old.flash) (g.F.Flash.state c.read_replies-replies.new.flash) old.book old.keeper old.block.items (order g c).known c.self.invariant c.read_replies-replies.ensures.read.kept.faults c.read_replies-replies.ensures.read)
+    (leaves-data old.book new.book (g.F.Flash.state old.flash) (g.F.Flash.state c.read_replies-replies.new.flash) (completed g c).step.config_is (completed g c).step.found_is (completed g c).step.opened_is
+    (data-read old.book.config (g.F.Flash.state old.flash) (g.F.Flash.state c.read_replies-replies.new.flash) c.read_replies-replies.ensures.read)
+    (sound-isolated old.handed (g.F.Flash.state c.read_replies-replies.new.flash) new.book old.block.items
+    (record { config = c.known-2.ensures.config; orderly = c.known-2.ensures.orderly; units = c.known-2.ensures.units; joined = c.known-2.ensures.joined; led = c.known-2.ensures.led; generation = c.known-2.ensures.generation })
+    (invariant_of-self g c).sound)))

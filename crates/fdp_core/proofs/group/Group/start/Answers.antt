@@ -1,6 +1,7 @@
 use Rattle.std.proofs.Common.{◌≡◌, ◌<◌, ◌∙◌, ap, subst, None, refl, arith, length}
 use Rattle.fdp_core.specs.Sound.{IsKept}
 use Rattle.fdp_core.specs.Stops.{OutlastsStops}
+use Rattle.fdp_core.proofs.Isolating.{leaves-nothing}
 use Rattle.fdp_core.proofs.Kept.{kept-begun}
 use Rattle.fdp_core.proofs.Wholes.{entry-stops, order-begun, started-kept, survives-uncalled}
 use Rattle.fdp_loading.specs.fdp_survival.Books.{IsInOrder}
@@ -67,4 +68,4 @@ returns-in-Write-clause-stops g c =
     (survives-uncalled old.book old.keeper.firm (length old.book.entries) (g.F.Flash.state old.flash)) c.self.invariant.kept.safe
     (safe-now old.handed (g.F.Flash.state old.flash) c.start-ticket.new.self old.keeper old.block.items
     (record { config = c.known-in-Write.ensures.config; orderly = c.known-in-Write.ensures.orderly; units = c.known-in-Write.ensures.units; joined = c.known-in-Write.ensures.joined; led = c.known-in-Write.ensures.led; generation = c.known-in-Write.ensures.generation })
-    (invariant_of-self g c)) (omega arith) refl (leaves-uncalled old.handed (g.F.Flash.state old.flash) old.book))
+    (invariant_of-self g c)) (omega arith) (leaves-uncalled old.handed (g.F.Flash.state old.flash) old.book) (leaves-nothing old.book new.book (g.F.Flash.state old.flash)))

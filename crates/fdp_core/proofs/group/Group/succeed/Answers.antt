@@ -8,6 +8,7 @@ use Rattle.fdp_core.specs.Answers.{EndsAtOnce}
 use Rattle.fdp_core.specs.Seen.{Seen}
 use Rattle.fdp_core.specs.Sound.{IsKept}
 use Rattle.fdp_core.specs.Stops.{OutlastsStops}
+use Rattle.fdp_core.proofs.Isolating.{leaves-nothing}
 use Rattle.fdp_core.proofs.Begins.{IsAnswer, begins-succeeded, sound-succeeded}
 use Rattle.fdp_core.proofs.Ends.{no-read}
 use Rattle.fdp_core.proofs.Grown.{host}
@@ -93,4 +94,4 @@ returns-clause-stops g c =
     (survives-uncalled old.book old.keeper.firm (length old.book.entries) (g.F.Flash.state old.flash)) c.self.invariant.kept.safe
     (safe-now old.handed (g.F.Flash.state old.flash) c.complete-done.new.self old.keeper old.block.items
     (record { config = c.known-2.ensures.config; orderly = c.known-2.ensures.orderly; units = c.known-2.ensures.units; joined = c.known-2.ensures.joined; led = c.known-2.ensures.led; generation = c.known-2.ensures.generation })
-    (invariant_of-self g c)) (omega arith) refl (leaves-uncalled old.handed (g.F.Flash.state old.flash) old.book))
+    (invariant_of-self g c)) (omega arith) (leaves-uncalled old.handed (g.F.Flash.state old.flash) old.book) (leaves-nothing old.book new.book (g.F.Flash.state old.flash)))
