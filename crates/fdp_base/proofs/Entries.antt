@@ -5,16 +5,10 @@ use Rattle.fdp_base.specs.declared.entry.Entry.TheVariants as entries
 use Rattle.fdp_base.specs.declared.entry.Host.{Host}
 use Rattle.fdp_base.specs.declared.entry.Placed.{Placed}
 use Rattle.fdp_base.specs.declared.entry.Started.{Started}
-use Rattle.fdp_base.specs.EntryKinds.{host_of, placed_of, started_of}
-
--- an entry that is neither a completion nor a start nor a placed page
-pub record IsOther (e : Entry) : Type 0 where
-  pub host : host_of e ≡ None
-  pub started : started_of e ≡ None
-  pub placed : placed_of e ≡ None
+use Rattle.fdp_base.specs.EntryKinds.{host_of, placed_of, started_of, ServesNone}
 
 -- what holds of completions, of starts, of placed pages and of the others, holds of every entry
-pub by-entry : (P : Entry → Type 0) → ((h : Host) → P (entries.Host h)) → ((s : Started) → P (entries.Started s)) → ((p : Placed) → P (entries.Placed p)) → ((e : Entry) → IsOther e → P e) → (e : Entry) → P e
+pub by-entry : (P : Entry → Type 0) → ((h : Host) → P (entries.Host h)) → ((s : Started) → P (entries.Started s)) → ((p : Placed) → P (entries.Placed p)) → ((e : Entry) → ServesNone e → P e) → (e : Entry) → P e
 by-entry P host started placed other (entries.Host h) = host h
 by-entry P host started placed other (entries.Started s) = started s
 by-entry P host started placed other (entries.Placed p) = placed p

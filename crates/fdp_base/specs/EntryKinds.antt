@@ -1,5 +1,5 @@
 -- What kind of entry it is.
-use Rattle.std.specs.Prelude.{ℕ, Bool, true, false, ◌==◌, Option, Some, None}
+use Rattle.std.specs.Prelude.{ℕ, Bool, true, false, ◌==◌, Option, Some, None, ◌≡◌}
 use Rattle.std.specs.Option.{option_map_or}
 use Rattle.fdp_base.specs.declared.entry.Entry.{Entry}
 use Rattle.fdp_base.specs.declared.entry.Entry.TheVariants as entries
@@ -49,89 +49,60 @@ placed_of (entries.Shut s) = None
 placed_of (entries.Worn w) = None
 placed_of entries.Reopened = None
 
--- whether an entry tells of a handle that was shut
+-- an entry that serves no host: neither a completion, nor a start, nor a page of a write
+pub record ServesNone (e : Entry) : Type 0 where
+  pub host : host_of e ≡ None
+  pub started : started_of e ≡ None
+  pub placed : placed_of e ≡ None
+
+-- what an entry tells of units, handles and groups
+pub record EntryTold : Type 0 where
+  -- the unit that got a page: a page of it was placed or copied
+  pub filled : Option ℕ
+  -- the unit that was erased
+  pub erased : Option ℕ
+  -- the unit whose erase failed
+  pub retired : Option ℕ
+  -- a unit was lost: its erase failed, or it could not be read
+  pub loses_unit : Bool
+  -- a handle was shut
+  pub shuts : Bool
+  -- a group was worn
+  pub wears : Bool
+
+abbrev pub nothing_told : EntryTold
+nothing_told = record { filled = None; erased = None; retired = None; loses_unit = false; shuts = false; wears = false }
+
+abbrev pub told_by : Entry → EntryTold
+told_by (entries.Host h) = nothing_told
+told_by (entries.Started s) = nothing_told
+told_by (entries.Placed p) = record nothing_told { filled = Some p.unit }
+told_by (entries.Copied c) = record nothing_told { filled = Some c.to.unit }
+told_by (entries.Moved m) = nothing_told
+told_by (entries.Erased e) = record nothing_told { erased = Some e.unit }
+told_by (entries.Retired r) = record nothing_told { retired = Some r.unit; loses_unit = true }
+told_by (entries.Aside a) = record nothing_told { loses_unit = true }
+told_by (entries.Shut s) = record nothing_told { shuts = true }
+told_by (entries.Worn w) = record nothing_told { wears = true }
+told_by entries.Reopened = nothing_told
+
 abbrev pub is_shut : Entry → Bool
-is_shut (entries.Host h) = false
-is_shut (entries.Started s) = false
-is_shut (entries.Placed p) = false
-is_shut (entries.Copied c) = false
-is_shut (entries.Moved m) = false
-is_shut (entries.Erased e) = false
-is_shut (entries.Retired r) = false
-is_shut (entries.Aside a) = false
-is_shut (entries.Shut s) = true
-is_shut (entries.Worn w) = false
-is_shut entries.Reopened = false
+is_shut e = (told_by e).shuts
 
--- whether an entry tells of a unit that was lost: its erase failed, or it could not be read
 abbrev pub loses_unit : Entry → Bool
-loses_unit (entries.Host h) = false
-loses_unit (entries.Started s) = false
-loses_unit (entries.Placed p) = false
-loses_unit (entries.Copied c) = false
-loses_unit (entries.Moved m) = false
-loses_unit (entries.Erased e) = false
-loses_unit (entries.Retired r) = true
-loses_unit (entries.Aside a) = true
-loses_unit (entries.Shut s) = false
-loses_unit (entries.Worn w) = false
-loses_unit entries.Reopened = false
+loses_unit e = (told_by e).loses_unit
 
--- whether an entry tells of a group that was worn
 abbrev pub wears_group : Entry → Bool
-wears_group (entries.Host h) = false
-wears_group (entries.Started s) = false
-wears_group (entries.Placed p) = false
-wears_group (entries.Copied c) = false
-wears_group (entries.Moved m) = false
-wears_group (entries.Erased e) = false
-wears_group (entries.Retired r) = false
-wears_group (entries.Aside a) = false
-wears_group (entries.Shut s) = false
-wears_group (entries.Worn w) = true
-wears_group entries.Reopened = false
+wears_group e = (told_by e).wears
 
--- the unit that got a page: a page of it was placed or copied
 abbrev pub unit_filled : Entry → Option ℕ
-unit_filled (entries.Host h) = None
-unit_filled (entries.Started s) = None
-unit_filled (entries.Placed p) = Some p.unit
-unit_filled (entries.Copied c) = Some c.to.unit
-unit_filled (entries.Moved m) = None
-unit_filled (entries.Erased e) = None
-unit_filled (entries.Retired r) = None
-unit_filled (entries.Aside a) = None
-unit_filled (entries.Shut s) = None
-unit_filled (entries.Worn w) = None
-unit_filled entries.Reopened = None
+unit_filled e = (told_by e).filled
 
--- the unit that was erased
 abbrev pub unit_erased : Entry → Option ℕ
-unit_erased (entries.Host h) = None
-unit_erased (entries.Started s) = None
-unit_erased (entries.Placed p) = None
-unit_erased (entries.Copied c) = None
-unit_erased (entries.Moved m) = None
-unit_erased (entries.Erased e) = Some e.unit
-unit_erased (entries.Retired r) = None
-unit_erased (entries.Aside a) = None
-unit_erased (entries.Shut s) = None
-unit_erased (entries.Worn w) = None
-unit_erased entries.Reopened = None
+unit_erased e = (told_by e).erased
 
--- the unit whose erase failed
 abbrev pub unit_retired : Entry → Option ℕ
-unit_retired (entries.Host h) = None
-unit_retired (entries.Started s) = None
-unit_retired (entries.Placed p) = None
-unit_retired (entries.Copied c) = None
-unit_retired (entries.Moved m) = None
-unit_retired (entries.Erased e) = None
-unit_retired (entries.Retired r) = Some r.unit
-unit_retired (entries.Aside a) = None
-unit_retired (entries.Shut s) = None
-unit_retired (entries.Worn w) = None
-unit_retired entries.Reopened = None
+unit_retired e = (told_by e).retired
 
 -- it is this unit
 abbrev pub is_unit : ℕ → Option ℕ → Bool

@@ -1,15 +1,13 @@
 -- What each call of a drive adds, by its answer.
-use Rattle.std.proofs.Common.{◌≡◌, inl, inr, ℕ, ◌+◌, List, [], ◌∷◌, ◌++◌, length, refl, ap, sym, ◌∙◌, subst, Some, None, true, arith, Option, cond, nat_eq}
-use Rattle.std.specs.Prelude.{All, option_and_then, option_map}
+use Rattle.std.proofs.Common.{◌≡◌, inl, inr, ℕ, ◌+◌, List, [], ◌∷◌, ◌++◌, length, refl, ap, sym, ◌∙◌, subst, Some, None, true, arith, Option}
+use Rattle.std.specs.Prelude.{All, option_map}
 use Rattle.std.specs.Option.{is_some}
 use Rattle.std.proofs.lemmas.List.{append-nil, length-append}
-use Rattle.std.specs.List.{cons_option}
-use Rattle.std.proofs.lemmas.List.Elements.{All-head, All-nil, All-cons, All-tail}
+use Rattle.std.proofs.lemmas.List.Elements.{All-nil, All-cons}
 use Rattle.atomic_table.specs.Seated.{TableId}
 use Rattle.fdp_base.specs.declared.command.Command.{Command}
 use Rattle.fdp_base.specs.declared.entry.Entry.{Entry}
 use Rattle.fdp_base.specs.declared.entry.Entry.TheVariants as entries
-use Rattle.fdp_base.specs.declared.entry.Host.{Host}
 use Rattle.fdp_base.specs.CommandKinds.{write_of}
 use Rattle.fdp_workers.specs.fdp_book.declared.ticket.Done.{Done}
 use Rattle.fdp_workers.specs.fdp_book.declared.ticket.Ticket.{Ticket}
@@ -31,7 +29,6 @@ use Rattle.fdp_workers.specs.fdp_relocation.declared.advance.Advance.{Advance}
 use Rattle.fdp_workers.specs.fdp_relocation.declared.advance.Advance.TheVariants as advance
 use Rattle.fdp_rules.specs.History.{Found, state_of}
 use Rattle.fdp_rules.specs.PlainState.{Going}
-use Rattle.fdp_rules.specs.Queue.{completed}
 use Rattle.fdp_rules.specs.Room.{roomiest}
 use Rattle.fdp_rules.specs.Seats.{queue_of_ticket}
 use Rattle.fdp_rules.specs.Step.{goes_to}

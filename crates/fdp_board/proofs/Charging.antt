@@ -15,7 +15,8 @@ use Rattle.fdp_flash.specs.FlashState.{Call, FlashState}
 use Rattle.fdp_flash.specs.Runs.{Runs}
 use Rattle.fdp_workers.specs.fdp_ledger.Told.{is_media_reply}
 use Rattle.fdp_rules.specs.Change.{is_media_error}
-use Rattle.fdp_board.specs.Board.{AreCharged, FailedSince, ServesNone, moment_of}
+use Rattle.fdp_board.specs.Board.{AreCharged, FailedSince, moment_of}
+use Rattle.fdp_base.specs.EntryKinds.{ServesNone}
 
 -- an entry that is no media error tells of no failed call
 pub uncharged : (since : ℕ) (now : FlashState) (e : Entry) → is_media_reply e ≡ false → AreCharged since now (e ∷ [])

@@ -16,7 +16,7 @@ use Rattle.fdp_base.specs.declared.entry.Totals.{Totals}
 use Rattle.fdp_base.specs.declared.recorded.Mark.{Mark}
 use Rattle.fdp_base.specs.declared.recorded.Snapshot.{Snapshot}
 use Rattle.fdp_base.specs.CommandKinds.{blocks_written}
-use Rattle.fdp_base.specs.EntryKinds.{placed_of, started_of}
+use Rattle.fdp_base.specs.EntryKinds.{placed_of, started_of, ServesNone}
 use Rattle.fdp_base.specs.Records.{CarriesNone}
 use Rattle.fdp_workers.specs.fdp_relocation.Entries.{AreRelocationIn, IsRelocationIn}
 use Rattle.fdp_rules.specs.History.{Found, totals_of}
@@ -24,8 +24,9 @@ use Rattle.fdp_rules.specs.Seats.{mark_of, marks_after, queue_of_ticket, seat_of
 use Rattle.fdp_rules.specs.Queue.{completed}
 use Rattle.fdp_rules.specs.Totals.{erases, host_blocks, host_blocks_of, media_blocks}
 use Rattle.fdp_workers.specs.Run.{OpensFirst}
-use Rattle.fdp_board.specs.Board.{AreSumsOf, ServesNone}
+use Rattle.fdp_board.specs.Board.{AreSumsOf}
 use Rattle.fdp_workers.specs.Marks.{counts_of, entry_in, mark_in, marked_after}
+use Rattle.fdp_relocation.proofs.Keeping.{quiet-entry}
 
 pub length-marked : (f : Found) (before es : List Entry) → length (marked_after f before es) ≡ length es
 unfolding marked_after
@@ -64,17 +65,7 @@ pub record IsQuiet (e : Entry) : Type 0 where
   pub later : e ≡ entries.Reopened → ⊥
 
 pub quiet-relocation : (c : DriveConfig) (rg : ℕ) (e : Entry) → IsRelocationIn c rg e → IsQuiet e
-quiet-relocation c rg (entries.Host h) is = absurd is
-quiet-relocation c rg (entries.Started s) is = absurd is
-quiet-relocation c rg (entries.Placed p) is = absurd is
-quiet-relocation c rg (entries.Copied x) is = record { none = record { host = refl; started = refl; placed = refl }; later = λ e. absurd cc }
-quiet-relocation c rg (entries.Moved m) is = record { none = record { host = refl; started = refl; placed = refl }; later = λ e. absurd cc }
-quiet-relocation c rg (entries.Erased e) is = record { none = record { host = refl; started = refl; placed = refl }; later = λ e. absurd cc }
-quiet-relocation c rg (entries.Retired r) is = record { none = record { host = refl; started = refl; placed = refl }; later = λ e. absurd cc }
-quiet-relocation c rg (entries.Aside a) is = record { none = record { host = refl; started = refl; placed = refl }; later = λ e. absurd cc }
-quiet-relocation c rg (entries.Shut s) is = absurd is
-quiet-relocation c rg (entries.Worn w) is = record { none = record { host = refl; started = refl; placed = refl }; later = λ e. absurd cc }
-quiet-relocation c rg entries.Reopened is = absurd is
+quiet-relocation c rg e is = let quiet = quiet-entry c rg e is in record { none = quiet.0; later = quiet.1 }
 
 pub all-quiet : (c : DriveConfig) (rg : ℕ) (es : List Entry) → AreRelocationIn c rg es → All IsQuiet es
 all-quiet c rg [] all = All-nil IsQuiet

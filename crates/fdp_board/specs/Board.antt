@@ -1,5 +1,5 @@
 -- A drive with its teller, as contracts see it, and the record that it keeps.
-use Rattle.std.specs.Prelude.{◌≡◌, ℕ, ◌-◌, ◌<◌, ◌≤◌, All, Bool, false, true, IsTrue, List, [], None, Some, slice_get}
+use Rattle.std.specs.Prelude.{◌≡◌, ℕ, ◌-◌, ◌<◌, ◌≤◌, All, Bool, false, true, IsTrue, List, [], Some, slice_get}
 use Rattle.std.specs.Option.{option_map_or}
 use mathlib.Core.List.{IsPrefix}
 use Rattle.atomic_table.specs.Seated.{TableId}
@@ -9,7 +9,7 @@ use Rattle.fdp_base.specs.declared.entry.Host.{Host}
 use Rattle.fdp_base.specs.declared.entry.Totals.{Totals}
 use Rattle.fdp_base.specs.declared.recorded.Mark.{Mark}
 use Rattle.fdp_base.specs.Counts.{Rose}
-use Rattle.fdp_base.specs.EntryKinds.{host_of, placed_of, started_of}
+use Rattle.fdp_base.specs.EntryKinds.{host_of, ServesNone}
 use Rattle.fdp_workers.specs.fdp_book.Book.{BookSeen}
 use Rattle.fdp_workers.specs.fdp_core.Seen.{Seen}
 use Rattle.fdp_flash.specs.declared.cell.Cell.{Cell}
@@ -125,12 +125,6 @@ AreCharged since now es = All (λ e. IsTrue (is_media_reply e) → FailedSince s
 -- of a flash that promises that no call fails, none has
 abbrev pub IsUnfailing : Counts → FlashState → Type 0
 IsUnfailing handed flash = IsTrue flash.reliable → flash.faults ≡ handed.faults
-
--- an entry that serves no host: it completes no command, starts no write and places no page of one
-pub record ServesNone (e : Entry) : Type 0 where
-  pub host : host_of e ≡ None
-  pub started : started_of e ≡ None
-  pub placed : placed_of e ≡ None
 
 -- A drive that has served nothing since it was opened, whatever it relocated: no entry serves a host, and an opening stands at the beginning alone. Whatever
 -- a stop since its flash was handed in may have left stands for its history, and is roomy where it should be; and no call of a reliable flash has failed.

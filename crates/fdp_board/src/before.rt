@@ -13,28 +13,28 @@ pub(crate) fn sums_before(totals: Totals, entries: &[Entry]) -> Totals
 {
     let mut before = totals;
     for entry in entries {
-        before.media_blocks -= pages_of(entry);
-        before.erases -= units_of(entry);
+        let (pages, units) = pages_and_units_of(entry);
+        before.media_blocks -= pages;
+        before.erases -= units;
     }
     before
 }
 
-/// The pages that were programmed for an entry.
-fn pages_of(entry: &Entry) -> u64
-    ensures { result ≡ media_blocks_of entry.now }
+/// The pages that were programmed for an entry, and the units that were erased.
+fn pages_and_units_of(entry: &Entry) -> (u64, u64)
+    ensures pages { result.0 ≡ media_blocks_of entry.now }
+    ensures units { result.1 ≡ erases_of entry.now }
 {
     match entry {
-        Entry::Placed(_) | Entry::Copied(_) => 1,
-        _ => 0,
-    }
-}
-
-/// The units that were erased for an entry.
-fn units_of(entry: &Entry) -> u64
-    ensures { result ≡ erases_of entry.now }
-{
-    match entry {
-        Entry::Erased(_) => 1,
-        _ => 0,
+        Entry::Placed(_) | Entry::Copied(_) => (1, 0),
+        Entry::Erased(_) => (0, 1),
+        Entry::Host(_)
+        | Entry::Started(_)
+        | Entry::Moved(_)
+        | Entry::Retired(_)
+        | Entry::Aside(_)
+        | Entry::Shut(_)
+        | Entry::Worn(_)
+        | Entry::Reopened => (0, 0),
     }
 }

@@ -1,6 +1,6 @@
 -- The change of each command that is saved: what it may rest on, and what the tables stand for behind it.
-use Rattle.std.proofs.Common.{◌≡◌, ℕ, ◌+◌, ◌*◌, ◌<◌, ◌≤◌, ◌^◌, Bool, true, length, List, [], Option, Some, None, refl, sym, ◌∙◌, ap, subst, arith, replicate, slice_get, le-leb}
-use Rattle.std.specs.Prelude.{IsTrue, if◌then◌else◌}
+use Rattle.std.proofs.Common.{◌≡◌, ℕ, ◌+◌, ◌*◌, ◌<◌, ◌≤◌, ◌^◌, Bool, true, length, Some, refl, ◌∙◌, ap, arith, slice_get, le-leb}
+use Rattle.std.specs.Prelude.{if◌then◌else◌}
 use Rattle.fdp_base.specs.declared.command.Command.{Command}
 use Rattle.fdp_base.specs.declared.command.Command.TheVariants as commands
 use Rattle.fdp_base.specs.declared.command.Create.{Create}
@@ -14,7 +14,6 @@ use Rattle.fdp_base.specs.declared.command.Zero.{Zero}
 use Rattle.fdp_base.specs.declared.config.DriveConfig.{DriveConfig}
 use Rattle.fdp_base.specs.Geometry.{IsWithin}
 use Rattle.fdp_base.specs.Numbers.{is_among}
-use Rattle.fdp_base.specs.Placement.{classes_of}
 use Rattle.fdp_book.specs.declared.tables.Tables.{Tables}
 use Rattle.fdp_book.specs.Applying.{IsBehind, MayChange, StandBehind}
 use Rattle.fdp_book.specs.Clearing.{HasPointers}

@@ -1,15 +1,15 @@
 -- Blocks that are taken away, one after another.
-use Rattle.std.proofs.Common.{◌≡◌, ◌≢◌, ◌⊎◌, ⊎_elim, inl, inr, ℕ, ◌+◌, ◌<◌, ◌≤◌, Bool, true, false, ◌||◌, List, [], ◌∷◌, ◌++◌, Option, Some, None, refl, sym, ◌∙◌, ap, subst, arith, cond, eq-eqb, ne_eqb}
-use Rattle.std.specs.Prelude.{◌==◌, ◌&&◌, IfSome, IsSome, IsTrue, if◌then◌else◌, is_some, not, option_and_then, option_map}
+use Rattle.std.proofs.Common.{◌≡◌, ◌≢◌, ◌⊎◌, ⊎_elim, inl, inr, ℕ, ◌+◌, Bool, true, false, ◌||◌, List, [], ◌∷◌, ◌++◌, Option, Some, None, refl, sym, ◌∙◌, ap, subst, arith, cond, eq-eqb, ne_eqb}
+use Rattle.std.specs.Prelude.{◌==◌, ◌&&◌, IfSome, IsSome, if◌then◌else◌, is_some, not, option_and_then, option_map}
 use Rattle.std.specs.List.{list_any}
 use Rattle.std.proofs.lemmas.Bool.{and_parts, and_right, cases_eq, eqb-true}
 use Rattle.std.proofs.lemmas.Bool.Decides.{nat_tests}
 use Rattle.std.proofs.lemmas.Grind.{common_steps}
 use Rattle.fdp_base.specs.declared.command.Range.{Range}
 use Rattle.fdp_base.specs.declared.entry.Spot.{Spot}
-use Rattle.fdp_base.specs.Numbers.{is_among, with_at}
+use Rattle.fdp_base.specs.Numbers.{is_among}
 use Rattle.fdp_book.specs.Clearing.{AreMapped, Clears, HasPointers, without_mapped}
-use Rattle.fdp_book.specs.Commanded.{LetsGo, OnlyLetsGo}
+use Rattle.fdp_book.specs.Commanded.{LetsGo}
 use Rattle.fdp_book.specs.Taking.{cleared_of}
 use Rattle.fdp_book.proofs.Committing.PutPages.{changes-joined, changes-self}
 use Rattle.fdp_map.specs.declared.mapped.Mapped.{Mapped}

@@ -1,16 +1,15 @@
 -- A namespace that is deleted: what its parts make of the tables together.
 use Rattle.std.proofs.Common.{◌≡◌, ◌≢◌, ⊎_elim, ℕ, ◌≤◌, Bool, true, false, List, length, Option, Some, None, refl, sym, ◌∙◌, ap, subst, arith, cond, eq-eqb, ne_eqb}
-use Rattle.std.specs.Prelude.{◌==◌, ◌&&◌, if◌then◌else◌, nat_lt, not, option_and_then, option_map}
-use Rattle.std.proofs.lemmas.Bool.{cases_eq, ltb-false, ltb-true}
+use Rattle.std.specs.Prelude.{◌==◌, ◌&&◌, if◌then◌else◌, nat_lt, option_and_then, option_map}
+use Rattle.std.proofs.lemmas.Bool.{cases_eq, ltb-false}
 use Rattle.std.proofs.lemmas.Bool.Decides.{nat_tests}
 use Rattle.std.proofs.lemmas.Grind.{common_steps}
-use Rattle.fdp_base.specs.declared.entry.Spot.{Spot}
 use Rattle.fdp_base.specs.Numbers.{is_among, with_at}
 use Rattle.fdp_book.specs.declared.flight.Flight.{Flight}
 use Rattle.fdp_book.specs.declared.tables.Tables.{Tables}
 use Rattle.fdp_book.specs.Clearing.{AreMapped, Clears, HasPointers, without_mapped}
 use Rattle.fdp_book.specs.Commanded.{LetsGo}
-use Rattle.fdp_book.specs.Namespaces.{AreFlown, ArePointed, Deletes, HasFlights, Releases, is_apart, is_away, is_to}
+use Rattle.fdp_book.specs.Namespaces.{AreFlown, ArePointed, Deletes, Releases, is_apart, is_away}
 use Rattle.fdp_book.proofs.Clearing.{lets-on, only-out}
 use Rattle.fdp_book.proofs.Releasing.{apart-all}
 use Rattle.fdp_map.specs.declared.mapped.Mapped.{Mapped}
@@ -21,7 +20,6 @@ use Rattle.fdp_owners.specs.OwnerTable.{owner_at}
 use Rattle.fdp_readings.specs.fdp_pages.PageTables.{PageTables}
 use Rattle.fdp_pointers.specs.Facts.{Page}
 use Rattle.fdp_pointers.specs.Pointers.{Behind, Pointer, Pointer.of_block, Pointer.of_flight, is_outside, only, renamed}
-use Rattle.fdp_rules.specs.PlainState.{Namespace}
 use Rattle.fdp_spaces.specs.SpaceTable.{SpaceTable, namespace_at}
 
 -- ---- after the pages of the writes are let go

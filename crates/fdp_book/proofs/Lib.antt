@@ -28,3 +28,4 @@ pub mod Relocating
 pub mod Saving
 pub mod Numbers
 pub mod Updating
+pub mod PageChanges

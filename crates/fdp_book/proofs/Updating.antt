@@ -3,7 +3,6 @@ use Rattle.std.proofs.Common.{◌≡◌, ℕ, ◌<◌, List, [], ◌∷◌, ◌+
 use Rattle.std.specs.Prelude.{Contains, IfSome, fold, option_map}
 use Rattle.std.specs.Option.{option_map_or}
 use Rattle.std.proofs.lemmas.List.Sums.{fold-append}
-use Rattle.fdp_base.specs.declared.config.DriveConfig.{DriveConfig}
 use Rattle.fdp_book.specs.declared.tables.Tables.{Tables}
 use Rattle.fdp_book.specs.Updating.{CanUpdate, Updates}
 use Rattle.fdp_handles.specs.HandleTable.{HandleTable, reference_at}
@@ -11,7 +10,6 @@ use Rattle.fdp_readings.specs.fdp_pages.PageTables.{PageTables}
 use Rattle.fdp_readings.specs.fdp_pages.Steps.{UpdatesHandle}
 use Rattle.fdp_readings.proofs.fdp_pages.LeftUnits.{leaves-none, leaves-on}
 use Rattle.fdp_rules.specs.Effect.{References, updated_at, updated_by}
-use Rattle.fdp_rules.specs.PlainState.{PlainState}
 use Rattle.fdp_rules.specs.Target.{Target}
 use Rattle.fdp_spaces.specs.Resolving.{Agrees, IsNamed, named_target}
 use Rattle.fdp_spaces.specs.SpaceTable.{SpaceTable, handles_at}

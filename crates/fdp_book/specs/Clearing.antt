@@ -1,6 +1,5 @@
 -- Blocks that are taken away, with their pages.
-use Rattle.std.specs.Prelude.{◌≡◌, ℕ, Bool, ◌==◌, ◌&&◌, Option, Some, None, if◌then◌else◌, option_map}
-use Rattle.fdp_base.specs.declared.entry.Spot.{Spot}
+use Rattle.std.specs.Prelude.{◌≡◌, ℕ, Bool, ◌==◌, ◌&&◌, Option, None, if◌then◌else◌, option_map}
 use Rattle.fdp_book.specs.Commanded.{LetsGo}
 use Rattle.fdp_map.specs.declared.mapped.Mapped.{Mapped}
 use Rattle.fdp_map.specs.MapTable.{MapTable, mapped_at, size_in}

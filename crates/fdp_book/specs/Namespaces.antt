@@ -10,7 +10,6 @@ use Rattle.fdp_book.specs.Clearing.{AreMapped}
 use Rattle.fdp_book.specs.Commanded.{LetsGo}
 use Rattle.fdp_book.specs.Forgetting.{live_pages}
 use Rattle.fdp_book.specs.Held.{flight_in}
-use Rattle.fdp_map.specs.declared.mapped.Mapped.{Mapped}
 use Rattle.fdp_map.specs.MapTable.{mapped_at, size_in}
 use Rattle.fdp_owners.specs.Owned.{AreOwners}
 use Rattle.fdp_owners.specs.OwnerTable.{owner_at}

@@ -14,7 +14,7 @@ use Rattle.fdp_base.specs.Counts.{Rose}
 use Rattle.fdp_drive.specs.fdp_book.Book.{BookSeen, point_in}
 use Rattle.fdp_drive.specs.fdp_core.Loading.{IsLoaded, IsNotLoaded}
 use Rattle.fdp_drive.specs.fdp_core.Seen.{HasMoments, HoldsHistory, IsLegalOver, Seen}
-use Rattle.fdp_drive.specs.fdp_board.Board.{AreCharged, HasServedNothing, IsRoomySince, IsSafeSince, ServesNone}
+use Rattle.fdp_drive.specs.fdp_board.Board.{AreCharged, HasServedNothing, IsRoomySince, IsSafeSince}
 use Rattle.fdp_drive.proofs.fdp_board.Outlasting.{AreLate}
 use Rattle.fdp_drive.specs.fdp_crews.Crews.{IsTrace}
 use Rattle.fdp_drive.specs.Session.{HoldsTraces, IsSameDrive, IsSession, KeepsOrders}
@@ -60,6 +60,7 @@ use Rattle.fdp_rules.specs.Step.{IsQueue}
 use Rattle.fdp_cli.specs.Loading.{of_opening}
 use Rattle.fdp_cli.specs.Session.{CountsSame, IsRun, StaysIsolated}
 use Rattle.fdp_cli.specs.Top.{EndsRun, PrintsText, Refuses, Shows, text_in, text_of}
+use Rattle.fdp_base.specs.EntryKinds.{ServesNone}
 
 -- ---- the beginning
 

@@ -1,6 +1,6 @@
 -- How a group begins a command: it refuses it, reads for it, or starts it.
 use Rattle.std.proofs.Common.{◌≡◌, ℕ, ◌<◌, arith, Bool, true, false, ◌||◌, List, [], ◌∷◌, ◌++◌, refl, ap, sym, ◌∙◌, subst, inl, inr, Some, None}
-use Rattle.std.specs.Prelude.{IsTrue, not}
+use Rattle.std.specs.Prelude.{IsTrue, not, is_some}
 use Rattle.std.specs.List.{list_all, list_any}
 use Rattle.std.proofs.lemmas.Bool.{false≢true}
 use Rattle.std.proofs.lemmas.List.{append-nil}
@@ -21,7 +21,7 @@ use Rattle.fdp_relocation.specs.fdp_book.FirstSteps.{is_answered}
 use Rattle.fdp_relocation.specs.fdp_book.Stages.{IsFree}
 use Rattle.fdp_relocation.specs.fdp_book.Steps as book
 use Rattle.fdp_relocation.proofs.fdp_book.Histories.Commanded.{success-follows}
-use Rattle.fdp_relocation.proofs.fdp_book.Histories.Follows.{accepted-blocks, read-follows, refused-fine, refused-follows, unread-follows}
+use Rattle.fdp_relocation.proofs.fdp_book.Histories.Follows.{accepted-blocks, read-follows, refused-follows, unread-follows}
 use Rattle.fdp_calls.specs.Calls.{FailedAt, MakesCalls, fetch_at, has_failed}
 use Rattle.fdp_calls.specs.Media.{IsReadFrom}
 use Rattle.fdp_calls.proofs.Made.{counted_more-none, failed-last}
@@ -54,6 +54,9 @@ use Rattle.fdp_rules.specs.Refusal.{refusal_of}
 use Rattle.fdp_rules.specs.Step.{Follows, IsQueue}
 use Rattle.fdp_roominess.proofs.Answered.{room-answered, room-started}
 use Rattle.fdp_roominess.proofs.Runs.{keeps-well}
+use Rattle.fdp_rules.proofs.Refusing.{refused-fine}
+use Rattle.fdp_rules.proofs.Effects.{by-effect}
+use Rattle.fdp_base.proofs.Writes.{by-write}
 
 -- ---- a step that completes a command
 
@@ -142,39 +145,27 @@ pub record IsAnswer (told : Bool) (b : BookSeen) (queue : ℕ) (command : Comman
 
 -- one that is answered so is neither a write nor one that is saved
 pub answered-other : (command : Command) → is_answered command ≡ true → is_write command ≡ false
-answered-other (commands.Write w) is = absurd (false≢true is)
-answered-other (commands.Read r) is = refl
-answered-other (commands.Zero z) is = refl
-answered-other (commands.Dealloc d) is = refl
-answered-other (commands.Flush f) is = refl
-answered-other (commands.Delete d) is = refl
-answered-other (commands.Status s) is = refl
-answered-other (commands.Update u) is = refl
-answered-other (commands.Log l) is = refl
-answered-other (commands.SetFdp set) is = refl
-answered-other (commands.GetFdp g) is = refl
-answered-other (commands.SetEvents set) is = refl
-answered-other (commands.Create create) is = refl
-answered-other (commands.Other o) is = refl
+answered-other command =
+    by-write (λ x. is_answered x ≡ true → is_write x ≡ false) (λ w is. absurd (false≢true is)) (λ x none is. ap is_some none) command
 
 pub answered-unsaved : (command : Command) → is_answered command ≡ true → is_saved command ≡ false
-answered-unsaved (commands.Write w) is = absurd (false≢true is)
-answered-unsaved (commands.Read r) is = refl
-answered-unsaved (commands.Zero z) is = absurd (false≢true is)
-answered-unsaved (commands.Dealloc d) is = by d.deallocate is where
-  by : (b : Bool) → not b ≡ true → b ≡ false
-  by true e = absurd (false≢true e)
-  by false e = refl
-answered-unsaved (commands.Flush f) is = refl
-answered-unsaved (commands.Delete d) is = absurd (false≢true is)
-answered-unsaved (commands.Status s) is = refl
-answered-unsaved (commands.Update u) is = absurd (false≢true is)
-answered-unsaved (commands.Log l) is = refl
-answered-unsaved (commands.SetFdp set) is = absurd (false≢true is)
-answered-unsaved (commands.GetFdp g) is = refl
-answered-unsaved (commands.SetEvents set) is = absurd (false≢true is)
-answered-unsaved (commands.Create create) is = absurd (false≢true is)
-answered-unsaved (commands.Other o) is = refl
+answered-unsaved =
+    by-effect (λ x. is_answered x ≡ true → is_saved x ≡ false)
+    (record {
+      write = λ w is. absurd (false≢true is);
+      zero = λ z is. absurd (false≢true is);
+      dealloc = λ d is. kept d.deallocate is;
+      delete = λ d is. absurd (false≢true is);
+      update = λ u is. absurd (false≢true is);
+      set_fdp = λ s is. absurd (false≢true is);
+      set_events = λ s is. absurd (false≢true is);
+      create = λ c is. absurd (false≢true is);
+      nothing = λ x none is. none.saved;
+    })
+  where
+    kept : (b : Bool) → not b ≡ true → b ≡ false
+    kept true e = absurd (false≢true e)
+    kept false e = refl
 
 answer-fine : (told : Bool) (b : BookSeen) (queue : ℕ) (command : Command) (reply : Reply) → IsAnswer told b queue command reply → is_media_error reply.status ≡ false
 answer-fine told b queue command reply is = ap is_media_error is.success.status

@@ -1,5 +1,5 @@
 -- A step of relocation, behind the end of a doubt or not, and a move that was saved keep what saves a drive, and a stop within them loses nothing.
-use Rattle.std.proofs.Common.{◌≡◌, ℕ, ◌<◌, ◌≤◌, inl, inr, Bool, true, false, not, IsTrue, List, [], ◌∷◌, length, refl, sym, ◌∙◌, ap, subst, arith, length-append}
+use Rattle.std.proofs.Common.{◌≡◌, ℕ, ◌<◌, ◌≤◌, inl, inr, Bool, true, false, not, IsTrue, List, [], ◌∷◌, length, refl, sym, ◌∙◌, ap, subst, arith, length-append, Option}
 use Rattle.std.specs.Prelude.{All, IsFalse, ◌==◌}
 use Rattle.fdp_base.specs.declared.entry.BlockName.{BlockName}
 use Rattle.fdp_base.specs.declared.entry.Entry.{Entry}
@@ -33,6 +33,10 @@ use Rattle.fdp_base.specs.declared.config.DriveConfig.{DriveConfig}
 use Rattle.fdp_relocation.specs.fdp_durability.Firm.{completes}
 use Rattle.fdp_core.proofs.Passing.{IsPrefix, prefix-apart, prefix-stands, settled-prefix}
 use Rattle.fdp_relocation.proofs.Resting.{uncalled-run}
+use Rattle.fdp_relocation.proofs.Keeping.{quiet-entry}
+use Rattle.fdp_base.specs.declared.entry.Host.{Host}
+use Rattle.fdp_image.specs.Kept.{is_completed}
+use Rattle.std.specs.Option.{option_map_or}
 
 -- units are erased only while nothing is in doubt
 may-erase : (doubt : Bool) → IsTrue (not doubt) → doubt ≡ false
@@ -208,16 +212,4 @@ module _ {F : Type 0} (state : F → FlashState) (old new : Stage F) (rg : ℕ) 
 
 -- none of the entries of a step of relocation completes a change
 pub relocation-none : (c : DriveConfig) (rg : ℕ) (es : List Entry) → AreRelocationIn c rg es → All (λ e. IsFalse (completes e)) es
-relocation-none c rg es inside = All-weaker (IsRelocationIn c rg) (λ e. IsFalse (completes e)) (λ e is. by-kind e is) es inside where
-  by-kind : (e : Entry) → IsRelocationIn c rg e → IsFalse (completes e)
-  by-kind (entries.Host h) is = absurd is
-  by-kind (entries.Started s) is = refl
-  by-kind (entries.Placed p) is = refl
-  by-kind (entries.Copied x) is = refl
-  by-kind (entries.Moved m) is = refl
-  by-kind (entries.Erased e) is = refl
-  by-kind (entries.Retired r) is = refl
-  by-kind (entries.Aside a) is = refl
-  by-kind (entries.Shut s) is = refl
-  by-kind (entries.Worn w) is = refl
-  by-kind entries.Reopened is = refl
+relocation-none c rg es inside = All-weaker (IsRelocationIn c rg) (λ e. IsFalse (completes e)) (λ e is. ap (λ (o : Option Host). option_map_or (λ (h : Host). is_completed h.command h.reply) o false) (quiet-entry c rg e is).0.host) es inside

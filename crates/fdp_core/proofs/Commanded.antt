@@ -4,7 +4,6 @@ use Rattle.std.specs.Prelude.{IsTrue}
 use Rattle.std.specs.List.{count_by}
 use Rattle.std.proofs.lemmas.Bool.{false≢true}
 use Rattle.fdp_base.specs.declared.command.Command.{Command}
-use Rattle.fdp_base.specs.declared.command.Command.TheVariants as commands
 use Rattle.fdp_base.specs.declared.config.DriveConfig.{DriveConfig}
 use Rattle.fdp_base.specs.declared.config.Geometry.{Geometry}
 use Rattle.fdp_base.specs.declared.entry.Entry.{Entry}
@@ -55,6 +54,8 @@ use Rattle.fdp_loading.specs.fdp_survival.Books.{IsInOrder, KeepsApart}
 use Rattle.fdp_loading.proofs.fdp_survival.Units.{GoOn, left-go, recounted-go}
 use Rattle.fdp_roominess.proofs.Answered.{room-answered, room-applied}
 use Rattle.fdp_roominess.proofs.Runs.{keeps-well}
+use Rattle.fdp_relocation.proofs.fdp_book.PageChanges.{by-pages}
+use Rattle.fdp_rules.proofs.Effects.{each-setting}
 
 -- ---- what a change does to the pages
 
@@ -78,57 +79,37 @@ by-none : (t now : PageTables) → now ≡ t → LeavesPages t now
 by-none t now same = subst (LeavesPages t) (sym same) (by-left t t (left-none t))
 
 pages-left : (c : DriveConfig) (command : Command) (t now : PageTables) → AppliesTo c command t now → LeavesPages t now
-pages-left c (commands.Write w) t now h = by-owners t now h
-pages-left c (commands.Read r) t now h = by-none t now h
-pages-left c (commands.Zero z) t now h = by-owners t now h.changes
-pages-left c (commands.Dealloc d) t now h = by-owners t now h.changes
-pages-left c (commands.Flush f) t now h = by-none t now h
-pages-left c (commands.Delete d) t now h = by-owners t now h.changes
-pages-left c (commands.Status s) t now h = by-none t now h
-pages-left c (commands.Update u) t now h = by-left t now h.leaves
-pages-left c (commands.Log l) t now h = by-none t now h
-pages-left c (commands.SetFdp set) t now h = by-left t now h.sets.leaves
-pages-left c (commands.GetFdp g) t now h = by-none t now h
-pages-left c (commands.SetEvents set) t now h = by-none t now h
-pages-left c (commands.Create create) t now h = by-none t now h
-pages-left c (commands.Other o) t now h = by-none t now h
+pages-left c command t now h =
+    by-pages c (λ x old new. LeavesPages old new)
+    (record {
+      written = λ w old new changes. by-owners old new changes;
+      still = λ x old new same. by-none old new same;
+      gone = λ x old new lets. by-owners old new lets.changes;
+      left = λ x old new leaves. by-left old new leaves.leaves;
+      set = λ s old new sets. by-left old new sets.sets.leaves;
+    })
+    command t now h
 
 fills-none-more : (t now : PageTables) → now ≡ t → FillsNoMore t now
 fills-none-more t now same = subst (FillsNoMore t) (sym same) (record { classes = refl; filled = λ rg ruh unit e. e; targets = λ rg unit lane e. e })
 
 -- one that is no setting lets nothing more be filled
 fills-no-more : (c : DriveConfig) (command : Command) (t now : PageTables) → is_setting command ≡ false → AppliesTo c command t now → FillsNoMore t now
-fills-no-more c (commands.Write w) t now other h = owners-fill t now h
-fills-no-more c (commands.Read r) t now other h = fills-none-more t now h
-fills-no-more c (commands.Zero z) t now other h = owners-fill t now h.changes
-fills-no-more c (commands.Dealloc d) t now other h = owners-fill t now h.changes
-fills-no-more c (commands.Flush f) t now other h = fills-none-more t now h
-fills-no-more c (commands.Delete d) t now other h = owners-fill t now h.changes
-fills-no-more c (commands.Status s) t now other h = fills-none-more t now h
-fills-no-more c (commands.Update u) t now other h = left-fill t now h.leaves h.classes
-fills-no-more c (commands.Log l) t now other h = fills-none-more t now h
-fills-no-more c (commands.SetFdp set) t now other h = absurd (false≢true (sym other))
-fills-no-more c (commands.GetFdp g) t now other h = fills-none-more t now h
-fills-no-more c (commands.SetEvents set) t now other h = fills-none-more t now h
-fills-no-more c (commands.Create create) t now other h = fills-none-more t now h
-fills-no-more c (commands.Other o) t now other h = fills-none-more t now h
+fills-no-more c command t now other h =
+    by-pages c (λ x old new. is_setting x ≡ false → FillsNoMore old new)
+    (record {
+      written = λ w old new changes unset. owners-fill old new changes;
+      still = λ x old new same unset. fills-none-more old new same;
+      gone = λ x old new lets unset. owners-fill old new lets.changes;
+      left = λ x old new leaves unset. left-fill old new leaves.leaves leaves.classes;
+      set = λ s old new sets unset. absurd (false≢true (sym unset));
+    })
+    command t now h other
 
 -- behind a setting nothing is filled
 fills-nothing : (c : DriveConfig) (command : Command) (t now : PageTables) → is_setting command ≡ true → AppliesTo c command t now → FillsNone now
-fills-nothing c (commands.Write w) t now sets h = absurd (false≢true sets)
-fills-nothing c (commands.Read r) t now sets h = absurd (false≢true sets)
-fills-nothing c (commands.Zero z) t now sets h = absurd (false≢true sets)
-fills-nothing c (commands.Dealloc d) t now sets h = absurd (false≢true sets)
-fills-nothing c (commands.Flush f) t now sets h = absurd (false≢true sets)
-fills-nothing c (commands.Delete d) t now sets h = absurd (false≢true sets)
-fills-nothing c (commands.Status s) t now sets h = absurd (false≢true sets)
-fills-nothing c (commands.Update u) t now sets h = absurd (false≢true sets)
-fills-nothing c (commands.Log l) t now sets h = absurd (false≢true sets)
-fills-nothing c (commands.SetFdp set) t now sets h = set-none t now (classes_of c set.enable set.index) h.sets
-fills-nothing c (commands.GetFdp g) t now sets h = absurd (false≢true sets)
-fills-nothing c (commands.SetEvents set) t now sets h = absurd (false≢true sets)
-fills-nothing c (commands.Create create) t now sets h = absurd (false≢true sets)
-fills-nothing c (commands.Other o) t now sets h = absurd (false≢true sets)
+fills-nothing c command t now sets h =
+    each-setting (λ x. AppliesTo c x t now → FillsNone now) (λ s applies. set-none t now (classes_of c s.enable s.index) applies.sets) command sets h
 
 -- ---- its change was made
 

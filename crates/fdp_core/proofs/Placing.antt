@@ -5,7 +5,6 @@ use Rattle.std.proofs.lemmas.Bool.{false≢true}
 use Rattle.std.proofs.lemmas.List.{length-drop, length-take}
 use Rattle.std.proofs.lemmas.Nat.{mul-le}
 use Rattle.fdp_base.specs.declared.command.Command.{Command}
-use Rattle.fdp_base.specs.declared.command.Command.TheVariants as commands
 use Rattle.fdp_base.specs.declared.command.Write.{Write}
 use Rattle.fdp_base.specs.declared.config.DriveConfig.{DriveConfig}
 use Rattle.fdp_base.specs.declared.config.Geometry.{Geometry}
@@ -59,6 +58,7 @@ use Rattle.fdp_rules.specs.Step.{Follows, IsPlaced}
 use Rattle.fdp_relocation.proofs.fdp_book.Longer.{written-one, written-two}
 use Rattle.fdp_roominess.proofs.Placed.{room-placed}
 use Rattle.fdp_roominess.proofs.Runs.{keeps-failed, keeps-well}
+use Rattle.fdp_base.proofs.Writes.{write-is}
 
 -- ---- the place
 
@@ -93,22 +93,8 @@ has-payload c count i (payloads.Bytes bytes) fits below =
 
 -- a write has each of its blocks
 pub has-block : (c : DriveConfig) (command : Command) (w : Write) (i : ℕ) → write_of command ≡ Some w → IsWellFormed c command → i < blocks_written command → HasBlock c.block w.payload i
-has-block c (commands.Write write) w i e formed below =
-    let same : write.payload ≡ w.payload = cc in
-    subst (λ (p : Payload). HasBlock c.block p i) same (has-payload c write.count i write.payload formed.1 below)
-has-block c (commands.Read r) w i e formed below = absurd cc
-has-block c (commands.Zero z) w i e formed below = absurd cc
-has-block c (commands.Dealloc d) w i e formed below = absurd cc
-has-block c (commands.Flush f) w i e formed below = absurd cc
-has-block c (commands.Delete d) w i e formed below = absurd cc
-has-block c (commands.Status s) w i e formed below = absurd cc
-has-block c (commands.Update u) w i e formed below = absurd cc
-has-block c (commands.Log l) w i e formed below = absurd cc
-has-block c (commands.SetFdp s) w i e formed below = absurd cc
-has-block c (commands.GetFdp g) w i e formed below = absurd cc
-has-block c (commands.SetEvents s) w i e formed below = absurd cc
-has-block c (commands.Create create) w i e formed below = absurd cc
-has-block c (commands.Other o) w i e formed below = absurd cc
+has-block c command w i e =
+    subst (λ (x : Command). IsWellFormed c x → i < blocks_written x → HasBlock c.block w.payload i) (sym (write-is command w e)) (λ formed below. has-payload c w.count i w.payload formed.1 below)
 
 -- what a write puts
 pub as-write : (command : Command) → IsTrue (is_write command) → (w : Write) × (write_of command ≡ Some w)

@@ -43,8 +43,8 @@ use Rattle.fdp_loading.proofs.fdp_ledger.Emptied.{emptied-joined, emptied-none, 
 use Rattle.fdp_loading.specs.fdp_ledger.WornOut.{IsWornOut}
 use Rattle.fdp_loading.specs.fdp_ledger.Told.{is_media_reply, tells_failure}
 use Rattle.fdp_loading.proofs.fdp_ledger.Moments.{may-tell, new-moment}
-use Rattle.fdp_relocation.specs.Entries.{AreRelocationIn, IsRelocationIn}
-use Rattle.fdp_relocation.proofs.Keeping.{keeps-there, keeps-ticket}
+use Rattle.fdp_relocation.specs.Entries.{AreRelocationIn}
+use Rattle.fdp_relocation.proofs.Keeping.{keeps-there, keeps-ticket, quiet-entry}
 use Rattle.fdp_rules.specs.Answer.{bare}
 use Rattle.fdp_rules.specs.Change.{after, changed_by, is_media_error}
 use Rattle.fdp_rules.specs.History.{Found, state_of}
@@ -58,6 +58,7 @@ use Rattle.fdp_relocation.specs.fdp_trails.Crowded.{IsCrowded}
 use Rattle.fdp_relocation.proofs.fdp_trails.Crowding.{crowded-exceeds}
 use Rattle.fdp_relocation.proofs.fdp_book.Longer.{state-as, state-self}
 use Rattle.fdp_relocation.specs.fdp_saving.Calls.{FailAtEnd}
+use Rattle.fdp_base.specs.declared.entry.Host.{Host}
 
 -- ---- a worn group has no budget
 
@@ -102,22 +103,10 @@ has-block c b ticket g orderly is =
 none-media : (c : DriveConfig) (rg : ℕ) (es : List Entry) → AreRelocationIn c rg es → count_by is_media_reply es ≡ 0
 none-media c rg [] inside = refl
 none-media c rg (e ∷ es) inside =
-    let one = none-of e (inside 0 e (omega arith)) in
+    let none = (quiet-entry c rg e (inside 0 e (omega arith))).0.host in
+    let one : ◌≡◌ {A = ℕ} (if is_media_reply e then 1 else 0) 0 = ap (λ (o : Option Host). if option_map_or (λ (h : Host). is_media_error h.reply.status) o false then 1 else 0) none in
     let rest = none-media c rg es (λ k d low. inside (suc k) d (omega (arith, low))) in
     omega (arith, sum_by-cons (λ (x : Entry). if is_media_reply x then 1 else 0) e es, one, rest)
-  where
-    none-of : (e : Entry) → IsRelocationIn c rg e → ◌≡◌ {A = ℕ} (if is_media_reply e then 1 else 0) 0
-    none-of (entries.Host h) inside = absurd inside
-    none-of (entries.Started s) inside = refl
-    none-of (entries.Placed p) inside = refl
-    none-of (entries.Copied x) inside = refl
-    none-of (entries.Moved m) inside = refl
-    none-of (entries.Erased e) inside = refl
-    none-of (entries.Retired r) inside = refl
-    none-of (entries.Aside a) inside = refl
-    none-of (entries.Shut s) inside = refl
-    none-of (entries.Worn w) inside = refl
-    none-of entries.Reopened inside = refl
 
 -- ---- a write that ends behind steps of relocation
 

@@ -11,10 +11,10 @@ use Rattle.fdp_base.specs.declared.config.DriveConfig.{DriveConfig}
 use Rattle.fdp_base.specs.declared.entry.Host.{Host}
 use Rattle.fdp_base.specs.declared.entry.Reply.{Reply}
 use Rattle.fdp_base.specs.declared.entry.Started.{Started}
-use Rattle.fdp_base.specs.EntryKinds.{host_of, started_of}
 use Rattle.fdp_relocation.specs.Entries.{AreRelocationIn, IsRelocationIn}
 use Rattle.fdp_rules.specs.Queue.{completed, completed_by, starting_queue}
 use Rattle.fdp_core.specs.Silence.{OthersStaySilent}
+use Rattle.fdp_relocation.proofs.Keeping.{quiet-entry}
 
 starts-one : (other : ℕ) (e : Entry) → starting_queue e ≢ other → All (λ x. starting_queue x ≢ other) (e ∷ [])
 starts-one other e one = All-cons (λ x. starting_queue x ≢ other) e [] one (All-nil (λ x. starting_queue x ≢ other))
@@ -58,29 +58,11 @@ silent-shut queue rg ruh other some ne = record { completes = refl; starts = sta
 
 -- ---- relocation
 
--- an entry of relocation completes nothing, and starts nothing
-record IsQuiet (e : Entry) : Type 0 where
-  host : host_of e ≡ None
-  started : started_of e ≡ None
-
-quiet : (c : DriveConfig) (rg : ℕ) (e : Entry) → IsRelocationIn c rg e → IsQuiet e
-quiet c rg (entries.Host h) is = absurd is
-quiet c rg (entries.Started s) is = absurd is
-quiet c rg (entries.Placed p) is = absurd is
-quiet c rg (entries.Copied x) is = record { host = refl; started = refl }
-quiet c rg (entries.Moved m) is = record { host = refl; started = refl }
-quiet c rg (entries.Erased e) is = record { host = refl; started = refl }
-quiet c rg (entries.Retired r) is = record { host = refl; started = refl }
-quiet c rg (entries.Aside a) is = record { host = refl; started = refl }
-quiet c rg (entries.Shut s) is = absurd is
-quiet c rg (entries.Worn w) is = record { host = refl; started = refl }
-quiet c rg entries.Reopened is = absurd is
-
 -- steps of relocation complete nothing
 pub relocation-completes : (queue : ℕ) (c : DriveConfig) (rg : ℕ) (es : List Entry) → AreRelocationIn c rg es → completed queue es ≡ []
 relocation-completes queue c rg [] all = refl
 relocation-completes queue c rg (e ∷ es) all =
-    ap (λ (o : Option Host). cons_option (option_and_then (λ (h : Host). cond (nat_eq h.queue queue) (Some (h.number, h.command)) None) o) (completed queue es)) (quiet c rg e (All-head (IsRelocationIn c rg) e es all)).host
+    ap (λ (o : Option Host). cons_option (option_and_then (λ (h : Host). cond (nat_eq h.queue queue) (Some (h.number, h.command)) None) o) (completed queue es)) (quiet-entry c rg e (All-head (IsRelocationIn c rg) e es all)).0.host
     ∙ relocation-completes queue c rg es (All-tail (IsRelocationIn c rg) e es all)
 
 -- steps of relocation, for whichever queue
@@ -88,7 +70,7 @@ pub silent-relocation : (queue : ℕ) (c : DriveConfig) (rg : ℕ) (es : List En
 silent-relocation queue c rg [] all other some ne = silent-none queue other some ne
 silent-relocation queue c rg (e ∷ es) all other some ne =
     let rest = silent-relocation queue c rg es (All-tail (IsRelocationIn c rg) e es all) other some ne in
-    let none = (quiet c rg e (All-head (IsRelocationIn c rg) e es all)).started in
+    let none = (quiet-entry c rg e (All-head (IsRelocationIn c rg) e es all)).0.started in
     record {
       completes = relocation-completes other c rg (e ∷ es) all;
       starts = All-cons (λ x. starting_queue x ≢ other) e es (λ same. omega (arith, some, sym (ap (λ (o : Option Started). option_map_or (λ (s : Started). s.queue) o 0) none) ∙ same)) rest.starts;

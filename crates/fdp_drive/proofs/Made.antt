@@ -11,7 +11,7 @@ use Rattle.fdp_base.specs.declared.entry.Entry.{Entry}
 use Rattle.fdp_base.specs.declared.entry.Started.{Started}
 use Rattle.fdp_base.specs.Records.{CarriesNone}
 use Rattle.fdp_base.proofs.Records.{prefix_refl}
-use Rattle.fdp_board.specs.Board.{AreCharged, Began, BoardSeen, HasServedNothing, IsRoomySince, IsSafeSince, IsUnfailing, ServesNone, began_with, items_of}
+use Rattle.fdp_board.specs.Board.{AreCharged, Began, BoardSeen, HasServedNothing, IsRoomySince, IsSafeSince, IsUnfailing, began_with, items_of}
 use Rattle.fdp_board.proofs.Charging.{none-charged}
 use Rattle.fdp_board.proofs.Items.{entries-marked, none-carry, none-completes}
 use Rattle.fdp_crews.specs.Crews.{trace_of}
@@ -27,6 +27,7 @@ use Rattle.fdp_crews.specs.fdp_workers.Marks.{entry_in, mark_in}
 use Rattle.fdp_crews.specs.fdp_workers.Queues.{receipts_of, starts, times_started}
 use Rattle.fdp_crews.specs.fdp_workers.Run.{Run}
 use Rattle.fdp_drive.specs.Session.{EndsAs, HasLeft, IsSameDrive, IsSession}
+use Rattle.fdp_base.specs.EntryKinds.{ServesNone}
 
 -- ---- queues without a trace
 

@@ -3,12 +3,12 @@ use Rattle.std.proofs.Common.{◌≡◌, ◌⊎◌, ⊎_elim, inl, inr, ℕ, Opt
 use Rattle.fdp_base.specs.declared.config.DriveConfig.{DriveConfig}
 use Rattle.fdp_base.specs.declared.entry.Entry.{Entry}
 use Rattle.fdp_base.specs.declared.entry.Entry.TheVariants as entries
-use Rattle.fdp_base.proofs.Entries.{IsOther}
+use Rattle.fdp_base.specs.EntryKinds.{ServesNone}
 use Rattle.fdp_rules.specs.Change.{changed_by}
 use Rattle.fdp_rules.specs.PlainState.{Going, PlainState}
 
 -- it leaves them as they are, or opens the drive
-pub others-going : (c : DriveConfig) (s : PlainState) (e : Entry) → IsOther e → ((changed_by c s e).going ≡ s.going) ⊎ (e ≡ entries.Reopened)
+pub others-going : (c : DriveConfig) (s : PlainState) (e : Entry) → ServesNone e → ((changed_by c s e).going ≡ s.going) ⊎ (e ≡ entries.Reopened)
 unfolding changed_by
 others-going c s (entries.Host h) other = let none = other.host in absurd cc
 others-going c s (entries.Started started) other = let none = other.started in absurd cc
@@ -28,7 +28,7 @@ unfolding changed_by
 none-opened c s queue g some = cc
 
 -- a write that is going after it was going before
-pub others-before : (c : DriveConfig) (s : PlainState) (e : Entry) → IsOther e → (queue : ℕ) (g : Going) → (changed_by c s e).going queue ≡ Some g → s.going queue ≡ Some g
+pub others-before : (c : DriveConfig) (s : PlainState) (e : Entry) → ServesNone e → (queue : ℕ) (g : Going) → (changed_by c s e).going queue ≡ Some g → s.going queue ≡ Some g
 others-before c s e other queue g some =
     ⊎_elim
     (λ same. sym (ap (λ (going : ℕ → Option Going). going queue) same) ∙ some)

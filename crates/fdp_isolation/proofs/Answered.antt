@@ -2,7 +2,6 @@
 use Rattle.std.proofs.Common.{◌≡◌, ℕ, ◌+◌, Bool, true, false, IsTrue, List, [], ◌∷◌, Some, refl, sym, ◌∙◌, ap, subst}
 use Rattle.std.specs.Prelude.{◌&&◌, ◌||◌}
 use Rattle.fdp_base.specs.declared.command.Command.{Command}
-use Rattle.fdp_base.specs.declared.command.Command.TheVariants as commands
 use Rattle.fdp_base.specs.declared.config.DriveConfig.{DriveConfig}
 use Rattle.fdp_base.specs.declared.entry.Entry.{Entry}
 use Rattle.fdp_base.specs.declared.entry.Entry.TheVariants as entries
@@ -16,7 +15,7 @@ use Rattle.fdp_book.specs.Steps.{Completes}
 use Rattle.fdp_flash.specs.declared.cell.Cell.{Cell}
 use Rattle.fdp_isolation.specs.Isolated.{sets_placement, since_setting}
 use Rattle.fdp_isolation.specs.Laned.{AreLaned, IsKnown, IsLaned}
-use Rattle.fdp_isolation.proofs.Entries.{IsQuietStep, and-false, no, only-placed-host, since-set}
+use Rattle.fdp_isolation.proofs.Entries.{IsQuietStep, and-false, only-placed-host, since-set}
 use Rattle.fdp_isolation.proofs.Keeping.{FillsNoMore, FillsNone, TakesNoMore, laned-renewed, laned-still, owners-fill, taken-kept}
 use Rattle.fdp_isolation.proofs.Owning.{KeepsOwners, StoodBehind, book-owners, host-site, stood-other, stood-unmade, stood-written}
 use Rattle.fdp_isolation.proofs.Setting.{generation-set, set-unwritten}
@@ -32,6 +31,7 @@ use Rattle.fdp_rules.specs.PlainState.{Going}
 use Rattle.fdp_rules.specs.Point.{Point}
 use Rattle.fdp_rules.specs.Step.{MaySucceed}
 use Rattle.fdp_book.proofs.Longer.{point-one, written-one}
+use Rattle.fdp_base.proofs.Writes.{each-write}
 
 -- a command that is no setting, or whose change is not made, puts no other configuration in force
 abbrev pub IsUnset : Command → Reply → Type 0
@@ -45,20 +45,7 @@ unset-other command reply other = ap (λ (b : Bool). b && reply.applied) other
 
 -- a write is none
 pub unset-write : (command : Command) (reply : Reply) → IsTrue (is_write command) → IsUnset command reply
-unset-write (commands.Write w) reply write = refl
-unset-write (commands.Read r) reply write = absurd (no (sym write))
-unset-write (commands.Zero z) reply write = absurd (no (sym write))
-unset-write (commands.Dealloc d) reply write = absurd (no (sym write))
-unset-write (commands.Flush f) reply write = absurd (no (sym write))
-unset-write (commands.Delete d) reply write = absurd (no (sym write))
-unset-write (commands.Status status) reply write = absurd (no (sym write))
-unset-write (commands.Update u) reply write = absurd (no (sym write))
-unset-write (commands.Log l) reply write = absurd (no (sym write))
-unset-write (commands.SetFdp set) reply write = absurd (no (sym write))
-unset-write (commands.GetFdp g) reply write = absurd (no (sym write))
-unset-write (commands.SetEvents set) reply write = absurd (no (sym write))
-unset-write (commands.Create create) reply write = absurd (no (sym write))
-unset-write (commands.Other o) reply write = absurd (no (sym write))
+unset-write command reply write = each-write (λ x. IsUnset x reply) (λ w. refl) command write
 
 module _ (old new : BookSeen) (queue number : ℕ) (command : Command) (reply : Reply) (moment : ℕ) (done : Done) (cells : List Cell) (known : IsKnown old) (led : IsLed new)
     (completes : Completes old new [] queue number command reply moment done) where

@@ -1,52 +1,25 @@
 -- What the command is that puts another configuration in force.
-use Rattle.std.proofs.Common.{◌≡◌, ℕ, ◌+◌, Bool, true, false, refl, sym, ◌∙◌, ap}
+use Rattle.std.proofs.Common.{◌≡◌, ℕ, ◌+◌, Bool, true, false, refl, ◌∙◌, ap}
 use Rattle.std.specs.Prelude.{if◌then◌else◌}
 use Rattle.fdp_base.specs.declared.command.Command.{Command}
-use Rattle.fdp_base.specs.declared.command.Command.TheVariants as commands
 use Rattle.fdp_base.specs.declared.config.DriveConfig.{DriveConfig}
 use Rattle.fdp_base.specs.declared.entry.Entry.TheVariants as entries
 use Rattle.fdp_base.specs.declared.entry.Reply.{Reply}
 use Rattle.fdp_base.specs.CommandKinds.{is_setting, is_write}
-use Rattle.fdp_isolation.proofs.Entries.{no}
 use Rattle.fdp_rules.specs.Change.{after, changed_by}
 use Rattle.fdp_rules.specs.Effect.{effect_of}
 use Rattle.fdp_rules.specs.Next.{next}
 use Rattle.fdp_rules.specs.PlainState.{PlainState}
 use Rattle.fdp_rules.specs.Point.{Point}
+use Rattle.fdp_rules.proofs.Effects.{each-setting}
 
 -- it is no write
 pub set-unwritten : (command : Command) → is_setting command ≡ true → is_write command ≡ false
-set-unwritten (commands.Write w) sets = absurd (no (sym sets))
-set-unwritten (commands.Read r) sets = absurd (no (sym sets))
-set-unwritten (commands.Zero z) sets = absurd (no (sym sets))
-set-unwritten (commands.Dealloc d) sets = absurd (no (sym sets))
-set-unwritten (commands.Flush f) sets = absurd (no (sym sets))
-set-unwritten (commands.Delete d) sets = absurd (no (sym sets))
-set-unwritten (commands.Status status) sets = absurd (no (sym sets))
-set-unwritten (commands.Update u) sets = absurd (no (sym sets))
-set-unwritten (commands.Log l) sets = absurd (no (sym sets))
-set-unwritten (commands.SetFdp set) sets = refl
-set-unwritten (commands.GetFdp g) sets = absurd (no (sym sets))
-set-unwritten (commands.SetEvents set) sets = absurd (no (sym sets))
-set-unwritten (commands.Create create) sets = absurd (no (sym sets))
-set-unwritten (commands.Other o) sets = absurd (no (sym sets))
+set-unwritten command sets = each-setting (λ x. is_write x ≡ false) (λ set. refl) command sets
 
 effect-renews : (c : DriveConfig) (s : PlainState) (queue : ℕ) (command : Command) → is_setting command ≡ true → (effect_of c s queue command).generation ≡ s.generation + 1
 unfolding effect_of
-effect-renews c s queue (commands.Write w) sets = absurd (no (sym sets))
-effect-renews c s queue (commands.Read r) sets = absurd (no (sym sets))
-effect-renews c s queue (commands.Zero z) sets = absurd (no (sym sets))
-effect-renews c s queue (commands.Dealloc d) sets = absurd (no (sym sets))
-effect-renews c s queue (commands.Flush f) sets = absurd (no (sym sets))
-effect-renews c s queue (commands.Delete d) sets = absurd (no (sym sets))
-effect-renews c s queue (commands.Status status) sets = absurd (no (sym sets))
-effect-renews c s queue (commands.Update u) sets = absurd (no (sym sets))
-effect-renews c s queue (commands.Log l) sets = absurd (no (sym sets))
-effect-renews c s queue (commands.SetFdp set) sets = refl
-effect-renews c s queue (commands.GetFdp g) sets = absurd (no (sym sets))
-effect-renews c s queue (commands.SetEvents set) sets = absurd (no (sym sets))
-effect-renews c s queue (commands.Create create) sets = absurd (no (sym sets))
-effect-renews c s queue (commands.Other o) sets = absurd (no (sym sets))
+effect-renews c s queue command sets = each-setting (λ x. (effect_of c s queue x).generation ≡ s.generation + 1) (λ set. refl) command sets
 
 -- behind it the generation is one more
 pub generation-set : (c : DriveConfig) (p : Point) (queue number : ℕ) (command : Command) (reply : Reply) (moment : ℕ) → is_setting command ≡ true → reply.applied ≡ true

@@ -45,32 +45,25 @@ use Rattle.fdp_durability.specs.fdp_saving.declared.saved.Saved.TheVariants as a
 use Rattle.fdp_snapshot.specs.declared.space.Space.{Space}
 use Rattle.fdp_snapshot.specs.declared.state.Summary.{Summary}
 use Rattle.fdp_snapshot.specs.Fixed.{IsSummary}
+use Rattle.fdp_rules.proofs.Effects.{by-saved}
+use Rattle.fdp_rules.specs.Refusal.{refusal_of}
 
 -- ---- the change saves its entry
 
 pub change-saves : (c : DriveConfig) (p : Point) (queue number : ℕ) (command : Command) (reply : Reply) (moment : ℕ) (change : Change) → IsOrderly c p → IsTrue reply.applied → IsTrue (is_saved command) → IsFalse (is_write command)
     → IsChangeOf c p.state command change → Saves c p change (completed queue number command reply moment)
-change-saves c p queue number (commands.Write w) reply moment change orderly applied saved other is = absurd cc
-change-saves c p queue number (commands.Read r) reply moment change orderly applied saved other is = absurd cc
-change-saves c p queue number (commands.Zero z) reply moment change orderly applied saved other is =
-    subst (λ (x : Change). Saves c p x (completed queue number (commands.Zero z) reply moment)) (sym is) (zero-saved c p queue number z reply moment applied)
-change-saves c p queue number (commands.Dealloc d) reply moment change orderly applied saved other is =
-    subst (λ (x : Change). Saves c p x (completed queue number (commands.Dealloc d) reply moment)) (sym is) (dealloc-saved c p queue number d reply moment applied saved)
-change-saves c p queue number (commands.Flush f) reply moment change orderly applied saved other is = absurd cc
-change-saves c p queue number (commands.Delete d) reply moment change orderly applied saved other is =
-    subst (λ (x : Change). Saves c p x (completed queue number (commands.Delete d) reply moment)) (sym is) (delete-saved c p queue number d reply moment applied)
-change-saves c p queue number (commands.Status s) reply moment change orderly applied saved other is = absurd cc
-change-saves c p queue number (commands.Update u) reply moment change orderly applied saved other is =
-    subst (λ (x : Change). Saves c p x (completed queue number (commands.Update u) reply moment)) (sym is.change_is) (update-saved c p queue number u reply moment is.closed orderly applied is.tells)
-change-saves c p queue number (commands.Log l) reply moment change orderly applied saved other is = absurd cc
-change-saves c p queue number (commands.SetFdp set) reply moment change orderly applied saved other is =
-    subst (λ (x : Change). Saves c p x (completed queue number (commands.SetFdp set) reply moment)) (sym is) (placement-saved c p queue number set reply moment applied)
-change-saves c p queue number (commands.GetFdp g) reply moment change orderly applied saved other is = absurd cc
-change-saves c p queue number (commands.SetEvents set) reply moment change orderly applied saved other is =
-    subst (λ (x : Change). Saves c p x (completed queue number (commands.SetEvents set) reply moment)) (sym is.change_is) (kinds-saved c p queue number set reply moment is.mask applied is.kinds)
-change-saves c p queue number (commands.Create create) reply moment change orderly applied saved other is =
-    subst (λ (x : Change). Saves c p x (completed queue number (commands.Create create) reply moment)) (sym is) (create-saved c p queue number create reply moment orderly applied)
-change-saves c p queue number (commands.Other o) reply moment change orderly applied saved other is = absurd cc
+change-saves c p queue number command reply moment change orderly applied saved other =
+    by-saved (λ x. IsChangeOf c p.state x change → Saves c p change (completed queue number x reply moment))
+    (record {
+      zero = λ z is. subst (λ (x : Change). Saves c p x (completed queue number (commands.Zero z) reply moment)) (sym is) (zero-saved c p queue number z reply moment applied);
+      dealloc = λ d gone is. subst (λ (x : Change). Saves c p x (completed queue number (commands.Dealloc d) reply moment)) (sym is) (dealloc-saved c p queue number d reply moment applied gone);
+      delete = λ d is. subst (λ (x : Change). Saves c p x (completed queue number (commands.Delete d) reply moment)) (sym is) (delete-saved c p queue number d reply moment applied);
+      update = λ u is. subst (λ (x : Change). Saves c p x (completed queue number (commands.Update u) reply moment)) (sym is.change_is) (update-saved c p queue number u reply moment is.closed orderly applied is.tells);
+      set_fdp = λ set is. subst (λ (x : Change). Saves c p x (completed queue number (commands.SetFdp set) reply moment)) (sym is) (placement-saved c p queue number set reply moment applied);
+      set_events = λ set is. subst (λ (x : Change). Saves c p x (completed queue number (commands.SetEvents set) reply moment)) (sym is.change_is) (kinds-saved c p queue number set reply moment is.mask applied is.kinds);
+      create = λ create is. subst (λ (x : Change). Saves c p x (completed queue number (commands.Create create) reply moment)) (sym is) (create-saved c p queue number create reply moment orderly applied);
+    })
+    command saved other
 
 -- ---- it can be kept
 
@@ -88,40 +81,25 @@ created-kept c p s nsid size given list h within free some few =
 
 pub can-be-kept : (b : BookSeen) (s : Summary) (command : Command) (change : Change) → IsValidConfig b.config → IsOrderly b.config (point_in b) → IsOutlineOf b.config (drawn b.config (point_in b)) s → CanBeSaved b command
     → IsChangeOf b.config (point_in b).state command change → CanBeKept s change
-can-be-kept b s (commands.Write w) change valid orderly h may is = absurd (no-write may.other) where
-  no-write : IsFalse true → ⊥
-  no-write e = cc
-can-be-kept b s (commands.Read r) change valid orderly h may is = absurd (not-saved may.saved) where
-  not-saved : IsTrue false → ⊥
-  not-saved e = cc
-can-be-kept b s (commands.Zero z) change valid orderly h may is = subst (CanBeKept s) (sym is) tt
-can-be-kept b s (commands.Dealloc d) change valid orderly h may is = subst (CanBeKept s) (sym is) tt
-can-be-kept b s (commands.Flush f) change valid orderly h may is = absurd (not-saved may.saved) where
-  not-saved : IsTrue false → ⊥
-  not-saved e = cc
-can-be-kept b s (commands.Delete d) change valid orderly h may is = subst (CanBeKept s) (sym is) (deleted-id b.config (point_in b) d orderly.state may.accepted)
-can-be-kept b s (commands.Status status) change valid orderly h may is = absurd (not-saved may.saved) where
-  not-saved : IsTrue false → ⊥
-  not-saved e = cc
-can-be-kept b s (commands.Update u) change valid orderly h may is = subst (CanBeKept s) (sym is.change_is) (few-pids b.config (point_in b) u may.accepted)
-can-be-kept b s (commands.Log l) change valid orderly h may is = absurd (not-saved may.saved) where
-  not-saved : IsTrue false → ⊥
-  not-saved e = cc
-can-be-kept b s (commands.SetFdp set) change valid orderly h may is = subst (CanBeKept s) (sym is) tt
-can-be-kept b s (commands.GetFdp g) change valid orderly h may is = absurd (not-saved may.saved) where
-  not-saved : IsTrue false → ⊥
-  not-saved e = cc
-can-be-kept b s (commands.SetEvents set) change valid orderly h may is =
-    let low = handle-below b.config (point_in b).state valid orderly.state set.nsid set.handle in
-    let few = (handles-in_force b.config (point_in b).state valid orderly.state).1 in
-    let small : slice_index (handles_of (point_in b).state set.nsid) set.handle < 16 = omega (arith, low, few) in
-    subst (CanBeKept s) (sym is.change_is) small
-can-be-kept b s (commands.Create create) change valid orderly h may is =
-    let good : IsCreatable (point_in b).state create = creatable b.config (point_in b) create valid orderly.state may.accepted in
-    subst (CanBeKept s) (sym is) (created-kept b.config (point_in b) s (unwrap_or (lowest_free (point_in b).state) 0) create.size (create.given && nat_lt 0 (length create.list)) create.list h (good.nsid.0, good.nsid.1) good.free good.size good.few)
-can-be-kept b s (commands.Other o) change valid orderly h may is = absurd (not-saved may.saved) where
-  not-saved : IsTrue false → ⊥
-  not-saved e = cc
+can-be-kept b s command change valid orderly h may =
+    by-saved (λ x. refusal_of b.config (point_in b) x ≡ None → IsChangeOf b.config (point_in b).state x change → CanBeKept s change)
+    (record {
+      zero = λ z accepted is. subst (CanBeKept s) (sym is) tt;
+      dealloc = λ d gone accepted is. subst (CanBeKept s) (sym is) tt;
+      delete = λ d accepted is. subst (CanBeKept s) (sym is) (deleted-id b.config (point_in b) d orderly.state accepted);
+      update = λ u accepted is. subst (CanBeKept s) (sym is.change_is) (few-pids b.config (point_in b) u accepted);
+      set_fdp = λ set accepted is. subst (CanBeKept s) (sym is) tt;
+      set_events = λ set accepted is.
+          let low = handle-below b.config (point_in b).state valid orderly.state set.nsid set.handle in
+          let few = (handles-in_force b.config (point_in b).state valid orderly.state).1 in
+          let small : slice_index (handles_of (point_in b).state set.nsid) set.handle < 16 = omega (arith, low, few) in
+          subst (CanBeKept s) (sym is.change_is) small;
+      create = λ create accepted is.
+          let good : IsCreatable (point_in b).state create = creatable b.config (point_in b) create valid orderly.state accepted in
+          subst (CanBeKept s) (sym is)
+          (created-kept b.config (point_in b) s (unwrap_or (lowest_free (point_in b).state) 0) create.size (create.given && nat_lt 0 (length create.list)) create.list h (good.nsid.0, good.nsid.1) good.free good.size good.few);
+    })
+    command may.saved may.other may.accepted
 
 -- ---- the outline and the sums behind it
 

@@ -9,7 +9,7 @@ use Rattle.fdp_base.specs.declared.event.EventKind.{EventKind}
 use Rattle.fdp_base.specs.declared.event.EventKind.TheVariants as kinds
 use Rattle.fdp_base.specs.EventCodes.{kind_code}
 use Rattle.fdp_image.specs.CheckpointRows.{has_kind}
-use Rattle.fdp_outline.proofs.MaskBits.{kinds_with}
+use Rattle.fdp_events.proofs.MaskBits.{kinds_with}
 
 either : (a b x y : Bool) → a ≡ x → b ≡ y → (if a then true else b) ≡ (x || y)
 either true b x y same e = ap (λ (z : Bool). z || y) same

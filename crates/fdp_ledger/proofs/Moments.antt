@@ -26,23 +26,19 @@ use Rattle.fdp_ledger.specs.Told.{is_media_reply}
 use Rattle.fdp_ledger.proofs.Counting.{one-more_bound}
 use Rattle.fdp_ledger.proofs.Entries.{count-push}
 use Rattle.fdp_book.proofs.Longer.{point-as}
+use Rattle.fdp_base.proofs.Entries.{by-host}
+use Rattle.fdp_rules.proofs.LastWrites.{uncompleted-keeps}
 
 -- ---- what an entry adds to them
 
 -- an entry that tells of no media error
 pub media-kept : (c : DriveConfig) (p : Point) (e : Entry) → is_media_reply e ≡ false → (next c p e).state.media ≡ p.state.media
 unfolding next after changed_by
-media-kept c p (entries.Host h) none = ap (λ (b : Bool). if b then h.moment ∷ p.state.media else p.state.media) none
-media-kept c p (entries.Started s) none = refl
-media-kept c p (entries.Placed x) none = refl
-media-kept c p (entries.Copied x) none = refl
-media-kept c p (entries.Moved m) none = refl
-media-kept c p (entries.Erased e) none = refl
-media-kept c p (entries.Retired r) none = refl
-media-kept c p (entries.Aside a) none = refl
-media-kept c p (entries.Shut s) none = refl
-media-kept c p (entries.Worn w) none = refl
-media-kept c p entries.Reopened none = refl
+media-kept c p e none =
+    by-host (λ x. is_media_reply x ≡ false → (next c p x).state.media ≡ p.state.media)
+    (λ h quiet. ap (λ (b : Bool). if b then h.moment ∷ p.state.media else p.state.media) quiet)
+    (λ x other quiet. (uncompleted-keeps c p.state x other).media)
+    e none
 
 -- a completed command adds its moment, or none
 pub media-host : (c : DriveConfig) (p : Point) (queue number : ℕ) (command : Command) (reply : Reply) (moment : ℕ) → (next c p (entries.Host (record { queue = queue; number = number; command = command; reply = reply; moment = moment }))).state.media ≡ (if is_media_error reply.status then moment ∷ p.state.media else p.state.media)

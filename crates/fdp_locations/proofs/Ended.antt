@@ -1,6 +1,6 @@
 -- What the beginning and the end of a write leave of owners and pointers.
 use Rattle.std.proofs.Common.{◌≡◌, ◌≢◌, ℕ, ◌≤◌, ◌<◌, Bool, true, false, List, Option, Some, None, refl, sym, ◌∙◌, ap, subst, arith, ⊎_elim, eq-eqb, ne_eqb}
-use Rattle.std.specs.Prelude.{Contains, IsFalse, IsTrue, not, if◌then◌else◌, option_and_then}
+use Rattle.std.specs.Prelude.{Contains, IsFalse, IsTrue, not, if◌then◌else◌, option_and_then, is_some}
 use Rattle.std.specs.List.{list_any}
 use Rattle.std.proofs.lemmas.Bool.{cases_eq}
 use Rattle.fdp_base.specs.declared.command.Command.{Command}
@@ -33,6 +33,8 @@ use Rattle.fdp_rules.specs.Point.{Point}
 use Rattle.fdp_rules.specs.Sites.{is_spot}
 use Rattle.fdp_rules.specs.Step.{Follows}
 use Rattle.fdp_trails.specs.Followed.{IsPassOf}
+use Rattle.fdp_base.proofs.Writes.{by-write}
+use Rattle.fdp_pointers.proofs.Names.{keeps-all-or-some}
 
 never : {X : Type 0} {x : X} → None ≡ Some x → ⊥
 never e = cc
@@ -123,20 +125,10 @@ ends-as s queue made command unmade =
     subst (λ (b : Bool). ended_by s queue b command ≡ (if is_write command then only (is_of_another queue) else Some)) (sym unmade) (each command)
   where
     each : (k : Command) → ended_by s queue false k ≡ (if is_write k then only (is_of_another queue) else Some)
-    each (commands.Write w) = refl
-    each (commands.Read r) = refl
-    each (commands.Zero z) = refl
-    each (commands.Dealloc d) = refl
-    each (commands.Flush f) = refl
-    each (commands.Delete d) = refl
-    each (commands.Status x) = refl
-    each (commands.Update u) = refl
-    each (commands.Log l) = refl
-    each (commands.SetFdp x) = refl
-    each (commands.GetFdp g) = refl
-    each (commands.SetEvents x) = refl
-    each (commands.Create c) = refl
-    each (commands.Other o) = refl
+    each =
+        by-write (λ k. ended_by s queue false k ≡ (if is_write k then only (is_of_another queue) else Some))
+        (λ w. refl)
+        (λ k other. ⊎_elim (λ all. all false) (λ some. some.ends false) (keeps-all-or-some s queue k other) ∙ sym (ap (λ (o : Option Write). if is_some o then only (is_of_another queue) else Some) other))
 
 -- a write: none is going in its queue after it
 pub led-ended : (told : Bool) (c : DriveConfig) (p : Point) (queue number : ℕ) (command : Command) (reply : Reply) (moment : ℕ) (written : Spot → Option Written) (at : Behind Page) (t now : PageTables) →

@@ -1,6 +1,6 @@
 -- What each entry leaves of the generation and the group that the spares of pages name.
 use Rattle.std.proofs.Common.{◌≡◌, ◌⊎◌, ℕ, Bool, true, false, ◌&&◌, Option, Some, None, refl, sym, ◌∙◌, ap, subst, ⊎_elim, inl, inr}
-use Rattle.std.specs.Prelude.{◌==◌, if◌then◌else◌, nat_lt, option_and_then, option_map}
+use Rattle.std.specs.Prelude.{◌==◌, if◌then◌else◌, nat_lt, option_and_then, option_map, MatchBool}
 use Rattle.std.specs.Option.{option_map_or}
 use Rattle.fdp_base.specs.declared.command.Command.{Command}
 use Rattle.fdp_base.specs.declared.command.Command.TheVariants as commands
@@ -11,7 +11,7 @@ use Rattle.fdp_base.specs.declared.entry.Entry.TheVariants as entries
 use Rattle.fdp_base.specs.declared.entry.Host.{Host}
 use Rattle.fdp_base.specs.declared.entry.Reply.{Reply}
 use Rattle.fdp_base.specs.declared.entry.Spot.{Spot}
-use Rattle.fdp_base.specs.CommandKinds.{is_setting, nsid_of}
+use Rattle.fdp_base.specs.CommandKinds.{is_setting, nsid_of, is_write}
 use Rattle.fdp_base.specs.EntryKinds.{host_of}
 use Rattle.fdp_history.specs.OrderlyState.{IsOrderlyState}
 use Rattle.fdp_history.proofs.Checks.{accepted-feature}
@@ -27,7 +27,10 @@ use Rattle.fdp_rules.specs.Next.{next}
 use Rattle.fdp_rules.specs.PlainState.{Block, Going, Namespace, PageName, PlainState}
 use Rattle.fdp_rules.specs.Point.{Point}
 use Rattle.fdp_rules.specs.Sites.{group_of, is_there}
-use Rattle.fdp_rules.specs.Step.{Follows, IsPlainReply}
+use Rattle.fdp_rules.specs.Step.{Follows, IsPlainReply, IsWriteReply}
+use Rattle.fdp_base.proofs.Entries.{by-host}
+use Rattle.fdp_rules.proofs.LastWrites.{uncompleted-keeps}
+use Rattle.fdp_rules.proofs.Effects.{by-effect, by-setting}
 
 no : true ≡ false → ⊥
 no e = cc
@@ -36,20 +39,20 @@ no e = cc
 
 effect-generation : (c : DriveConfig) (s : PlainState) (queue : ℕ) (command : Command) → is_setting command ≡ false → (effect_of c s queue command).generation ≡ s.generation
 unfolding effect_of
-effect-generation c s queue (commands.Write w) other = refl
-effect-generation c s queue (commands.Read r) other = refl
-effect-generation c s queue (commands.Zero z) other = refl
-effect-generation c s queue (commands.Dealloc d) other = refl
-effect-generation c s queue (commands.Flush f) other = refl
-effect-generation c s queue (commands.Delete d) other = refl
-effect-generation c s queue (commands.Status status) other = refl
-effect-generation c s queue (commands.Update u) other = refl
-effect-generation c s queue (commands.Log l) other = refl
-effect-generation c s queue (commands.SetFdp set) other = absurd (no other)
-effect-generation c s queue (commands.GetFdp g) other = refl
-effect-generation c s queue (commands.SetEvents set) other = refl
-effect-generation c s queue (commands.Create create) other = refl
-effect-generation c s queue (commands.Other o) other = refl
+effect-generation c s queue command =
+    by-effect (λ x. is_setting x ≡ false → (effect_of c s queue x).generation ≡ s.generation)
+    (record {
+      write = λ w other. refl;
+      zero = λ z other. refl;
+      dealloc = λ d other. refl;
+      delete = λ d other. refl;
+      update = λ u other. refl;
+      set_fdp = λ x other. absurd (no other);
+      set_events = λ x other. refl;
+      create = λ x other. refl;
+      nothing = λ x none other. ap (λ (t : PlainState). t.generation) (none.state c s queue);
+    })
+    command
 
 made-generation : (c : DriveConfig) (s : PlainState) (queue : ℕ) (command : Command) (made : Bool) → (is_setting command && made) ≡ false → (if made then effect_of c s queue command else s).generation ≡ s.generation
 made-generation c s queue command false other = refl
@@ -65,17 +68,11 @@ sets e = option_map_or (λ (h : Host). is_setting h.command && h.reply.applied) 
 -- one that does not leaves the generation
 pub generation-next : (c : DriveConfig) (p : Point) (e : Entry) → sets e ≡ false → (next c p e).state.generation ≡ p.state.generation
 unfolding next after changed_by
-generation-next c p (entries.Host h) other = made-generation c p.state h.queue h.command h.reply.applied other
-generation-next c p (entries.Started s) other = refl
-generation-next c p (entries.Placed placed) other = refl
-generation-next c p (entries.Copied copied) other = refl
-generation-next c p (entries.Moved m) other = refl
-generation-next c p (entries.Erased e) other = refl
-generation-next c p (entries.Retired r) other = refl
-generation-next c p (entries.Aside a) other = refl
-generation-next c p (entries.Shut s) other = refl
-generation-next c p (entries.Worn w) other = refl
-generation-next c p entries.Reopened other = refl
+generation-next c p e other =
+    by-host (λ x. sets x ≡ false → (next c p x).state.generation ≡ p.state.generation)
+    (λ h unset. made-generation c p.state h.queue h.command h.reply.applied unset)
+    (λ x none unset. (uncompleted-keeps c p.state x none).kept.generation)
+    e other
 
 -- ---- one that does comes while there is no namespace
 
@@ -94,39 +91,28 @@ accepted-none told c p x reply moment orderly made replied =
     accepted)
     replied
 
-host-none : (told : Bool) (c : DriveConfig) (p : Point) (queue number : ℕ) (command : Command) (reply : Reply) (moment : ℕ) → IsOrderlyState c p.state → Follows told c p (entries.Host (record { queue = queue; number = number; command = command; reply = reply; moment = moment })) → (is_setting command && reply.applied) ≡ true → HasNone p.state
+host-none : (told : Bool) (c : DriveConfig) (p : Point) (h : Host) → IsOrderlyState c p.state → Follows told c p (entries.Host h) → (is_setting h.command && h.reply.applied) ≡ true → HasNone p.state
 unfolding Follows
-host-none told c p queue number (commands.SetFdp x) reply moment orderly follows sets = accepted-none told c p x reply moment orderly sets follows.replied
-host-none told c p queue number (commands.Write w) reply moment orderly follows sets = absurd (no (sym sets))
-host-none told c p queue number (commands.Read r) reply moment orderly follows sets = absurd (no (sym sets))
-host-none told c p queue number (commands.Zero z) reply moment orderly follows sets = absurd (no (sym sets))
-host-none told c p queue number (commands.Dealloc d) reply moment orderly follows sets = absurd (no (sym sets))
-host-none told c p queue number (commands.Flush f) reply moment orderly follows sets = absurd (no (sym sets))
-host-none told c p queue number (commands.Delete d) reply moment orderly follows sets = absurd (no (sym sets))
-host-none told c p queue number (commands.Status status) reply moment orderly follows sets = absurd (no (sym sets))
-host-none told c p queue number (commands.Update u) reply moment orderly follows sets = absurd (no (sym sets))
-host-none told c p queue number (commands.Log l) reply moment orderly follows sets = absurd (no (sym sets))
-host-none told c p queue number (commands.GetFdp g) reply moment orderly follows sets = absurd (no (sym sets))
-host-none told c p queue number (commands.SetEvents set) reply moment orderly follows sets = absurd (no (sym sets))
-host-none told c p queue number (commands.Create create) reply moment orderly follows sets = absurd (no (sym sets))
-host-none told c p queue number (commands.Other o) reply moment orderly follows sets = absurd (no (sym sets))
+host-none told c p h orderly follows sets =
+    by-setting
+    (λ x. MatchBool (is_write x) (IsWriteReply told c p h.queue h.number x h.reply h.moment) (IsPlainReply told c p x h.reply h.moment) → (is_setting x && h.reply.applied) ≡ true → HasNone p.state)
+    (λ x replied made. accepted-none told c p x h.reply h.moment orderly made replied)
+    (λ x other replied made. absurd (no (sym made ∙ ap (λ (b : Bool). b && h.reply.applied) other)))
+    h.command follows.replied sets
 
 -- the generation stays, or no namespace is there
-stays-or-none : (told : Bool) (c : DriveConfig) (p : Point) (e : Entry) → IsOrderlyState c p.state → Follows told c p e → ((next c p e).state.generation ≡ p.state.generation) ⊎ HasNone p.state
-stays-or-none told c p (entries.Host h) orderly follows = by (is_setting h.command && h.reply.applied) refl where
+host-stays-or-none : (told : Bool) (c : DriveConfig) (p : Point) (h : Host) → IsOrderlyState c p.state → Follows told c p (entries.Host h) → ((next c p (entries.Host h)).state.generation ≡ p.state.generation) ⊎ HasNone p.state
+host-stays-or-none told c p h orderly follows = by (is_setting h.command && h.reply.applied) refl where
   by : (b : Bool) → (is_setting h.command && h.reply.applied) ≡ b → ((next c p (entries.Host h)).state.generation ≡ p.state.generation) ⊎ HasNone p.state
-  by true sets = inr (host-none told c p h.queue h.number h.command h.reply h.moment orderly follows sets)
+  by true sets = inr (host-none told c p h orderly follows sets)
   by false other = inl (generation-next c p (entries.Host h) other)
-stays-or-none told c p (entries.Started s) orderly follows = inl (generation-next c p (entries.Started s) refl)
-stays-or-none told c p (entries.Placed placed) orderly follows = inl (generation-next c p (entries.Placed placed) refl)
-stays-or-none told c p (entries.Copied copied) orderly follows = inl (generation-next c p (entries.Copied copied) refl)
-stays-or-none told c p (entries.Moved m) orderly follows = inl (generation-next c p (entries.Moved m) refl)
-stays-or-none told c p (entries.Erased e) orderly follows = inl (generation-next c p (entries.Erased e) refl)
-stays-or-none told c p (entries.Retired r) orderly follows = inl (generation-next c p (entries.Retired r) refl)
-stays-or-none told c p (entries.Aside a) orderly follows = inl (generation-next c p (entries.Aside a) refl)
-stays-or-none told c p (entries.Shut s) orderly follows = inl (generation-next c p (entries.Shut s) refl)
-stays-or-none told c p (entries.Worn w) orderly follows = inl (generation-next c p (entries.Worn w) refl)
-stays-or-none told c p entries.Reopened orderly follows = inl (generation-next c p entries.Reopened refl)
+
+stays-or-none : (told : Bool) (c : DriveConfig) (p : Point) (e : Entry) → IsOrderlyState c p.state → Follows told c p e → ((next c p e).state.generation ≡ p.state.generation) ⊎ HasNone p.state
+stays-or-none told c p e orderly follows =
+    by-host (λ x. Follows told c p x → ((next c p x).state.generation ≡ p.state.generation) ⊎ HasNone p.state)
+    (λ h step. host-stays-or-none told c p h orderly step)
+    (λ x none step. inl (generation-next c p x (ap (λ (o : Option Host). option_map_or (λ (h : Host). is_setting h.command && h.reply.applied) o false) none)))
+    e follows
 
 -- where no namespace is there, nothing stands behind a pointer
 pub empty-content : (c : DriveConfig) (s : PlainState) (p : Pointer) → IsOrderlyState c s → HasNone s → content_at c s p ≡ None

@@ -15,13 +15,18 @@ fn told(traces: &[Vec<Command>], trace: usize, k: usize) -> (u64, u32, u16) {
 }
 
 fn told_of(command: Option<&Command>) -> (u64, u32, u16) {
-    match command {
-        Some(Command::Read(read)) => (read.slba, read.count, 0),
-        Some(Command::Write(write)) => match &write.payload {
-            Payload::Pattern(seed) => (write.slba, *seed, write.dspec),
-            Payload::Bytes(_) => (0, 0, 0),
-        },
-        _ => (0, 0, 0),
+    let Some(command) = command else {
+        return (0, 0, 0);
+    };
+    if let Some(read) = command.as_read() {
+        return (read.slba, read.count, 0);
+    }
+    let Some(write) = command.as_write() else {
+        return (0, 0, 0);
+    };
+    match &write.payload {
+        Payload::Pattern(seed) => (write.slba, *seed, write.dspec),
+        Payload::Bytes(_) => (0, 0, 0),
     }
 }
 

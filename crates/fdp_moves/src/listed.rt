@@ -41,17 +41,34 @@ fn push_part(text: &mut String, begins: bool, word: &str) -> Result<(), AllocErr
     text.push_str(word)
 }
 
-fn ends_pass(entry: &Entry) -> bool {
+/// What an entry is to the passes of relocation.
+#[derive(Clone, Copy, PartialEq, Eq)]
+enum Part {
+    Copies,
+    Moves,
+    Erases,
+    Loses,
+    Other,
+}
+
+fn part_of(entry: &Entry) -> Part {
     match entry {
-        Entry::Erased(_) | Entry::Retired(_) | Entry::Aside(_) | Entry::Worn(_) | Entry::Shut(_) =>
-            true,
-        Entry::Host(_)
-        | Entry::Started(_)
-        | Entry::Placed(_)
-        | Entry::Copied(_)
-        | Entry::Moved(_)
-        | Entry::Reopened => false,
+        Entry::Copied(_) => Part::Copies,
+        Entry::Moved(_) => Part::Moves,
+        Entry::Erased(_) => Part::Erases,
+        Entry::Retired(_) | Entry::Aside(_) | Entry::Worn(_) | Entry::Shut(_) => Part::Loses,
+        Entry::Host(_) | Entry::Started(_) | Entry::Placed(_) | Entry::Reopened => Part::Other,
     }
+}
+
+fn ends_pass(entry: &Entry) -> bool {
+    let part = part_of(entry);
+    part == Part::Erases || part == Part::Loses
+}
+
+/// Whether an entry tells of a lost unit, a handle that was shut or a worn group.
+pub fn is_loss(entry: &Entry) -> bool {
+    part_of(entry) == Part::Loses
 }
 
 /// The sums of a history, and how many pages were copied and how many passes moved them.
@@ -59,18 +76,10 @@ pub fn sums_text(alloc: Global, entries: &[Entry], totals: Totals) -> Result<Str
     let mut copied = 0u64;
     let mut moved = 0u64;
     for entry in entries {
-        match entry {
-            Entry::Copied(_) => copied = copied.saturating_add(1),
-            Entry::Moved(_) => moved = moved.saturating_add(1),
-            Entry::Host(_)
-            | Entry::Started(_)
-            | Entry::Placed(_)
-            | Entry::Erased(_)
-            | Entry::Retired(_)
-            | Entry::Aside(_)
-            | Entry::Shut(_)
-            | Entry::Worn(_)
-            | Entry::Reopened => {}
+        match part_of(entry) {
+            Part::Copies => copied = copied.saturating_add(1),
+            Part::Moves => moved = moved.saturating_add(1),
+            Part::Erases | Part::Loses | Part::Other => {}
         }
     }
     format!(in alloc;
@@ -79,7 +88,7 @@ pub fn sums_text(alloc: Global, entries: &[Entry], totals: Totals) -> Result<Str
     )
 }
 
-/// The entries that tell of a lost unit, a handle that was shut or a worn group.
+/// The entries that tell of a loss.
 pub fn losses_text(alloc: Global, entries: &[Entry]) -> Result<String, AllocError> {
     let mut text = String::new(alloc);
     for entry in entries {
@@ -90,17 +99,4 @@ pub fn losses_text(alloc: Global, entries: &[Entry]) -> Result<String, AllocErro
         }
     }
     Ok(text)
-}
-
-pub fn is_loss(entry: &Entry) -> bool {
-    match entry {
-        Entry::Retired(_) | Entry::Aside(_) | Entry::Worn(_) | Entry::Shut(_) => true,
-        Entry::Host(_)
-        | Entry::Started(_)
-        | Entry::Placed(_)
-        | Entry::Copied(_)
-        | Entry::Moved(_)
-        | Entry::Erased(_)
-        | Entry::Reopened => false,
-    }
 }

@@ -2,7 +2,6 @@ pub mod Keeping
 pub mod Saying
 pub mod Paging
 pub mod Making
-pub mod MaskBits
 pub mod Places
 pub mod HandleLists
 pub mod Applying

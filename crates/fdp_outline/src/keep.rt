@@ -6,10 +6,9 @@ ghost use Rattle.fdp_snapshot.specs.Events.{IsPlain};
 ghost use Rattle.fdp_outline.specs.Events.{with_events};
 ghost use Rattle.fdp_outline.specs.Outline.{IsKept};
 
-use crate::event::is_host;
 use crate::latest::push_latest;
-use crate::masks::reports;
 use fdp_base::Event;
+use fdp_events::{is_host, reports};
 use fdp_snapshot::Summary;
 
 /// Keeps an event, where its kind is kept for its handle.

@@ -1,12 +1,10 @@
 //! The outline of a drive, as a checkpoint has it beside the pages of the blocks, with room for its events.
 #![tactic(auto)]
 
-mod event;
 mod fresh;
 mod keep;
 mod latest;
 mod laws;
-mod masks;
 mod moved_block;
 mod outline;
 mod spaces;

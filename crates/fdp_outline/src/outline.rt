@@ -13,13 +13,14 @@ ghost use Rattle.fdp_rules.specs.Target.{Target};
 ghost use Rattle.fdp_outline.specs.Events.{AreSpares, names_of_handle, with_events};
 ghost use Rattle.fdp_outline.specs.Outline.{IsOutlineOf, IsWritable};
 
-use crate::event::{handle_event, identifier_event, reallocated_event};
 use crate::keep::keep;
 use crate::latest::MOST_EVENTS;
-use crate::masks::{no_reports, reports, set_reports};
 use crate::moved_block::{MovedBlock, count_of, first_of};
 use crate::spaces::{handle_lists, insert, remove};
 use fdp_base::{Event, EventKind, Sequence, Totals};
+use fdp_events::{
+    handle_event, identifier_event, no_reports, reallocated_event, reports, set_reports,
+};
 use fdp_snapshot::Summary;
 use std::alloc::{AllocError, Global};
 use std::marker::Model;

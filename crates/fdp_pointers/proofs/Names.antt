@@ -1,5 +1,5 @@
 -- The renamings of pointers: each is injective.
-use Rattle.std.proofs.Common.{◌≡◌, ◌≢◌, ℕ, ◌-◌, ◌+◌, ◌≤◌, Bool, true, false, cond, Option, Some, None, refl, sym, ◌∙◌, ap, arith, ◌⊎◌, ⊎_elim, inl, inr, eq-eqb, ne_eqb}
+use Rattle.std.proofs.Common.{◌≡◌, ◌≢◌, ℕ, ◌-◌, ◌+◌, ◌≤◌, Bool, true, false, cond, Option, Some, None, refl, sym, ◌∙◌, ap, arith, ◌⊎◌, ⊎_elim, inl, inr, eq-eqb, ne_eqb, subst}
 use Rattle.std.specs.Prelude.{◌==◌, ◌&&◌, if◌then◌else◌, nat_le, nat_lt, option_and_then}
 use Rattle.std.proofs.lemmas.Bool.{and_parts, cases_eq, eqb-true, leb-true}
 use Rattle.fdp_base.specs.declared.command.Command.{Command}
@@ -9,7 +9,10 @@ use Rattle.fdp_base.specs.declared.entry.Entry.TheVariants as entries
 use Rattle.fdp_base.specs.Numbers.{is_among}
 use Rattle.fdp_rules.specs.PlainState.{PlainState}
 use Rattle.fdp_pointers.specs.Contents.{ended_by, renamed_by}
-use Rattle.fdp_pointers.specs.Pointers.{Behind, IsInjective, Pointer, Pointer.of_block, Pointer.of_flight, only, taken_by}
+use Rattle.fdp_pointers.specs.Pointers.{Behind, IsInjective, Pointer, Pointer.of_block, Pointer.of_flight, only, taken_by, is_elsewhere, is_outside}
+use Rattle.fdp_base.proofs.Writes.{by-write}
+use Rattle.fdp_base.specs.CommandKinds.{write_of}
+use Rattle.fdp_rules.specs.Effect.{is_in_ranges}
 
 -- what is behind the pointers that pass a test
 pub only-at : {X : Type 0} (m : Behind X) (p : Pointer) (b : Bool) → option_and_then m (if b then Some p else None) ≡ (if b then m p else None)
@@ -84,21 +87,38 @@ either-injective true r t h k = h
 either-injective false r t h k = k
 
 -- a command that ends renames no two pointers to one
+-- a command other than a write that keeps the pointers that pass a test, once its change is made
+pub record KeepsSome (s : PlainState) (queue : ℕ) (command : Command) : Type 0 where
+  pub keeps : Pointer → Bool
+  pub ends : (made : Bool) → ended_by s queue made command ≡ (if made then only keeps else Some)
+
+-- a command other than a write leaves the pointers, or keeps some of them
+pub keeps-all-or-some : (s : PlainState) (queue : ℕ) (command : Command) → write_of command ≡ None → ((made : Bool) → ended_by s queue made command ≡ Some) ⊎ KeepsSome s queue command
+keeps-all-or-some s queue (commands.Write w) other = absurd cc
+keeps-all-or-some s queue (commands.Zero z) other = inr (record { keeps = is_outside z.nsid (is_among z.slba z.count); ends = λ made. refl })
+keeps-all-or-some s queue (commands.Dealloc d) other = inr (record { keeps = is_outside d.nsid (λ lba. d.deallocate && is_in_ranges d.ranges lba); ends = λ made. refl })
+keeps-all-or-some s queue (commands.Delete d) other = inr (record { keeps = is_elsewhere s d.nsid; ends = λ made. refl })
+keeps-all-or-some s queue (commands.Read r) other = inl (λ made. refl)
+keeps-all-or-some s queue (commands.Flush f) other = inl (λ made. refl)
+keeps-all-or-some s queue (commands.Status status) other = inl (λ made. refl)
+keeps-all-or-some s queue (commands.Update u) other = inl (λ made. refl)
+keeps-all-or-some s queue (commands.Log l) other = inl (λ made. refl)
+keeps-all-or-some s queue (commands.SetFdp set) other = inl (λ made. refl)
+keeps-all-or-some s queue (commands.GetFdp g) other = inl (λ made. refl)
+keeps-all-or-some s queue (commands.SetEvents set) other = inl (λ made. refl)
+keeps-all-or-some s queue (commands.Create create) other = inl (λ made. refl)
+keeps-all-or-some s queue (commands.Other o) other = inl (λ made. refl)
+
 ended-injective : (s : PlainState) (queue : ℕ) (made : Bool) (command : Command) → IsInjective (ended_by s queue made command)
-ended-injective s queue made (commands.Write w) = either-injective made _ _ (taken-injective queue w.nsid w.slba w.count) (only-injective _)
-ended-injective s queue made (commands.Read r) = some-injective
-ended-injective s queue made (commands.Zero z) = either-injective made _ _ (only-injective _) some-injective
-ended-injective s queue made (commands.Dealloc d) = either-injective made _ _ (only-injective _) some-injective
-ended-injective s queue made (commands.Flush f) = some-injective
-ended-injective s queue made (commands.Delete d) = either-injective made _ _ (only-injective _) some-injective
-ended-injective s queue made (commands.Status status) = some-injective
-ended-injective s queue made (commands.Update u) = some-injective
-ended-injective s queue made (commands.Log l) = some-injective
-ended-injective s queue made (commands.SetFdp set) = some-injective
-ended-injective s queue made (commands.GetFdp g) = some-injective
-ended-injective s queue made (commands.SetEvents set) = some-injective
-ended-injective s queue made (commands.Create c) = some-injective
-ended-injective s queue made (commands.Other o) = some-injective
+ended-injective s queue made command =
+    by-write (λ x. IsInjective (ended_by s queue made x))
+    (λ w. either-injective made _ _ (taken-injective queue w.nsid w.slba w.count) (only-injective _))
+    (λ x other.
+    ⊎_elim
+    (λ all. subst IsInjective (sym (all made)) some-injective)
+    (λ some. subst IsInjective (sym (some.ends made)) (either-injective made _ _ (only-injective some.keeps) some-injective))
+    (keeps-all-or-some s queue x other))
+    command
 
 -- no entry renames two pointers to one
 pub entry-injective : (s : PlainState) (e : Entry) → IsInjective (renamed_by s e)

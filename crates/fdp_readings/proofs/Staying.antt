@@ -37,26 +37,17 @@ use Rattle.fdp_rules.specs.Point.{Copy, Point, Trail}
 use Rattle.fdp_rules.specs.Room.{handles_in_force, namespace_ids, size_of}
 use Rattle.fdp_rules.specs.Sites.{blocks_at, blocks_in, is_page_of, is_spot, moved_by, outside, pass_in, site_of, stands_at, traced_by}
 use Rattle.fdp_rules.specs.Step.{Follows, IsErasable, IsMoved, IsPlaced, IsStep}
-use Rattle.fdp_rules.proofs.LastWrites.{keeps_data}
+use Rattle.fdp_rules.proofs.LastWrites.{keeps_data, not-completed}
 use Rattle.fdp_rules.proofs.Pushes.{events_of-push, point_of-push, state_of-push}
+use Rattle.fdp_base.proofs.Entries.{by-host}
 
 -- ---- the state
 
 not-applied : (e : Entry) → leaves_nothing e ≡ true → IsFalse (is_applied e)
-not-applied (entries.Host h) is = cases h.reply.applied is where
-  cases : (b : Bool) → not b ≡ true → b ≡ false
-  cases true e = absurd cc
-  cases false e = refl
-not-applied (entries.Started s) is = refl
-not-applied (entries.Placed p) is = refl
-not-applied (entries.Copied x) is = refl
-not-applied (entries.Moved m) is = refl
-not-applied (entries.Erased x) is = refl
-not-applied (entries.Retired r) is = refl
-not-applied (entries.Aside a) is = refl
-not-applied (entries.Shut s) is = refl
-not-applied (entries.Worn w) is = refl
-not-applied entries.Reopened is = refl
+not-applied e is = by-host (λ x. leaves_nothing x ≡ true → IsFalse (is_applied x)) (λ h quiet. unmade h.reply.applied quiet) (λ x none quiet. not-completed x none) e is where
+  unmade : (b : Bool) → not b ≡ true → b ≡ false
+  unmade true e = absurd cc
+  unmade false e = refl
 
 -- ---- the events
 

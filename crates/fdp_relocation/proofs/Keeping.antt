@@ -1,5 +1,5 @@
 -- What entries of relocation leave of a state.
-use Rattle.std.proofs.Common.{◌≡◌, ℕ, List, [], ◌∷◌, ◌++◌, Option, refl, sym, ◌∙◌, ap, append_assoc, subst}
+use Rattle.std.proofs.Common.{◌≡◌, ℕ, List, [], ◌∷◌, ◌++◌, Option, refl, sym, ◌∙◌, ap, append_assoc, subst, ◌≢◌}
 use Rattle.std.proofs.lemmas.List.Elements.{All-head, All-tail}
 use mathlib.Core.List.{append-nil}
 use Rattle.fdp_base.specs.declared.config.DriveConfig.{DriveConfig}
@@ -19,6 +19,7 @@ use Rattle.fdp_rules.specs.PlainState.{Going, PlainState}
 use Rattle.fdp_rules.specs.Point.{Point}
 use Rattle.fdp_rules.specs.Sites.{is_there}
 use Rattle.fdp_keeper.proofs.fdp_book.Longer.{point-as}
+use Rattle.fdp_base.specs.EntryKinds.{ServesNone}
 
 pub keeps-self : (s : PlainState) → KeepsState s s
 keeps-self s = record { enabled = refl; index = refl; generation = refl; reports = refl; namespaces = refl; blocks = refl; references = refl; going = refl; media = refl }
@@ -35,6 +36,20 @@ keeps-then s m n f g = record {
   going = g.going ∙ f.going;
   media = g.media ∙ f.media;
 }
+
+-- an entry of relocation serves no host, and tells of no opening
+pub quiet-entry : (c : DriveConfig) (rg : ℕ) (e : Entry) → IsRelocationIn c rg e → ServesNone e × (e ≢ entries.Reopened)
+quiet-entry c rg (entries.Host h) inside = absurd inside
+quiet-entry c rg (entries.Started s) inside = absurd inside
+quiet-entry c rg (entries.Placed placed) inside = absurd inside
+quiet-entry c rg (entries.Shut s) inside = absurd inside
+quiet-entry c rg entries.Reopened inside = absurd inside
+quiet-entry c rg (entries.Copied x) inside = (record { host = refl; started = refl; placed = refl }, λ e. cc)
+quiet-entry c rg (entries.Moved m) inside = (record { host = refl; started = refl; placed = refl }, λ e. cc)
+quiet-entry c rg (entries.Erased e) inside = (record { host = refl; started = refl; placed = refl }, λ e. cc)
+quiet-entry c rg (entries.Retired r) inside = (record { host = refl; started = refl; placed = refl }, λ e. cc)
+quiet-entry c rg (entries.Aside a) inside = (record { host = refl; started = refl; placed = refl }, λ e. cc)
+quiet-entry c rg (entries.Worn w) inside = (record { host = refl; started = refl; placed = refl }, λ e. cc)
 
 -- one entry
 pub keeps-entry : (c : DriveConfig) (p : Point) (rg : ℕ) (e : Entry) → IsRelocationIn c rg e → KeepsState p.state (next c p e).state

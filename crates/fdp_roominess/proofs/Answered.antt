@@ -1,7 +1,6 @@
 -- The end of a command, or the start of a write, leaves each group its room.
 use Rattle.std.proofs.Common.{◌≡◌, ℕ, true, false, [], Some, None, refl, sym, ◌∙◌, ap, subst, ⊎_elim}
 use Rattle.fdp_base.specs.declared.command.Command.{Command}
-use Rattle.fdp_base.specs.declared.command.Command.TheVariants as commands
 use Rattle.fdp_base.specs.declared.config.DriveConfig.{DriveConfig}
 use Rattle.fdp_base.specs.declared.entry.Entry.{Entry}
 use Rattle.fdp_base.specs.declared.entry.Entry.TheVariants as entries
@@ -31,6 +30,7 @@ use Rattle.fdp_rules.specs.Point.{Point}
 use Rattle.fdp_rules.specs.Step.{MaySucceed}
 use Rattle.fdp_roominess.specs.Room.{HaveRoom}
 use Rattle.fdp_roominess.proofs.Owning.{OwnsNoMore, left-room, owners-room, same-room}
+use Rattle.fdp_book.proofs.PageChanges.{by-pages}
 
 -- owners that pages had before
 had-before : (old new : BookSeen) → KeepsOwners (owner_at old.pages.owners) (owner_at new.pages.owners) → (unit : ℕ) → OwnsNoMore old.pages.owners new.pages.owners unit
@@ -88,19 +88,16 @@ lets-go t now only unit page x e = ⊎_elim
       never e = cc
 
 pub room-applied : (c : DriveConfig) (command : Command) (t now : PageTables) → AreJoined t → is_write command ≡ false → AppliesTo c command t now → HaveRoom t → HaveRoom now
-room-applied c (commands.Write w) t now joined other h = absurd (no-write other) where
-  no-write : true ≡ false → ⊥
-  no-write e = cc
-room-applied c (commands.Read r) t now joined other h = same-room t now h
-room-applied c (commands.Zero z) t now joined other h = owners-room t now joined h.changes (lets-go t now h.only)
-room-applied c (commands.Dealloc d) t now joined other h = owners-room t now joined h.changes (lets-go t now h.only)
-room-applied c (commands.Flush f) t now joined other h = same-room t now h
-room-applied c (commands.Delete d) t now joined other h = owners-room t now joined h.changes (lets-go t now h.only)
-room-applied c (commands.Status s) t now joined other h = same-room t now h
-room-applied c (commands.Update u) t now joined other h = left-room t now h.leaves
-room-applied c (commands.Log l) t now joined other h = same-room t now h
-room-applied c (commands.SetFdp set) t now joined other h = left-room t now h.sets.leaves
-room-applied c (commands.GetFdp g) t now joined other h = same-room t now h
-room-applied c (commands.SetEvents set) t now joined other h = same-room t now h
-room-applied c (commands.Create create) t now joined other h = same-room t now h
-room-applied c (commands.Other o) t now joined other h = same-room t now h
+room-applied c command t now joined other h =
+    by-pages c (λ x old new. AreJoined old → is_write x ≡ false → HaveRoom old → HaveRoom new)
+    (record {
+      written = λ w old new changes whole unwritten. absurd (no-write unwritten);
+      still = λ x old new same whole unwritten. same-room old new same;
+      gone = λ x old new lets whole unwritten. owners-room old new whole lets.changes (lets-go old new lets.only);
+      left = λ x old new leaves whole unwritten. left-room old new leaves.leaves;
+      set = λ s old new sets whole unwritten. left-room old new sets.sets.leaves;
+    })
+    command t now h joined other
+  where
+    no-write : true ≡ false → ⊥
+    no-write e = cc

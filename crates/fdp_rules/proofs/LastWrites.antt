@@ -31,12 +31,34 @@ use Rattle.fdp_rules.proofs.Pushes.{state_of-push}
 
 -- ---- only a command whose change is made changes data
 
+-- what an entry that is no completion leaves as it is
+pub record KeepsAnswers (old new : PlainState) : Type 0 where
+  pub kept : KeepsData old new
+  pub media : new.media ≡ old.media
+
+pub uncompleted-keeps : (c : DriveConfig) (s : PlainState) (e : Entry) → host_of e ≡ None → KeepsAnswers s (after c s e)
+unfolding after changed_by
+uncompleted-keeps c s (entries.Host h) none = absurd cc
+uncompleted-keeps c s (entries.Started started) none = record { kept = record { blocks = refl; namespaces = refl; reports = refl; enabled = refl; index = refl; generation = refl }; media = refl }
+uncompleted-keeps c s (entries.Placed p) none = record { kept = record { blocks = refl; namespaces = refl; reports = refl; enabled = refl; index = refl; generation = refl }; media = refl }
+uncompleted-keeps c s (entries.Copied copied) none = record { kept = record { blocks = refl; namespaces = refl; reports = refl; enabled = refl; index = refl; generation = refl }; media = refl }
+uncompleted-keeps c s (entries.Moved m) none = record { kept = record { blocks = refl; namespaces = refl; reports = refl; enabled = refl; index = refl; generation = refl }; media = refl }
+uncompleted-keeps c s (entries.Erased x) none = record { kept = record { blocks = refl; namespaces = refl; reports = refl; enabled = refl; index = refl; generation = refl }; media = refl }
+uncompleted-keeps c s (entries.Retired r) none = record { kept = record { blocks = refl; namespaces = refl; reports = refl; enabled = refl; index = refl; generation = refl }; media = refl }
+uncompleted-keeps c s (entries.Aside a) none = record { kept = record { blocks = refl; namespaces = refl; reports = refl; enabled = refl; index = refl; generation = refl }; media = refl }
+uncompleted-keeps c s (entries.Shut shut) none = record { kept = record { blocks = refl; namespaces = refl; reports = refl; enabled = refl; index = refl; generation = refl }; media = refl }
+uncompleted-keeps c s (entries.Worn w) none = record { kept = record { blocks = refl; namespaces = refl; reports = refl; enabled = refl; index = refl; generation = refl }; media = refl }
+uncompleted-keeps c s entries.Reopened none = record { kept = record { blocks = refl; namespaces = refl; reports = refl; enabled = refl; index = refl; generation = refl }; media = refl }
+
 not-applied : (c : DriveConfig) (s done : PlainState) (b : Bool) (P : PlainState → Type 0) → b ≡ false → P s → P (cond b done s)
 not-applied c s done b P none p = subst (λ (a : Bool). P (cond a done s)) (sym none) p
 
 pub keeps_data : (c : DriveConfig) (s : PlainState) (e : Entry) → IsFalse (is_applied e) → KeepsData s (after c s e)
 unfolding after changed_by
-keeps_data c s (entries.Host h) none =
+keeps_data c s e unmade =
+    let P : Entry → Type 0 = λ x. IsFalse (is_applied x) → KeepsData s (after c s x) in
+    by-host P
+    (λ h none.
     let done : PlainState = effect_of c s h.queue h.command in
     record {
       blocks = not-applied c s done h.reply.applied (λ (x : PlainState). x.blocks ≡ s.blocks) none refl;
@@ -45,17 +67,9 @@ keeps_data c s (entries.Host h) none =
       enabled = not-applied c s done h.reply.applied (λ (x : PlainState). x.enabled ≡ s.enabled) none refl;
       index = not-applied c s done h.reply.applied (λ (x : PlainState). x.index ≡ s.index) none refl;
       generation = not-applied c s done h.reply.applied (λ (x : PlainState). x.generation ≡ s.generation) none refl;
-    }
-keeps_data c s (entries.Started started) none = record { blocks = refl; namespaces = refl; reports = refl; enabled = refl; index = refl; generation = refl }
-keeps_data c s (entries.Placed p) none = record { blocks = refl; namespaces = refl; reports = refl; enabled = refl; index = refl; generation = refl }
-keeps_data c s (entries.Copied copied) none = record { blocks = refl; namespaces = refl; reports = refl; enabled = refl; index = refl; generation = refl }
-keeps_data c s (entries.Moved m) none = record { blocks = refl; namespaces = refl; reports = refl; enabled = refl; index = refl; generation = refl }
-keeps_data c s (entries.Erased e) none = record { blocks = refl; namespaces = refl; reports = refl; enabled = refl; index = refl; generation = refl }
-keeps_data c s (entries.Retired r) none = record { blocks = refl; namespaces = refl; reports = refl; enabled = refl; index = refl; generation = refl }
-keeps_data c s (entries.Aside a) none = record { blocks = refl; namespaces = refl; reports = refl; enabled = refl; index = refl; generation = refl }
-keeps_data c s (entries.Shut shut) none = record { blocks = refl; namespaces = refl; reports = refl; enabled = refl; index = refl; generation = refl }
-keeps_data c s (entries.Worn w) none = record { blocks = refl; namespaces = refl; reports = refl; enabled = refl; index = refl; generation = refl }
-keeps_data c s entries.Reopened none = record { blocks = refl; namespaces = refl; reports = refl; enabled = refl; index = refl; generation = refl }
+    })
+    (λ x other none. (uncompleted-keeps c s x other).kept)
+    e unmade
 
 -- an entry that is no completion makes no change of a command
 pub not-completed : (e : Entry) → host_of e ≡ None → IsFalse (is_applied e)

@@ -5,7 +5,6 @@ pub mod Filling
 pub mod Listing
 pub mod Loadable
 pub mod Making
-pub mod MaskBits
 pub mod MovedBlocks
 pub mod Moving
 pub mod Named

@@ -6,7 +6,7 @@ use Rattle.fdp_base.specs.Numbers.{numbers_below}
 use Rattle.fdp_records.specs.Records.{no_target, no_unit}
 use Rattle.fdp_image.specs.Bits.{has_bit, is_bit_set}
 use Rattle.fdp_image.specs.Changed.{page_numbers}
-use Rattle.fdp_state.proofs.MaskBits.{zeros_read}
+use Rattle.fdp_events.proofs.MaskBits.{zeros_read}
 use Rattle.std.specs.Prelude.{◌==◌, zip, if◌then◌else◌}
 use Rattle.fdp_base.specs.declared.entry.BlockName.{BlockName}
 use Rattle.fdp_base.specs.declared.event.Event.{Event}

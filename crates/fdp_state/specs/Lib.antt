@@ -2,7 +2,6 @@
 pub use Rattle.fdp_replay.specs as fdp_replay
 pub mod Fits
 pub mod Good
-pub mod Kinds
 pub mod Owners
 pub mod Parts
 pub mod Made

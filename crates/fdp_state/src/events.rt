@@ -5,7 +5,6 @@ ghost use Rattle.fdp_base.specs.declared.event.Event.{Event as Told};
 ghost use Rattle.fdp_base.specs.Config.{IsInRange};
 ghost use Rattle.fdp_base.specs.Geometry.{data_units};
 ghost use Rattle.fdp_base.specs.Placement.{geometry_of};
-ghost use Rattle.fdp_rules.specs.Events.{only_location_valid};
 ghost use Rattle.fdp_rules.specs.Sites.{group_of};
 ghost use Rattle.fdp_image.specs.Areas.{data_pages};
 ghost use Rattle.fdp_image.specs.ChangeEvents.{events_of_change, invalid_event, kept_of_change};
@@ -14,12 +13,12 @@ ghost use Rattle.fdp_image.specs.Reading.{group_of_page};
 ghost use Rattle.fdp_state.specs.Fits.{names_what_is};
 ghost use Rattle.fdp_state.specs.Parts.{IsSound, handles_at, reading_of};
 
-use crate::masks::reports;
 use crate::moved_events::moved_events;
 use crate::parts::Parts;
 use crate::rows::handles_at;
 use crate::update_events::closed_events;
-use fdp_base::{DriveConfig, Event, EventFlags, EventKind};
+use fdp_base::{DriveConfig, Event, EventKind};
+use fdp_events::{handle_event, identifier_event, reports};
 use fdp_records::Change;
 use std::alloc::{AllocError, Global};
 
@@ -124,7 +123,15 @@ fn events_of(
             second: _,
             handles,
         } => moved_events(alloc, config, parts, position, victim, handles.as_slice()),
-        Change::Shut { rg, ruh } => { one_if(alloc, true, shut_event(position, *rg, *ruh)) }
+        Change::Shut { rg, ruh } => {
+            let event = handle_event(
+                EventKind::ImplicitlyModified,
+                event_position(position),
+                *rg,
+                *ruh,
+            );
+            one_if(alloc, true, event)
+        }
     }
 }
 
@@ -146,27 +153,6 @@ pub fn event_position(position: u64) -> u64
     position.saturating_sub(1) + 1
 }
 
-/// The event of a handle that was left without a unit.
-fn shut_event(position: u64, rg: u16, ruh: u8) -> Event
-    ensures { result ≡ record { kind = EventKind.ImplicitlyModified; flags = only_location_valid; pid = 0; position = position - 1 + 1; nsid = 0; moved = 0; lba = 0; rg = rg; ruh = ruh } }
-{
-    Event {
-        kind: EventKind::ImplicitlyModified,
-        flags: EventFlags {
-            pid_valid: false,
-            nsid_valid: false,
-            location_valid: true,
-        },
-        pid: 0,
-        position: event_position(position),
-        nsid: 0,
-        moved: 0,
-        lba: 0,
-        rg,
-        ruh,
-    }
-}
-
 /// The event of a write whose placement identifier was invalid.
 #[tactic(auto, using(crate::proofs::Closing::invalid_is))]
 fn invalid_event(
@@ -182,21 +168,14 @@ fn invalid_event(
     requires page { slice_index pages.now 0 < data_pages (geometry_of config.now) }
     ensures { result ≡ invalid_event config.now (outline_before config.now (reading_of parts.now) position) nsid pid pages.now }
 {
-    Event {
-        kind: EventKind::InvalidPlacementIdentifier,
-        flags: EventFlags {
-            pid_valid: true,
-            nsid_valid: true,
-            location_valid: true,
-        },
-        pid,
-        position: event_position(position),
+    identifier_event(
+        EventKind::InvalidPlacementIdentifier,
+        event_position(position),
         nsid,
-        moved: 0,
-        lba: 0,
-        rg: group_of_page(config, first_page(pages)),
-        ruh: first_handle(parts, nsid),
-    }
+        pid,
+        group_of_page(config, first_page(pages)),
+        first_handle(parts, nsid),
+    )
 }
 
 fn first_page(pages: &[u32]) -> u32

@@ -9,7 +9,6 @@ mod latest;
 mod lists;
 mod loaded;
 mod make;
-mod masks;
 mod moved_blocks;
 mod moved_events;
 mod moves;

@@ -17,12 +17,12 @@ ghost use Rattle.fdp_state.specs.Parts.{IsSound, listed, reading_of};
 
 use crate::fits::size_of;
 use crate::lists::blank_list;
-use crate::masks::{no_reports, set_reports};
 use crate::moved_blocks::push_moved_blocks;
 use crate::moves::moves_of;
 use crate::parts::Parts;
 use crate::rows::{put_page, set_list, set_space};
 use fdp_base::{BlockName, Bytes, DriveConfig, Range, Sequence};
+use fdp_events::{no_reports, set_reports};
 use fdp_records::{Change, UnitPages};
 use fdp_snapshot::Space;
 use std::alloc::{AllocError, Global};

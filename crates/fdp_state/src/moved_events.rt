@@ -5,7 +5,7 @@ ghost use Rattle.fdp_base.specs.Config.{IsInRange};
 ghost use Rattle.fdp_base.specs.Geometry.{data_units};
 ghost use Rattle.fdp_base.specs.Numbers.{numbers_below};
 ghost use Rattle.fdp_base.specs.Placement.{geometry_of};
-ghost use Rattle.fdp_rules.specs.Events.{nsid_and_location_valid, reallocated, told_moved};
+ghost use Rattle.fdp_rules.specs.Events.{reallocated};
 ghost use Rattle.fdp_rules.specs.PlainState.{PlainState};
 ghost use Rattle.fdp_rules.specs.Room.{handles_in_force};
 ghost use Rattle.fdp_rules.specs.Sites.{group_of};
@@ -18,7 +18,8 @@ use crate::events::{event_position, group_of};
 use crate::moved_blocks::push_blocks;
 use crate::moves::page_numbers;
 use crate::parts::Parts;
-use fdp_base::{BlockName, DriveConfig, Event, EventFlags, EventKind};
+use fdp_base::{BlockName, DriveConfig, Event};
+use fdp_events::reallocated_event;
 use fdp_records::UnitPages;
 use std::alloc::{AllocError, Global};
 
@@ -101,40 +102,10 @@ fn push_event(
 {
     match moved.first() {
         Some(first) => {
-            events.push(reallocated_event(position, rg, ruh, *first, moved.len()))?;
+            let event = reallocated_event(event_position(position), rg, ruh, *first, moved.len());
+            events.push(event)?;
             Ok(())
         }
         None => Ok(()),
-    }
-}
-
-/// The event of so many moved blocks of a handle, of which this is the first.
-fn reallocated_event(position: u64, rg: u16, ruh: u8, first: BlockName, count: usize) -> Event
-    ensures { result ≡ record { kind = EventKind.MediaReallocated; flags = nsid_and_location_valid; pid = 0; position = position - 1 + 1; nsid = first.nsid; moved = told_moved count; lba = first.lba; rg = rg; ruh = ruh } }
-{
-    Event {
-        kind: EventKind::MediaReallocated,
-        flags: EventFlags {
-            pid_valid: false,
-            nsid_valid: true,
-            location_valid: true,
-        },
-        pid: 0,
-        position: event_position(position),
-        nsid: first.nsid,
-        moved: told_moved(count),
-        lba: first.lba,
-        rg,
-        ruh,
-    }
-}
-
-fn told_moved(count: usize) -> u16
-    ensures { result ≡ told_moved count }
-{
-    if count < 0x10000 {
-        count as u16
-    } else {
-        0xffff
     }
 }

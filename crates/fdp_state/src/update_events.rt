@@ -4,7 +4,6 @@ ghost use Rattle.std.specs.Prelude.{◌≡◌, ◌+◌, ◌-◌, ◌^◌, ◌<�
 ghost use Rattle.std.specs.List.{enumerate_from};
 ghost use Rattle.fdp_base.specs.Config.{IsInRange};
 ghost use Rattle.fdp_base.specs.Placement.{group_bits};
-ghost use Rattle.fdp_rules.specs.Events.{all_valid};
 ghost use Rattle.fdp_image.specs.Bits.{has_bit};
 ghost use Rattle.fdp_image.specs.ChangeEvents.{closed_event};
 ghost use Rattle.fdp_image.specs.Outline.{outline_before};
@@ -13,7 +12,8 @@ ghost use Rattle.fdp_state.specs.Parts.{IsSound, handles_at, named_in, named_tar
 use crate::events::event_position;
 use crate::parts::Parts;
 use crate::rows::handles_at;
-use fdp_base::{DriveConfig, Event, EventFlags, EventKind};
+use fdp_base::{DriveConfig, Event, EventKind};
+use fdp_events::identifier_event;
 use std::alloc::{AllocError, Global};
 
 /// The events of an update, one for each identifier that closed a unit.
@@ -87,7 +87,15 @@ fn push_if_closed(
 {
     if has_bit(closed, place) {
         if let Some((rg, ruh)) = named_by(config, parts, nsid, pid) {
-            events.push(closed_unit(position, nsid, pid, rg, ruh))?;
+            let event = identifier_event(
+                EventKind::NotFullyWritten,
+                event_position(position),
+                nsid,
+                pid,
+                rg,
+                ruh,
+            );
+            events.push(event)?;
         }
     }
     Ok(())
@@ -97,27 +105,6 @@ fn has_bit(closed: u64, place: usize) -> bool
     ensures { result ≡ has_bit closed place }
 {
     place < 64 && closed >> place & 1 == 1
-}
-
-/// The event of an identifier that closed a unit.
-fn closed_unit(position: u64, nsid: u32, pid: u16, rg: u16, ruh: u8) -> Event
-    ensures { result ≡ record { kind = EventKind.NotFullyWritten; flags = all_valid; pid = pid; position = position - 1 + 1; nsid = nsid; moved = 0; lba = 0; rg = rg; ruh = ruh } }
-{
-    Event {
-        kind: EventKind::NotFullyWritten,
-        flags: EventFlags {
-            pid_valid: true,
-            nsid_valid: true,
-            location_valid: true,
-        },
-        pid,
-        position: event_position(position),
-        nsid,
-        moved: 0,
-        lba: 0,
-        rg,
-        ruh,
-    }
 }
 
 /// The group and the handle that a placement identifier names for a namespace, if there are such.

@@ -1,8 +1,7 @@
 -- What the end of a write that succeeds makes of what stands.
-use Rattle.std.proofs.Common.{◌≡◌, ℕ, ◌+◌, true, Option, Some, None, refl, ap}
+use Rattle.std.proofs.Common.{◌≡◌, ℕ, ◌+◌, true, Option, Some, None, refl, ap, subst, sym}
 use Rattle.std.specs.Prelude.{◌==◌, ◌&&◌, option_map, if◌then◌else◌}
 use Rattle.fdp_base.specs.declared.command.Command.{Command}
-use Rattle.fdp_base.specs.declared.command.Command.TheVariants as commands
 use Rattle.fdp_base.specs.declared.config.DriveConfig.{DriveConfig}
 use Rattle.fdp_base.specs.declared.entry.Entry.TheVariants as entries
 use Rattle.fdp_base.specs.declared.status.TheConstants.Status as statuses
@@ -18,6 +17,8 @@ use Rattle.fdp_rules.specs.Sites.{traced_by}
 use Rattle.fdp_book.proofs.Kept.{IsAlike}
 use Rattle.fdp_readings.proofs.fdp_locations.Units.{HasSameUnits}
 use Rattle.fdp_base.specs.declared.command.Write.{Write}
+use Rattle.fdp_base.proofs.Writes.{write-is}
+use Rattle.std.specs.Option.{option_map_or}
 
 -- the blocks with those of a write
 abbrev pub blocks_with : DriveConfig → PlainState → ℕ → Write → ℕ → ℕ → Option Block
@@ -29,22 +30,10 @@ committed_state c s queue w = record s { position = s.position + 1; blocks = blo
 
 committed-state : (c : DriveConfig) (s : PlainState) (queue number : ℕ) (command : Command) (moment : ℕ) (w : Write) → write_of command ≡ Some w → after c s (entries.Host (record { queue = queue; number = number; command = command; reply = bare statuses.SUCCESS true; moment = moment })) ≡ committed_state c s queue w
 unfolding after changed_by effect_of
-committed-state c s queue number (commands.Write write) moment w e =
-    let same : _ ≡ w = (λ (x y : Write) (f : Some x ≡ Some y). let one : x ≡ y = cc in one) _ w e in
-    ap (committed_state c s queue) same
-committed-state c s queue number (commands.Read r) moment w e = absurd cc
-committed-state c s queue number (commands.Zero z) moment w e = absurd cc
-committed-state c s queue number (commands.Dealloc d) moment w e = absurd cc
-committed-state c s queue number (commands.Flush f) moment w e = absurd cc
-committed-state c s queue number (commands.Delete d) moment w e = absurd cc
-committed-state c s queue number (commands.Status status) moment w e = absurd cc
-committed-state c s queue number (commands.Update u) moment w e = absurd cc
-committed-state c s queue number (commands.Log l) moment w e = absurd cc
-committed-state c s queue number (commands.SetFdp set) moment w e = absurd cc
-committed-state c s queue number (commands.GetFdp g) moment w e = absurd cc
-committed-state c s queue number (commands.SetEvents set) moment w e = absurd cc
-committed-state c s queue number (commands.Create create) moment w e = absurd cc
-committed-state c s queue number (commands.Other o) moment w e = absurd cc
+committed-state c s queue number command moment w e =
+    subst
+    (λ (x : Command). after c s (entries.Host (record { queue = queue; number = number; command = x; reply = bare statuses.SUCCESS true; moment = moment })) ≡ committed_state c s queue w)
+    (sym (write-is command w e)) refl
 
 -- what it leaves, and what it changes
 pub record IsCommitted (c : DriveConfig) (p q : Point) (queue : ℕ) (w : Write) : Type 0 where
@@ -79,17 +68,4 @@ committed c p queue number command moment w e =
 
 -- a write has as many blocks as it says
 pub blocks-count : (command : Command) (w : Write) → write_of command ≡ Some w → blocks_written command ≡ w.count
-blocks-count (commands.Write write) w e = (λ (x y : Write) (f : Some x ≡ Some y). let one : x ≡ y = cc in ap (λ (z : Write). z.count) one) _ w e
-blocks-count (commands.Read r) w e = absurd cc
-blocks-count (commands.Zero z) w e = absurd cc
-blocks-count (commands.Dealloc d) w e = absurd cc
-blocks-count (commands.Flush f) w e = absurd cc
-blocks-count (commands.Delete d) w e = absurd cc
-blocks-count (commands.Status s) w e = absurd cc
-blocks-count (commands.Update u) w e = absurd cc
-blocks-count (commands.Log l) w e = absurd cc
-blocks-count (commands.SetFdp s) w e = absurd cc
-blocks-count (commands.GetFdp g) w e = absurd cc
-blocks-count (commands.SetEvents s) w e = absurd cc
-blocks-count (commands.Create c) w e = absurd cc
-blocks-count (commands.Other o) w e = absurd cc
+blocks-count command w e = ap (λ (o : Option Write). option_map_or (λ (x : Write). x.count) o 0) e

@@ -1,10 +1,9 @@
 -- The tables after a command other than a write whose change is made, by what it leaves of each.
-use Rattle.std.proofs.Common.{◌≡◌, ℕ, ◌≤◌, ◌<◌, Bool, true, false, List, [], ◌∷◌, ◌++◌, Option, Some, None, refl, sym, ◌∙◌, ap, subst, arith, inl}
+use Rattle.std.proofs.Common.{◌≡◌, ℕ, ◌≤◌, Bool, true, false, List, [], ◌∷◌, ◌++◌, Option, Some, None, refl, sym, ◌∙◌, ap, subst, arith, inl, ⊎_elim}
 use Rattle.std.specs.Prelude.{IsFalse, IsTrue, if◌then◌else◌, is_some, option_and_then}
 use Rattle.std.specs.Option.{option_map_or}
 use Rattle.std.proofs.lemmas.Bool.{false≢true}
 use Rattle.fdp_base.specs.declared.command.Command.{Command}
-use Rattle.fdp_base.specs.declared.command.Command.TheVariants as commands
 use Rattle.fdp_base.specs.declared.command.Write.{Write}
 use Rattle.fdp_base.specs.declared.config.DriveConfig.{DriveConfig}
 use Rattle.fdp_base.specs.declared.entry.Copied.{Copied}
@@ -20,13 +19,13 @@ use Rattle.fdp_book.specs.Held.{AreSumsOf, IsHeld, lead_in}
 use Rattle.fdp_book.proofs.Held.Next.{AreTablesOf, held-next}
 use Rattle.fdp_book.proofs.Held.Sums.{are_sums-push}
 use Rattle.fdp_book.proofs.Histories.Commanded.{applied-succeeds, success-follows}
-use Rattle.fdp_readings.specs.fdp_locations.Located.{AreAlike, AreLed, LeadsTo, next_in}
+use Rattle.fdp_readings.specs.fdp_locations.Located.{AreAlike, LeadsTo, next_in}
 use Rattle.fdp_readings.specs.fdp_locations.Written.{Written, written_by}
 use Rattle.fdp_readings.proofs.fdp_locations.Ended.{host}
-use Rattle.fdp_readings.proofs.fdp_locations.Kept.{WasNamed, holds-same, led-still}
+use Rattle.fdp_readings.proofs.fdp_locations.Kept.{holds-same, led-still}
 use Rattle.fdp_owners.specs.Owned.{AreOwners}
 use Rattle.fdp_owners.specs.OwnerTable.{owner_at}
-use Rattle.fdp_readings.specs.fdp_pages.PageTables.{PageTables, copies_at, passes_at}
+use Rattle.fdp_readings.specs.fdp_pages.PageTables.{passes_at}
 use Rattle.fdp_passes.specs.GroupPasses.{Pass}
 use Rattle.fdp_pointers.specs.Contents.{ended_by}
 use Rattle.fdp_pointers.specs.Facts.{Page}
@@ -39,6 +38,8 @@ use Rattle.fdp_rules.specs.Point.{Point}
 use Rattle.fdp_rules.specs.Refusal.{refusal_of}
 use Rattle.fdp_rules.specs.Step.{Follows, IsQueue}
 use Rattle.fdp_readings.proofs.fdp_trails.Grouping.{all-renamed}
+use Rattle.fdp_pointers.proofs.Names.{keeps-all-or-some}
+use Rattle.fdp_base.proofs.Writes.{by-write}
 
 never : {X : Type 0} {x : X} → None ≡ Some x → ⊥
 never e = cc
@@ -73,20 +74,15 @@ only-was false p at y e = absurd (never e)
 
 -- a pointer leads where it led, or nowhere
 pub still-led : (s : PlainState) (queue : ℕ) (command : Command) (at : Behind Page) (p : Pointer) (y : Page) → IsFalse (is_write command) → renamed (ended_by s queue true command) at p ≡ Some y → at p ≡ Some y
-still-led s queue (commands.Write w) at p y other e = absurd (false≢true (sym other))
-still-led s queue (commands.Read r) at p y other e = e
-still-led s queue (commands.Zero z) at p y other e = only-was _ p at y e
-still-led s queue (commands.Dealloc d) at p y other e = only-was _ p at y e
-still-led s queue (commands.Flush f) at p y other e = e
-still-led s queue (commands.Delete d) at p y other e = only-was _ p at y e
-still-led s queue (commands.Status x) at p y other e = e
-still-led s queue (commands.Update u) at p y other e = e
-still-led s queue (commands.Log l) at p y other e = e
-still-led s queue (commands.SetFdp set) at p y other e = e
-still-led s queue (commands.GetFdp g) at p y other e = e
-still-led s queue (commands.SetEvents set) at p y other e = e
-still-led s queue (commands.Create create) at p y other e = e
-still-led s queue (commands.Other o) at p y other e = e
+still-led s queue command at p y other e =
+    by-write (λ x. IsFalse (is_write x) → renamed (ended_by s queue true x) at p ≡ Some y → at p ≡ Some y)
+    (λ w unwritten led. absurd (false≢true (sym unwritten)))
+    (λ x none unwritten led.
+    ⊎_elim
+    (λ all. ap (λ (r : Pointer → Option Pointer). renamed r at p) (sym (all true)) ∙ led)
+    (λ some. only-was (some.keeps p) p at y (ap (λ (r : Pointer → Option Pointer). renamed r at p) (sym (some.ends true)) ∙ led))
+    (keeps-all-or-some s queue x none))
+    command other e
 
 -- ---- the tables
 

@@ -33,7 +33,7 @@ use Rattle.fdp_book.proofs.Histories.Follows.{end-follows, write-succeeds}
 use Rattle.fdp_book.proofs.Kept.{setting-alike, spaces-alike}
 use Rattle.fdp_book.proofs.Leading.{live_of, page-led, pages-same}
 use Rattle.fdp_flash.proofs.Lists.{slice_get_there}
-use Rattle.fdp_readings.specs.fdp_locations.Located.{AreLed, LeadsTo, next_in}
+use Rattle.fdp_readings.specs.fdp_locations.Located.{AreLed, LeadsTo}
 use Rattle.fdp_readings.specs.fdp_locations.Taken.{taken_first}
 use Rattle.fdp_readings.specs.fdp_locations.Written.{Written, written_by}
 use Rattle.fdp_readings.proofs.fdp_locations.Ended.{host, led-committed}
@@ -45,9 +45,7 @@ use Rattle.fdp_owners.specs.Owned.{AreOwners}
 use Rattle.fdp_owners.specs.OwnerTable.{owner_at}
 use Rattle.fdp_readings.specs.fdp_pages.PageTables.{passes_at}
 use Rattle.fdp_readings.specs.fdp_pages.Steps.{ChangesOwners}
-use Rattle.fdp_pointers.specs.Contents.{PageContent}
 use Rattle.fdp_pointers.specs.Facts.{Page}
-use Rattle.fdp_pointers.proofs.Tables.{from-flight, site-at}
 use Rattle.fdp_pointers.specs.Pointers.{Behind, Pointer, Pointer.of_block, Pointer.of_flight, renamed, taken_by}
 use Rattle.fdp_rules.specs.Answer.{bare}
 use Rattle.fdp_rules.specs.Effect.{block_of_write}

@@ -24,7 +24,7 @@ use Rattle.fdp_readings.specs.fdp_locations.Located.{LeadsTo}
 use Rattle.fdp_readings.specs.fdp_locations.Written.{Written}
 use Rattle.fdp_readings.proofs.fdp_locations.Units.{HasSameUnits, owners-alike, owners-next, units-same}
 use Rattle.fdp_map.specs.declared.mapped.Mapped.{Mapped}
-use Rattle.fdp_map.specs.MapTable.{MapTable, mapped_at, size_in}
+use Rattle.fdp_map.specs.MapTable.{mapped_at, size_in}
 use Rattle.fdp_owners.specs.Owned.{AreOwners}
 use Rattle.fdp_owners.specs.OwnerTable.{owner_at}
 use Rattle.fdp_pointers.specs.Facts.{Page}
@@ -35,7 +35,6 @@ use Rattle.fdp_rules.specs.History.{Found, point_of}
 use Rattle.fdp_rules.specs.Next.{next}
 use Rattle.fdp_rules.specs.PlainState.{Block, Going, Namespace, PlainState}
 use Rattle.fdp_rules.specs.Point.{Point}
-use Rattle.fdp_rules.specs.Sites.{is_there}
 use Rattle.fdp_rules.specs.Step.{Follows}
 
 -- ---- where the pointers lead before

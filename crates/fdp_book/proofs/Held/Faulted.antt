@@ -1,5 +1,5 @@
 -- A write whose change was made may be answered with Write Fault, since its saving failed: the tables stand for that history too.
-use Rattle.std.proofs.Common.{◌≡◌, ◌⊎◌, ℕ, ◌≤◌, true, List, [], ◌∷◌, ◌++◌, length, Option, Some, refl, sym, ◌∙◌, ap, subst, arith, ⊎_elim}
+use Rattle.std.proofs.Common.{◌≡◌, ◌⊎◌, ℕ, ◌≤◌, true, List, [], ◌∷◌, ◌++◌, length, Option, refl, sym, ◌∙◌, ap, subst, arith, ⊎_elim}
 use Rattle.std.specs.Prelude.{if◌then◌else◌, option_map}
 use Rattle.fdp_base.specs.declared.command.Command.{Command}
 use Rattle.fdp_base.specs.declared.config.DriveConfig.{DriveConfig}
@@ -22,7 +22,7 @@ use Rattle.fdp_readings.specs.fdp_locations.Located.{AreLed, handle_at}
 use Rattle.fdp_readings.specs.fdp_locations.Written.{Written, written_by}
 use Rattle.fdp_readings.proofs.fdp_locations.Ended.{host}
 use Rattle.fdp_readings.proofs.fdp_locations.Histories.{written_by-push}
-use Rattle.fdp_readings.proofs.fdp_locations.Units.{HasSameUnits, alike-self, units-same}
+use Rattle.fdp_readings.proofs.fdp_locations.Units.{alike-self, units-same}
 use Rattle.fdp_readings.specs.fdp_pages.PageTables.{PageTables}
 use Rattle.fdp_pointers.specs.Contents.{PageContent, content_at}
 use Rattle.fdp_pointers.specs.Facts.{Page}

@@ -1,5 +1,5 @@
 -- What a command leaves of the pages that closes units and changes no owner.
-use Rattle.std.proofs.Common.{◌≡◌, ℕ, ◌≤◌, ◌<◌, Bool, List, [], Option, Some, refl, sym, ◌∙◌, ap, subst, arith, inl}
+use Rattle.std.proofs.Common.{◌≡◌, ℕ, Bool, List, [], Option, Some, refl, sym, ◌∙◌, ap, subst, arith, inl}
 use Rattle.std.specs.Option.{option_map_or}
 use Rattle.fdp_base.specs.declared.command.Command.{Command}
 use Rattle.fdp_base.specs.declared.config.DriveConfig.{DriveConfig}
@@ -11,7 +11,7 @@ use Rattle.fdp_book.specs.declared.flight.Flight.{Flight}
 use Rattle.fdp_book.specs.Held.{ArePagesOf}
 use Rattle.fdp_book.proofs.Leading.{leads-same}
 use Rattle.fdp_history.specs.Orderly.{IsOrderly}
-use Rattle.fdp_readings.specs.fdp_locations.Located.{AreAlike, AreLed, next_in}
+use Rattle.fdp_readings.specs.fdp_locations.Located.{AreAlike, AreLed}
 use Rattle.fdp_readings.specs.fdp_locations.Written.{Written}
 use Rattle.fdp_readings.proofs.fdp_locations.Ended.{host}
 use Rattle.fdp_readings.proofs.fdp_locations.Kept.{WasNamed, holds-same, led-still}
@@ -25,7 +25,7 @@ use Rattle.fdp_passes.specs.GroupPasses.{Pass}
 use Rattle.fdp_pointers.specs.Contents.{ended_by}
 use Rattle.fdp_pointers.specs.Pointers.{Pointer, renamed}
 use Rattle.fdp_rules.specs.Next.{next}
-use Rattle.fdp_rules.specs.PlainState.{Going, PlainState}
+use Rattle.fdp_rules.specs.PlainState.{Going}
 use Rattle.fdp_rules.specs.Point.{Point}
 use Rattle.fdp_rules.specs.Step.{Follows}
 use Rattle.fdp_readings.proofs.fdp_trails.Grouping.{all-renamed}

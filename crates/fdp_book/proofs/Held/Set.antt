@@ -1,5 +1,5 @@
 -- What a placement setting leaves of the tables.
-use Rattle.std.proofs.Common.{◌≡◌, ◌⊎◌, ℕ, ◌+◌, ◌≤◌, ◌<◌, ◌^◌, Bool, true, List, [], ◌∷◌, ◌++◌, length, Option, Some, None, refl, sym, ◌∙◌, ap, subst, arith}
+use Rattle.std.proofs.Common.{◌≡◌, ℕ, ◌+◌, ◌<◌, ◌^◌, Bool, true, List, [], ◌∷◌, ◌++◌, Option, None, refl, sym, ◌∙◌, ap, subst, arith}
 use Rattle.std.specs.Prelude.{option_map}
 use Rattle.std.specs.Option.{option_map_or}
 use Rattle.fdp_base.specs.declared.command.Command.TheVariants as commands
@@ -27,7 +27,7 @@ use Rattle.fdp_readings.specs.fdp_locations.Written.{Written, written_by}
 use Rattle.fdp_readings.proofs.fdp_locations.Ended.{host}
 use Rattle.fdp_readings.proofs.fdp_locations.Owned.{unowned-none}
 use Rattle.fdp_readings.proofs.fdp_locations.Set.{units-set}
-use Rattle.fdp_readings.specs.fdp_pages.Steps.{HasNoOwner, SetsClasses}
+use Rattle.fdp_readings.specs.fdp_pages.Steps.{SetsClasses}
 use Rattle.fdp_rules.specs.Answer.{bare}
 use Rattle.fdp_rules.specs.Change.{after, changed_by}
 use Rattle.fdp_rules.specs.Effect.{effect_of, no_reference}

@@ -1,12 +1,11 @@
 -- What stays where another namespace stands under an identifier, or none: the going writes that do not see it, and where they go.
 use Rattle.std.proofs.Common.{◌≡◌, ◌≢◌, ⊎_elim, ℕ, Bool, true, false, List, [], Option, Some, None, refl, sym, ◌∙◌, ap, eq-eqb, ne_eqb, slice_get}
-use Rattle.std.specs.Prelude.{◌==◌, IsFalse, IsTrue, if◌then◌else◌, nat_lt, option_and_then, option_map, slice_index, unwrap_or}
+use Rattle.std.specs.Prelude.{◌==◌, if◌then◌else◌, nat_lt, option_map, slice_index, unwrap_or}
 use Rattle.std.specs.Option.{option_map_or}
 use Rattle.std.proofs.lemmas.Bool.{cases_eq, false≢true}
 use Rattle.fdp_base.specs.declared.command.Command.{Command}
 use Rattle.fdp_base.specs.declared.command.Write.{Write}
 use Rattle.fdp_base.specs.declared.config.DriveConfig.{DriveConfig}
-use Rattle.fdp_base.specs.declared.entry.Spot.{Spot}
 use Rattle.fdp_base.specs.CommandKinds.{nsid_of, pid_of, write_of}
 use Rattle.fdp_base.specs.Numbers.{with_at}
 use Rattle.fdp_base.proofs.Writes.{write-is}
@@ -15,7 +14,7 @@ use Rattle.fdp_book.specs.Held.{AreFlightsOf, AreSpacesOf, flight_in, going_of, 
 use Rattle.fdp_rules.specs.PlainState.{Going, Namespace, PlainState}
 use Rattle.fdp_rules.specs.Sites.{is_there}
 use Rattle.fdp_rules.specs.Step.{IsOnTarget, goes_to}
-use Rattle.fdp_rules.specs.Target.{Target, group_of_pid, handle_of_pid, target_of}
+use Rattle.fdp_rules.specs.Target.{group_of_pid, handle_of_pid, target_of}
 use Rattle.fdp_spaces.specs.SpaceTable.{SpaceTable, namespace_at}
 
 -- ---- one identifier and the others

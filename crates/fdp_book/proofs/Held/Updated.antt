@@ -1,6 +1,6 @@
 -- What an update of handles leaves of the tables.
-use Rattle.std.proofs.Common.{◌≡◌, ◌⊎◌, ℕ, ◌+◌, ◌≤◌, ◌<◌, Bool, true, List, [], ◌∷◌, ◌++◌, length, Option, Some, None, refl, sym, ◌∙◌, ap, subst, arith}
-use Rattle.std.specs.Prelude.{All, Contains, fold}
+use Rattle.std.proofs.Common.{◌≡◌, ℕ, ◌<◌, Bool, true, List, [], ◌∷◌, ◌++◌, length, Option, Some, None, refl, sym, ◌∙◌, ap, subst, arith}
+use Rattle.std.specs.Prelude.{Contains, fold}
 use Rattle.std.specs.Option.{option_map_or}
 use Rattle.std.proofs.lemmas.List.Elements.{All-contains}
 use Rattle.fdp_base.specs.declared.command.Command.TheVariants as commands
@@ -35,7 +35,6 @@ use Rattle.fdp_rules.specs.Point.{Point}
 use Rattle.fdp_rules.specs.Refusal.{refusal_of}
 use Rattle.fdp_rules.specs.Room.{handles_in_force}
 use Rattle.fdp_rules.specs.Step.{Follows, IsQueue}
-use Rattle.fdp_spaces.specs.SpaceTable.{handles_at, namespace_at}
 use Rattle.fdp_units.specs.UnitTable.{Cut}
 
 -- ---- a command that is not refused

@@ -1,6 +1,6 @@
 -- What commands pass that are not refused: their blocks lie in their namespaces, and a created one is not too large.
-use Rattle.std.proofs.Common.{◌≡◌, ℕ, zero, suc, ◌+◌, ◌-◌, ◌*◌, ◌<◌, ◌≤◌, Bool, true, false, ◌||◌, List, [], ◌∷◌, length, slice_get, Option, Some, None, refl, ap, sym, ◌∙◌, arith, cond, lt-ltb}
-use Rattle.std.specs.Prelude.{◌&&◌, is_none, nat_lt, sum_by}
+use Rattle.std.proofs.Common.{◌≡◌, ℕ, zero, suc, ◌+◌, ◌-◌, ◌*◌, ◌<◌, ◌≤◌, Bool, true, false, List, [], ◌∷◌, slice_get, Option, Some, None, refl, ap, sym, ◌∙◌, arith, cond, lt-ltb}
+use Rattle.std.specs.Prelude.{◌&&◌, is_none, nat_lt}
 use Rattle.std.specs.List.{list_any}
 use Rattle.std.proofs.lemmas.Bool.{false≢true, ltb-false, or_parts}
 use Rattle.std.proofs.lemmas.Nat.{mul-le}
@@ -13,14 +13,14 @@ use Rattle.fdp_base.specs.declared.config.DriveConfig.{DriveConfig}
 use Rattle.fdp_base.specs.declared.limits.TheConstants.{MOST_DWORDS}
 use Rattle.fdp_base.specs.declared.status.Status.{Status}
 use Rattle.fdp_base.specs.Config.{IsValidConfig}
-use Rattle.fdp_base.specs.Placement.{budget_of, full_budget}
+use Rattle.fdp_base.specs.Placement.{budget_of}
 use Rattle.fdp_book.proofs.Histories.Configuring.{budgets-few}
 use Rattle.fdp_history.proofs.Checks.{IsAcceptedCreate}
 use Rattle.fdp_history.proofs.Sizes.{budgets-whole}
 use Rattle.fdp_rules.specs.PlainState.{Namespace, PlainState}
 use Rattle.fdp_rules.specs.Point.{Point}
 use Rattle.fdp_rules.specs.Refusal.{Check, checks_of, first_that_holds, is_range_past_end, refusal_of}
-use Rattle.fdp_rules.specs.Room.{handles_in_force, namespace_ids, size_of}
+use Rattle.fdp_rules.specs.Room.{handles_in_force, size_of}
 
 -- none of these checks holds
 abbrev NoneHolds : List Check → Type 0

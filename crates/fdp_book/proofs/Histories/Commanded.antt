@@ -1,9 +1,8 @@
 -- Which ends of a command other than a write may follow: its success, or a media error of one that is saved.
-use Rattle.std.proofs.Common.{◌≡◌, ℕ, Bool, true, false, [], length, refl, sym, ap, inl, inr, None, MatchBool}
+use Rattle.std.proofs.Common.{◌≡◌, ℕ, Bool, true, false, [], length, refl, sym, ap, inl, inr, None, MatchBool, ◌∙◌}
 use Rattle.std.specs.Prelude.{IsTrue}
 use Rattle.std.proofs.lemmas.Bool.{false≢true}
 use Rattle.fdp_base.specs.declared.command.Command.{Command}
-use Rattle.fdp_base.specs.declared.command.Command.TheVariants as commands
 use Rattle.fdp_base.specs.declared.config.DriveConfig.{DriveConfig}
 use Rattle.fdp_base.specs.declared.entry.Entry.TheVariants as entries
 use Rattle.fdp_base.specs.declared.entry.Reply.{Reply}
@@ -16,6 +15,7 @@ use Rattle.fdp_rules.specs.PlainState.{PlainState}
 use Rattle.fdp_rules.specs.Point.{Point}
 use Rattle.fdp_rules.specs.Refusal.{refusal_of}
 use Rattle.fdp_rules.specs.Step.{Follows, IsNewMoment, IsQueue, IsWriteFault}
+use Rattle.fdp_rules.proofs.Effects.{by-effect}
 
 no-write : (P Q : Type 0) (b : Bool) → b ≡ false → Q → MatchBool b P Q
 no-write P Q true e q = absurd (false≢true (sym e))
@@ -47,20 +47,19 @@ fault-follows told c p queue number command reply moment queue_is formed accepte
 pub applied-succeeds : (told : Bool) (c : DriveConfig) (p : Point) (command : Command) → IsTrue (is_saved command) → IsSuccess told c p command (applied_reply p.state command statuses.SUCCESS)
 applied-succeeds told c p command saved = record { status = refl; dword0 = refl; size = size command saved; bytes_are = λ _. sym (none command saved); applied = sym saved } where
   none : (x : Command) → is_saved x ≡ true → data_of c p x ≡ []
-  none (commands.Write w) e = refl
-  none (commands.Read r) e = absurd (false≢true e)
-  none (commands.Zero z) e = refl
-  none (commands.Dealloc d) e = refl
-  none (commands.Flush f) e = refl
-  none (commands.Delete d) e = refl
-  none (commands.Status s) e = absurd (false≢true e)
-  none (commands.Update u) e = refl
-  none (commands.Log l) e = absurd (false≢true e)
-  none (commands.SetFdp s) e = refl
-  none (commands.GetFdp g) e = refl
-  none (commands.SetEvents s) e = refl
-  none (commands.Create create) e = refl
-  none (commands.Other o) e = refl
+  none =
+      by-effect (λ x. is_saved x ≡ true → data_of c p x ≡ [])
+      (record {
+        write = λ w e. refl;
+        zero = λ z e. refl;
+        dealloc = λ d e. refl;
+        delete = λ d e. refl;
+        update = λ u e. refl;
+        set_fdp = λ s e. refl;
+        set_events = λ s e. refl;
+        create = λ create e. refl;
+        nothing = λ x unsaved e. absurd (false≢true (sym unsaved.saved ∙ e));
+      })
 
   size : (x : Command) → is_saved x ≡ true → 0 ≡ length (data_of c p x)
   size x e = sym (ap length (none x e))

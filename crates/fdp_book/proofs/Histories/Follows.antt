@@ -1,5 +1,5 @@
 -- Which answers may follow: refusals, reads, and the ends of writes.
-use Rattle.std.proofs.Common.{◌≡◌, ℕ, ◌≤◌, Bool, true, false, cond, ◌||◌, IsTrue, List, [], ◌∷◌, length, refl, ap, sym, ◌∙◌, inl, inr, arith, Some, None, Option, MatchBool}
+use Rattle.std.proofs.Common.{◌≡◌, ℕ, ◌≤◌, Bool, true, false, cond, ◌||◌, IsTrue, List, [], ◌∷◌, length, refl, ap, ◌∙◌, inl, inr, arith, Some, None, Option, MatchBool, subst}
 use Rattle.std.specs.Prelude.{nat_lt, not, ◌&&◌, ◌==◌}
 use Rattle.std.proofs.lemmas.Bool.{false≢true, ltb-false}
 use Rattle.fdp_base.specs.declared.command.Command.{Command}
@@ -14,11 +14,13 @@ use Rattle.fdp_rules.specs.Change.{after, changed_by, is_media_error}
 use Rattle.fdp_base.specs.CommandKinds.{IsWellFormed, blocks_written, is_write}
 use Rattle.fdp_rules.specs.PlainState.{Going, PlainState}
 use Rattle.fdp_rules.specs.Point.{Point}
-use Rattle.fdp_rules.specs.Refusal.{Check, checks_of, first_that_holds, is_absent, refusal_of}
+use Rattle.fdp_rules.specs.Refusal.{checks_of, is_absent, refusal_of}
 use Rattle.fdp_rules.specs.Step.{Follows, IsEnd, IsNewMoment, IsQueue}
 use Rattle.fdp_history.specs.OrderlyState.{IsOrderlyGoing}
 use Rattle.fdp_book.specs.Room.{read_reply}
 use Rattle.fdp_book.specs.Stages.{IsFree}
+use Rattle.fdp_base.proofs.Writes.{each-write, few-written}
+use Rattle.fdp_base.specs.declared.command.Write.{Write}
 
 -- a fact for each value of a test
 match-bool : {P Q : Type 0} → (b : Bool) → (b ≡ true → P) → (b ≡ false → Q) → MatchBool b P Q
@@ -35,42 +37,6 @@ unfolding after changed_by
 media-ended c s queue number command reply moment fine none = ap (λ b. cond b (moment ∷ s.media) s.media) fine ∙ none
 
 -- ---- refusals
-
--- none of these checks is answered by a media error
-abbrev AreFine : List Check → Type 0
-AreFine [] = Unit {0}
-AreFine (x ∷ xs) = (is_media_error x.status ≡ false) × AreFine xs
-
-first-fine : (xs : List Check) (status : Status) → AreFine xs → first_that_holds xs ≡ Some status → is_media_error status ≡ false
-first-fine [] status fine e = absurd cc
-first-fine (x ∷ xs) status fine e =
-    let P : Bool → Type 0 = λ b. cond b (Some x.status) (first_that_holds xs) ≡ Some status → is_media_error status ≡ false in
-    (elim x.holds as P [
-      | true ↦ λ here. let same : x.status ≡ status = cc in ap is_media_error (sym same) ∙ fine.0
-      | false ↦ λ later. first-fine xs status fine.1 later
-    ]) e
-
-fine : (c : DriveConfig) (p : Point) (command : Command) → AreFine (checks_of c p command)
-unfolding checks_of
-fine c p (commands.Write w) = (refl, (refl, (refl, (refl, tt))))
-fine c p (commands.Read r) = (refl, (refl, (refl, tt)))
-fine c p (commands.Zero z) = (refl, (refl, (refl, tt)))
-fine c p (commands.Dealloc d) = (refl, (refl, (refl, tt)))
-fine c p (commands.Flush f) = (refl, tt)
-fine c p (commands.Delete d) = (refl, tt)
-fine c p (commands.Status s) = (refl, (refl, (refl, tt)))
-fine c p (commands.Update u) = (refl, (refl, (refl, (refl, tt))))
-fine c p (commands.Log l) = (refl, (refl, (refl, (refl, tt))))
-fine c p (commands.SetFdp s) = (refl, (refl, tt))
-fine c p (commands.GetFdp g) = (refl, tt)
-fine c p (commands.SetEvents s) = (refl, (refl, (refl, tt)))
-fine c p (commands.Create create) = (refl, (refl, (refl, (refl, tt))))
-fine c p (commands.Other o) = (refl, (refl, tt))
-
--- a refusal is no media error
-pub refused-fine : (c : DriveConfig) (p : Point) (command : Command) (status : Status) → refusal_of c p command ≡ Some status → is_media_error status ≡ false
-unfolding refusal_of
-refused-fine c p command status e = first-fine (checks_of c p command) status (fine c p command) e
 
 -- a command may be refused, of which no write is going
 pub refused-follows : (told : Bool) (c : DriveConfig) (p : Point) (queue number : ℕ) (command : Command) (status : Status) (moment : ℕ) → IsQueue c queue → IsWellFormed c command → IsFree p.state queue number → refusal_of c p command ≡ Some status → Follows told c p (entries.Host (record { queue = queue; number = number; command = command; reply = bare status false; moment = moment }))
@@ -99,25 +65,15 @@ first-false : (a b d : Bool) → a || b || d ≡ false → a ≡ false
 first-false true b d e = e
 first-false false b d e = refl
 
--- a command that is not refused writes no more blocks than a command may
-pub accepted-blocks : (c : DriveConfig) (p : Point) (command : Command) → refusal_of c p command ≡ None → blocks_written command ≤ c.blocks_per_command
+accepted-write : (c : DriveConfig) (p : Point) (w : Write) → refusal_of c p (commands.Write w) ≡ None → w.count ≤ c.blocks_per_command
 unfolding refusal_of checks_of
-accepted-blocks c p (commands.Write w) e =
+accepted-write c p w e =
     let bad = second-passes (is_absent p.state w.nsid) (nat_lt c.blocks_per_command w.count || not (w.dtype == 0 || w.dtype == 2) || (w.dtype == 2 && not p.state.enabled)) statuses.INVALID_NAMESPACE statuses.INVALID_FIELD _ e in
     ltb-false c.blocks_per_command w.count (first-false (nat_lt c.blocks_per_command w.count) (not (w.dtype == 0 || w.dtype == 2)) (w.dtype == 2 && not p.state.enabled) bad)
-accepted-blocks c p (commands.Read r) e = omega arith
-accepted-blocks c p (commands.Zero z) e = omega arith
-accepted-blocks c p (commands.Dealloc d) e = omega arith
-accepted-blocks c p (commands.Flush f) e = omega arith
-accepted-blocks c p (commands.Delete d) e = omega arith
-accepted-blocks c p (commands.Status s) e = omega arith
-accepted-blocks c p (commands.Update u) e = omega arith
-accepted-blocks c p (commands.Log l) e = omega arith
-accepted-blocks c p (commands.SetFdp s) e = omega arith
-accepted-blocks c p (commands.GetFdp g) e = omega arith
-accepted-blocks c p (commands.SetEvents s) e = omega arith
-accepted-blocks c p (commands.Create create) e = omega arith
-accepted-blocks c p (commands.Other o) e = omega arith
+
+-- a command that is not refused writes no more blocks than a command may
+pub accepted-blocks : (c : DriveConfig) (p : Point) (command : Command) → refusal_of c p command ≡ None → blocks_written command ≤ c.blocks_per_command
+accepted-blocks c p command e = few-written c.blocks_per_command command (λ w is. accepted-write c p w (subst (λ (x : Command). refusal_of c p x ≡ None) is e))
 
 -- the bytes of a read
 pub read-follows : (told : Bool) (c : DriveConfig) (p : Point) (queue number nsid slba count : ℕ) (bytes : List ℕ) (moment : ℕ) → IsQueue c queue → IsWellFormed c (commands.Read (record { nsid = nsid; slba = slba; count = count })) → refusal_of c p (commands.Read (record { nsid = nsid; slba = slba; count = count })) ≡ None → length bytes ≡ length (data_of c p (commands.Read (record { nsid = nsid; slba = slba; count = count }))) → (IsTrue told → bytes ≡ data_of c p (commands.Read (record { nsid = nsid; slba = slba; count = count }))) → Follows told c p (entries.Host (record { queue = queue; number = number; command = commands.Read (record { nsid = nsid; slba = slba; count = count }); reply = read_reply bytes; moment = moment }))
@@ -158,17 +114,5 @@ end-follows told c p queue g reply moment h going ends = record {
 
 -- a success of a write
 pub write-succeeds : (told : Bool) (c : DriveConfig) (p : Point) (command : Command) → IsTrue (is_write command) → IsSuccess told c p command (bare statuses.SUCCESS true)
-write-succeeds told c p (commands.Write w) write = record { status = refl; dword0 = refl; size = refl; bytes_are = λ _. refl; applied = refl }
-write-succeeds told c p (commands.Read r) write = absurd (false≢true write)
-write-succeeds told c p (commands.Zero z) write = absurd (false≢true write)
-write-succeeds told c p (commands.Dealloc d) write = absurd (false≢true write)
-write-succeeds told c p (commands.Flush f) write = absurd (false≢true write)
-write-succeeds told c p (commands.Delete d) write = absurd (false≢true write)
-write-succeeds told c p (commands.Status s) write = absurd (false≢true write)
-write-succeeds told c p (commands.Update u) write = absurd (false≢true write)
-write-succeeds told c p (commands.Log l) write = absurd (false≢true write)
-write-succeeds told c p (commands.SetFdp s) write = absurd (false≢true write)
-write-succeeds told c p (commands.GetFdp g) write = absurd (false≢true write)
-write-succeeds told c p (commands.SetEvents s) write = absurd (false≢true write)
-write-succeeds told c p (commands.Create create) write = absurd (false≢true write)
-write-succeeds told c p (commands.Other o) write = absurd (false≢true write)
+write-succeeds told c p command write =
+    each-write (λ x. IsSuccess told c p x (bare statuses.SUCCESS true)) (λ w. record { status = refl; dword0 = refl; size = refl; bytes_are = λ _. refl; applied = refl }) command write

@@ -1,4 +1,4 @@
-use Rattle.std.proofs.Common.{◌≡◌, ◌∙◌, true, ℕ, ◌+◌, ◌*◌, List, [], ◌∷◌, ◌++◌, Option, None, ap, arith, length, refl, replicate, subst, sym}
+use Rattle.std.proofs.Common.{◌≡◌, ◌∙◌, true, ℕ, ◌+◌, ◌*◌, List, [], ◌∷◌, ◌++◌, Option, None, ap, arith, refl, replicate, subst, sym}
 use Rattle.std.specs.Prelude.{if◌then◌else◌}
 use Rattle.fdp_base.specs.declared.command.Command.{Command}
 use Rattle.fdp_base.specs.declared.entry.Entry.{Entry}

@@ -1,8 +1,7 @@
-use Rattle.std.proofs.Common.{sym, subst, ◌∙◌, List, ap}
+use Rattle.std.proofs.Common.{sym, subst, ◌∙◌, List}
 use Rattle.fdp_base.specs.declared.entry.Entry.{Entry}
 use Rattle.fdp_rules.specs.Step.{IsQueue}
 use Rattle.fdp_book.specs.Book.{BookSeen}
-use Rattle.fdp_book.specs.declared.tables.Tables.{Tables}
 use Rattle.fdp_book.specs.Held.{IsHeld}
 use Rattle.fdp_book.proofs.Ending.{held-completed}
 use Rattle.fdp_book.proofs.Forgetting.{may-forget}

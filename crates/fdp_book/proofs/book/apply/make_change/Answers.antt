@@ -1,6 +1,5 @@
-use Rattle.std.proofs.Common.{◌≡◌, ◌∙◌, ℕ, ◌*◌, List, Option, None, ap, refl, replicate, slice_get, subst, sym}
+use Rattle.std.proofs.Common.{◌∙◌, ℕ, ◌*◌, List, Option, None, ap, refl, replicate, slice_get, subst, sym}
 use Rattle.fdp_base.specs.declared.command.Command.{Command}
-use Rattle.fdp_base.specs.declared.command.Command.TheVariants as commands
 use Rattle.fdp_base.specs.declared.command.Range.{Range}
 use Rattle.fdp_book.specs.Applying.{MayChange, StandBehind}
 use Rattle.fdp_book.specs.Clearing.{Clears}

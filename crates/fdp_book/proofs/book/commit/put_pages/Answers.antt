@@ -1,12 +1,10 @@
-use Rattle.std.proofs.Common.{◌≡◌, ◌∙◌, ◌+◌, ℕ, Some, ap, arith, subst, sym}
+use Rattle.std.proofs.Common.{◌≡◌, ◌+◌, ℕ, ap, arith, subst}
 use Rattle.fdp_readings.specs.fdp_locations.Taken.{taken_first}
 use Rattle.fdp_owners.specs.Owned.{AreOwners}
 use Rattle.fdp_owners.specs.OwnerTable.{owner_at}
 use Rattle.fdp_pointers.specs.Pointers.{renamed}
 use Rattle.std.proofs.lemmas.Option.{slice_get-get_or}
-use Rattle.fdp_base.specs.declared.config.Geometry.{Geometry}
-use Rattle.fdp_base.specs.declared.entry.Spot.{Spot}
-use Rattle.fdp_map.specs.MapTable.{IsPageOf, MapTable, mapped_at, mapped_on, size_in, with_mapped}
+use Rattle.fdp_map.specs.MapTable.{size_in}
 use Rattle.fdp_book.proofs.Committing.PutPages.{page-kept, put-cut, put-first, put-may, put-next}
 use Rattle.fdp_book.proofs.book.commit.put_pages.Goals as goal
 

@@ -15,7 +15,7 @@ use Rattle.fdp_core.proofs.Begins.{IsRefusal, begins-refused, sound-refused}
 use Rattle.fdp_core.proofs.Ends.{no-read}
 use Rattle.fdp_core.proofs.Grown.{host}
 use Rattle.fdp_core.proofs.Kept.{kept-begun}
-use Rattle.fdp_core.proofs.Refusals.{refused-status, uncompleted}
+use Rattle.fdp_core.proofs.Refusals.{uncompleted}
 use Rattle.fdp_core.proofs.Sound.{begun}
 use Rattle.fdp_core.proofs.Wholes.{answered-kept, entry-stops, order-begun, survives-uncalled}
 use Rattle.fdp_image.specs.Kept.{is_completed}
@@ -28,6 +28,7 @@ use Rattle.fdp_core.proofs.group.Group.refuse.Given.{Over}
 use Rattle.fdp_core.proofs.Apart.{safe-now}
 use Rattle.fdp_core.proofs.group.Group.refuse.Goals as goal
 use Rattle.fdp_core.proofs.Roomy.{leaves-uncalled}
+use Rattle.fdp_rules.proofs.Refusing.{refused-fails}
 
 -- the answer, from the book before the step began
 completed : (g : Over) (c : goal.After-known-2 g) → book.Completes (begun c.self.inside.book) c.complete-done.new.self [] c.args.queue c.args.number c.args.command c.end-replies.result.1.history c.moment-moment.result c.complete-done.result
@@ -52,7 +53,7 @@ order-refused g c = record { known = record { config = c.known.ensures.config; o
 unsuccessful : (g : Over) (c : goal.After-known-2 g) → IsFalse (is_completed c.args.command c.end-replies.result.1.history)
 unsuccessful g c =
     let is = refusal g c in
-    uncompleted c.args.command c.end-replies.result.1.history (ap (λ (r : Reply). is_status r.status statuses.SUCCESS) is.reply_is ∙ refused-status c.self.inside.book.config (point_in c.self.inside.book) c.args.command c.args.status is.refused)
+    uncompleted c.args.command c.end-replies.result.1.history (ap (λ (r : Reply). is_status r.status statuses.SUCCESS) is.reply_is ∙ refused-fails c.self.inside.book.config (point_in c.self.inside.book) c.args.command c.args.status is.refused)
 
 kept-refused : (g : Over) (c : goal.After-known-2 g) → IsKept c.self.inside.handed (g.F.Flash.state c.self.inside.flash) c.complete-done.new.self c.self.inside.keeper
 kept-refused g c =

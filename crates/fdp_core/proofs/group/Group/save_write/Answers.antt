@@ -6,7 +6,6 @@ use Rattle.fdp_base.specs.declared.status.TheConstants.Status as statuses
 use Rattle.fdp_base.specs.CommandKinds.{is_write}
 use Rattle.fdp_relocation.specs.fdp_book.Book.{BookSeen, point_in, state_in}
 use Rattle.fdp_relocation.specs.fdp_book.Steps as book
-use Rattle.fdp_relocation.specs.fdp_book.Steps.{IsReady}
 use Rattle.fdp_relocation.specs.fdp_book.Tickets.{IsTicketOf}
 use Rattle.fdp_core.specs.Answers.{SavesWrite}
 use Rattle.fdp_core.specs.Seen.{Seen}
@@ -28,6 +27,7 @@ use Rattle.fdp_core.specs.Sound.{IsWhole}
 use Rattle.fdp_base.specs.declared.entry.Reply.{Reply}
 use Rattle.fdp_relocation.specs.fdp_saving.declared.saved.Saved.{Saved}
 use Rattle.fdp_relocation.specs.fdp_book.declared.ticket.Ticket.{Ticket}
+use Rattle.fdp_base.proofs.Writes.{each-write}
 
 -- ---- before the saving
 
@@ -36,20 +36,7 @@ save_write-saved-requires-clause-can g c = subst (λ (s : Seen g.row.F.Denot). C
 
 -- a write is one
 as-write : (command : Command) → is_write command ≡ true → (w : Write) × (command ≡ commands.Write w)
-as-write (commands.Write w) is = (w, refl)
-as-write (commands.Read r) is = absurd cc
-as-write (commands.Zero z) is = absurd cc
-as-write (commands.Dealloc d) is = absurd cc
-as-write (commands.Flush f) is = absurd cc
-as-write (commands.Create x) is = absurd cc
-as-write (commands.Delete d) is = absurd cc
-as-write (commands.Status s) is = absurd cc
-as-write (commands.Update u) is = absurd cc
-as-write (commands.Log l) is = absurd cc
-as-write (commands.SetFdp s) is = absurd cc
-as-write (commands.GetFdp f) is = absurd cc
-as-write (commands.SetEvents s) is = absurd cc
-as-write (commands.Other o) is = absurd cc
+as-write command is = each-write (λ x. (w : Write) × (x ≡ commands.Write w)) (λ w. (w, refl)) command is
 
 -- the entry that was saved is that of the write of the ticket
 keeps-as : (b : BookSeen) (k l : KeeperSeen) (f n : FlashState) (ticket : Ticket) (g : Going) (w : Write) (reply : Reply) (moment : ℕ) (answer : Saved) → IsTicketOf (state_in b) ticket g → g.command ≡ commands.Write w →

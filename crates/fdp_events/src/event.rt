@@ -1,9 +1,8 @@
-//! The events of entries, at the position of the entry.
+//! The events that a drive keeps, at the position of their entry.
 
-ghost use Rattle.std.specs.Prelude.{◌≡◌, ◌+◌, ◌<◌, length, [], ◌∷◌};
+ghost use Rattle.std.specs.Prelude.{◌≡◌};
 ghost use Rattle.fdp_base.specs.declared.event.Event.{Event as Told};
-ghost use Rattle.fdp_rules.specs.Events.{all_valid, handle_event, is_host_event, nsid_and_location_valid, told_moved};
-ghost use Rattle.fdp_rules.specs.PlainState.{PlainState};
+ghost use Rattle.fdp_rules.specs.Events.{all_valid, is_host_event, nsid_and_location_valid, only_location_valid, told_moved};
 ghost use Rattle.fdp_snapshot.specs.Events.{IsPlain};
 
 use fdp_base::{BlockName, Event, EventFlags, EventKind};
@@ -17,7 +16,7 @@ pub fn is_host(kind: EventKind) -> bool
 
 /// An event of a handle in a group.
 pub fn handle_event(kind: EventKind, position: u64, rg: u16, ruh: u8) -> Event
-    ensures event { (s : PlainState) → s.position + 1 ≡ position → result ≡ handle_event s kind rg ruh }
+    ensures event { result ≡ record { kind = kind; flags = only_location_valid; pid = 0; position = position; nsid = 0; moved = 0; lba = 0; rg = rg; ruh = ruh } }
     ensures plain { IsPlain result }
 {
     Event {

@@ -4,7 +4,7 @@ ghost use Rattle.std.specs.Prelude.{◌≡◌, ℕ, ◌<◌, ◌==◌, ◌&&◌,
 ghost use Rattle.fdp_base.specs.declared.event.EventKind.{EventKind as Kind};
 ghost use Rattle.fdp_image.specs.Checkpoint.{reports_in};
 ghost use Rattle.fdp_image.specs.CheckpointRows.{has_kind};
-ghost use Rattle.fdp_state.specs.Kinds.{kind_bit};
+ghost use Rattle.fdp_events.specs.Kinds.{kind_bit};
 
 use fdp_base::EventKind;
 

@@ -12,7 +12,7 @@ use Rattle.fdp_base.specs.declared.event.EventKind.{EventKind}
 use Rattle.fdp_base.specs.declared.event.EventKind.TheVariants as kinds
 use Rattle.fdp_image.specs.Bits.{has_bit}
 use Rattle.fdp_image.specs.CheckpointRows.{has_kind}
-use Rattle.fdp_state.specs.Kinds.{kind_bit}
+use Rattle.fdp_events.specs.Kinds.{kind_bit}
 
 or-false : (b : Bool) → (b || false) ≡ b
 or-false true = refl
