@@ -55,6 +55,9 @@ run 6 "fault 6 source" run folder drive.img first.trace
 run 6 "fault 6 source" run s.toml drive.img folder
 run 0 "queue 1" run s.toml drive.img empty
 run 0 "queue 1" record s.toml drive.img first.trace
+run 0 "queue 1" try run s.toml drive.img first.trace
+cmp -s new.img drive.img || fail "a trial changed the image"
+run 2 "fault 2 config absent" try run absent drive.img first.trace
 
 cp new.img drive.img
 ended=0
