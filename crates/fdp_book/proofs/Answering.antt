@@ -1,5 +1,5 @@
 -- Bytes that are written into a buffer of zeros, piece by piece.
-use Rattle.std.proofs.Common.{◌≡◌, ℕ, zero, suc, ◌+◌, ◌-◌, ◌*◌, ◌<◌, ◌≤◌, List, [], ◌∷◌, ◌++◌, length, drop, get_or, slice_set, take, replicate, refl, ap, sym, ◌∙◌, subst, append_assoc, add-one, arith, drop-cons, length-append}
+use Rattle.std.proofs.Common.{◌≡◌, ℕ, zero, suc, ◌+◌, ◌-◌, ◌*◌, ◌<◌, ◌≤◌, List, [], ◌∷◌, ◌++◌, length, drop, get_or, slice_set, take, refl, ap, sym, ◌∙◌, subst, append_assoc, add-one, arith, drop-cons, length-append}
 use Rattle.std.specs.Prelude.{Bool, None, flat_map, if◌then◌else◌}
 use Rattle.std.proofs.lemmas.Bool.{le-leb}
 use Rattle.std.specs.List.{enumerate_from}

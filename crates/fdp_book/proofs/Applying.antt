@@ -1,5 +1,5 @@
 -- The change of each command that is saved: what it may rest on, and what the tables stand for behind it.
-use Rattle.std.proofs.Common.{◌≡◌, ℕ, ◌+◌, ◌*◌, ◌<◌, ◌≤◌, ◌^◌, Bool, true, length, Some, refl, ◌∙◌, ap, arith, slice_get, le-leb}
+use Rattle.std.proofs.Common.{◌≡◌, ℕ, ◌+◌, ◌*◌, ◌<◌, ◌≤◌, Bool, true, length, Some, refl, ◌∙◌, ap, arith, slice_get, le-leb}
 use Rattle.std.specs.Prelude.{if◌then◌else◌}
 use Rattle.fdp_base.specs.declared.command.Command.{Command}
 use Rattle.fdp_base.specs.declared.command.Command.TheVariants as commands
@@ -42,6 +42,8 @@ use Rattle.fdp_owners.specs.OwnerTable.{OwnerTable, owner_at}
 use Rattle.fdp_rules.specs.Effect.{is_in_ranges}
 use Rattle.fdp_rules.specs.History.{point_of}
 use Rattle.fdp_rules.specs.Point.{Point}
+use Rattle.fdp_base.specs.declared.limits.TheConstants.{MOST_STEPS}
+use Rattle.fdp_book.specs.declared.log.TheConstants.{MOST_STEP_ENTRIES}
 
 -- ---- by the parts of a book
 
@@ -56,7 +58,7 @@ behind-now c opening log t queue command birth h may is = record {
 }
 
 pub may-change : (c : DriveConfig) (opening : Opening) (log : Logged) (t : Tables) (queue : ℕ) (command : Command) (birth : ℕ) → IsBook c opening log t → MayTakeEffect (book_of c opening log t) queue command → birth ≡ log.before + length log.entries + 1 →
-    log.room ≡ 300 → log.spent ≤ 2 ^ 30 → MayChange c t command birth
+    log.room ≡ MOST_STEP_ENTRIES → log.spent ≤ MOST_STEPS → MayChange c t command birth
 may-change c opening log t queue command birth h may is room few = record {
   found = opening.found;
   first = pages_held c opening.cells;

@@ -9,6 +9,8 @@ use Rattle.fdp_book.specs.declared.tables.Tables.{Tables}
 use Rattle.fdp_book.specs.Forgetting.{EndsIn, Forgets}
 use Rattle.fdp_book.specs.Held.{HasNumbers, flight_in}
 use Rattle.fdp_book.specs.Logged.{IsLogged, Logged}
+use Rattle.fdp_base.specs.declared.limits.TheConstants.{MOST_STEPS}
+use Rattle.fdp_book.specs.declared.log.TheConstants.{MOST_STEP_ENTRIES}
 
 -- a step goes on
 pub numbers-on : (generation : ℕ) (old new : Logged) → new.spent ≡ old.spent → new.room ≤ old.room → HasNumbers generation old → HasNumbers generation new
@@ -23,7 +25,7 @@ numbers-logged x now old new es same logged h =
     subst (λ (s : Setting). HasNumbers s.generation new) (sym same) (numbers-on x.generation old new logged.spent_is (omega (arith, logged.room_is)) h)
 
 -- a command changes the setting once at most, as the first that a step does
-pub numbers-risen : (generation now : ℕ) (old new : Logged) (e : Entry) → now ≤ generation + 1 → old.room ≡ 300 → IsLogged old new (e ∷ []) → HasNumbers generation old → HasNumbers now new
+pub numbers-risen : (generation now : ℕ) (old new : Logged) (e : Entry) → now ≤ generation + 1 → old.room ≡ MOST_STEP_ENTRIES → IsLogged old new (e ∷ []) → HasNumbers generation old → HasNumbers now new
 numbers-risen generation now old new e more room logged h =
     let before : generation < 2 ^ 31 + old.spent = h.fewer (omega (arith, room)) in
     record {
@@ -32,7 +34,7 @@ numbers-risen generation now old new e more room logged h =
     }
 
 -- and it has a number for that
-pub number-left : (generation : ℕ) (log : Logged) → log.room ≡ 300 → log.spent ≤ 2 ^ 30 → HasNumbers generation log → generation + 1 < 2 ^ 32
+pub number-left : (generation : ℕ) (log : Logged) → log.room ≡ MOST_STEP_ENTRIES → log.spent ≤ MOST_STEPS → HasNumbers generation log → generation + 1 < 2 ^ 32
 number-left generation log room few h =
     let before : generation < 2 ^ 31 + log.spent = h.fewer (omega (arith, room)) in
     omega (arith, before, few)

@@ -13,9 +13,7 @@ use Rattle.fdp_book.specs.Steps.{Completes, IsWaiting}
 use Rattle.fdp_book.specs.Tickets.{IsTicketOf}
 use Rattle.fdp_book.proofs.Held.Shut.{shut_entry}
 use Rattle.fdp_readings.proofs.fdp_locations.Ended.{host}
-use Rattle.fdp_rules.proofs.Pushes.{point_of-push}
 use Rattle.fdp_rules.specs.Change.{after, changed_by}
-use Rattle.fdp_rules.specs.History.{Found, point_of}
 use Rattle.fdp_rules.specs.Next.{next}
 use Rattle.fdp_rules.specs.PlainState.{Going}
 use Rattle.fdp_rules.specs.Point.{Point}

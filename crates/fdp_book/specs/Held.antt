@@ -32,6 +32,7 @@ use Rattle.fdp_rules.specs.Sites.{is_there}
 use Rattle.fdp_rules.specs.Step.{IsOnTarget}
 use Rattle.fdp_rules.specs.Totals.{erases, host_blocks, media_blocks}
 use Rattle.fdp_spaces.specs.SpaceTable.{SpaceTable, namespace_at}
+use Rattle.fdp_book.specs.declared.log.TheConstants.{MOST_STEP_ENTRIES}
 
 -- the configuration in force
 pub record IsSettingOf (s : PlainState) (x : Setting) : Type 0 where
@@ -136,7 +137,7 @@ book_of c opening log t = record {
 -- number for the setting of each step
 pub record HasNumbers (generation : ℕ) (log : Logged) : Type 0 where
   pub few : generation ≤ 2 ^ 31 + log.spent
-  pub fewer : 300 ≤ log.room → generation < 2 ^ 31 + log.spent
+  pub fewer : MOST_STEP_ENTRIES ≤ log.room → generation < 2 ^ 31 + log.spent
 
 -- the parts of a book stand for its history: its tables do, and its log goes on from the position that was found
 pub record IsBook (c : DriveConfig) (opening : Opening) (log : Logged) (t : Tables) : Type 0 where

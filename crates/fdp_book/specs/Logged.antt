@@ -3,6 +3,8 @@ use Rattle.std.specs.Prelude.{◌≡◌, ℕ, ◌+◌, ◌*◌, ◌^◌, ◌≤�
 use Rattle.std.specs.declared.alloc.Global.{Global}
 use Rattle.fdp_base.specs.declared.entry.BlockName.{BlockName}
 use Rattle.fdp_base.specs.declared.entry.Entry.{Entry}
+use Rattle.fdp_base.specs.declared.limits.TheConstants.{MOST_STEPS}
+use Rattle.fdp_book.specs.declared.log.TheConstants.{MOST_STEP_ENTRIES}
 
 pub record Logged : Type 0 where
   pub entries : List Entry
@@ -31,9 +33,9 @@ pub record IsLogged (old new : Logged) (es : List Entry) : Type 0 where
 
 -- there is room for the entries of the steps to come, and of the step under way
 pub record HasRoom (entries : Vec Entry Global) (before spare spent room : ℕ) : Type 0 where
-  pub fits : vec_len entries + room + 300 * spare ≤ vec_capacity entries
-  pub steps : spent + spare ≤ 2 ^ 30
-  pub few : vec_len entries + room ≤ 300 * spent + 1
+  pub fits : vec_len entries + room + MOST_STEP_ENTRIES * spare ≤ vec_capacity entries
+  pub steps : spent + spare ≤ MOST_STEPS
+  pub few : vec_len entries + room ≤ MOST_STEP_ENTRIES * spent + 1
   pub begins : before ≤ 2 ^ 62
 
 -- empty lists, each with room for so many names

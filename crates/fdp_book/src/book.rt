@@ -1,7 +1,8 @@
-ghost use Rattle.std.specs.Prelude.{◌≡◌, ◌==◌, ◌+◌, ◌*◌, ◌^◌, ◌≤◌, IsTrue, false, length, true, ◌-◌, ◌<◌, OnErr, OnOk};
+ghost use Rattle.std.specs.Prelude.{◌≡◌, ◌==◌, ◌+◌, ◌*◌, ◌≤◌, IsTrue, false, length, true, ◌-◌, ◌<◌, OnErr, OnOk};
 ghost use Rattle.fdp_base.specs.Config.{IsValidConfig};
 ghost use Rattle.fdp_book.specs.Saving.{AreSmall};
 ghost use Rattle.fdp_rules.specs.History.{totals_of};
+ghost use Rattle.fdp_base.specs.declared.limits.TheConstants.{MOST_STEPS};
 
 use crate::log::{Log, MOST_STEP_ENTRIES};
 use crate::tables::Tables;
@@ -70,14 +71,14 @@ impl Book {
     /// The history, oldest entry first.
     pub fn entries(&self) -> &[Entry]
         ensures entries { result.now ≡ self.now.entries }
-        ensures few { length result.now ≤ 300 * self.now.spent + 1 }
+        ensures few { length result.now ≤ MOST_STEP_ENTRIES * self.now.spent + 1 }
     {
         self.log.entries()
     }
 
     /// Takes the memory for so many steps.
     pub fn reserve(&mut self, steps: u32) -> Result<(), AllocError>
-        requires { self.old.spent + steps ≤ 2 ^ 30 }
+        requires { self.old.spent + steps ≤ MOST_STEPS }
         ensures ok { OnOk result (steps ≤ self.new.spare) }
         ensures kept { self.new ≡ record self.old { spare = self.new.spare } }
         ensures err { OnErr result (self.new ≡ self.old) }
@@ -95,22 +96,22 @@ impl Book {
     /// The steps that were made.
     pub fn spent(&self) -> u32
         ensures spent { result ≡ self.now.spent }
-        ensures bound { self.now.spent + self.now.spare ≤ 2 ^ 30 }
+        ensures bound { self.now.spent + self.now.spare ≤ MOST_STEPS }
     {
         self.log.spent()
     }
 
-    /// A step begins. It may add 300 entries, one of them that of a move.
+    /// A step begins. It may add so many entries (`MOST_STEP_ENTRIES`), one of them that of a move.
     pub fn begin(&mut self)
         requires { 0 < self.old.spare }
-        ensures { self.new ≡ record self.old { spare = self.old.spare - 1; spent = self.old.spent + 1; room = 300; may_move = true } }
+        ensures { self.new ≡ record self.old { spare = self.old.spare - 1; spent = self.old.spent + 1; room = MOST_STEP_ENTRIES; may_move = true } }
     {
         self.log.begin();
     }
 
     /// The step under way added nothing: it is as if it had not begun.
     pub fn cancel(&mut self)
-        requires room { self.old.room ≡ 300 }
+        requires room { self.old.room ≡ MOST_STEP_ENTRIES }
         requires may_move { IsTrue self.old.may_move }
         ensures { self.new ≡ record self.old { spare = self.old.spare + 1; spent = self.old.spent - 1; room = 0; may_move = false } }
     {
@@ -119,7 +120,7 @@ impl Book {
 
     /// Whether the step under way has added no entry.
     pub fn has_added_nothing(&self) -> bool
-        ensures { result ≡ (self.now.room == 300) }
+        ensures { result ≡ (self.now.room == MOST_STEP_ENTRIES) }
     {
         self.log.room() == MOST_STEP_ENTRIES
     }

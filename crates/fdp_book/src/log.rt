@@ -1,6 +1,7 @@
 ghost use Rattle.std.specs.Prelude.{◌≡◌, ◌+◌, ◌*◌, ◌-◌, ◌<◌, ◌≤◌, ◌^◌, [], ◌∷◌, ◌++◌, false, true, IsTrue, length, vec_capacity, vec_len, IfOk, OnOk, OnErr};
 ghost use Rattle.fdp_base.specs.declared.entry.Entry.TheVariants as entries;
 ghost use Rattle.fdp_book.specs.Logged.{AreLists, IsLogged};
+ghost use Rattle.fdp_base.specs.declared.limits.TheConstants.{MOST_STEPS};
 
 use fdp_base::{BlockName, Entry};
 use std::alloc::{AllocError, Global};
@@ -79,7 +80,7 @@ impl Log {
 
     pub fn entries(&self) -> &[Entry]
         ensures entries { result.now ≡ self.now.entries }
-        ensures few { length result.now ≤ 300 * self.now.spent + 1 }
+        ensures few { length result.now ≤ MOST_STEP_ENTRIES * self.now.spent + 1 }
     {
         let _ = &self.spent;
         self.entries.as_slice()
@@ -109,7 +110,7 @@ impl Log {
 
     pub fn spent(&self) -> u32
         ensures spent { result ≡ self.now.spent }
-        ensures bound { self.now.spent + self.now.spare ≤ 2 ^ 30 }
+        ensures bound { self.now.spent + self.now.spare ≤ MOST_STEPS }
     {
         self.spent
     }
@@ -123,7 +124,7 @@ impl Log {
 
     /// Makes room for so many steps.
     pub fn reserve(&mut self, steps: u32) -> Result<(), AllocError>
-        requires { self.old.spent + steps ≤ 2 ^ 30 }
+        requires { self.old.spent + steps ≤ MOST_STEPS }
         ensures ok { OnOk result (steps ≤ self.new.spare) }
         ensures kept { self.new ≡ record self.old { spare = self.new.spare } }
         ensures err { OnErr result (self.new ≡ self.old) }
@@ -141,7 +142,7 @@ impl Log {
     /// A step begins.
     pub fn begin(&mut self)
         requires { 0 < self.old.spare }
-        ensures { self.new ≡ record self.old { spare = self.old.spare - 1; spent = self.old.spent + 1; room = 300; may_move = true } }
+        ensures { self.new ≡ record self.old { spare = self.old.spare - 1; spent = self.old.spent + 1; room = MOST_STEP_ENTRIES; may_move = true } }
     {
         self.spare -= 1;
         self.spent += 1;
@@ -151,7 +152,7 @@ impl Log {
 
     /// The step under way added nothing: it is as if it had not begun.
     pub fn cancel(&mut self)
-        requires room { self.old.room ≡ 300 }
+        requires room { self.old.room ≡ MOST_STEP_ENTRIES }
         requires may_move { IsTrue self.old.may_move }
         ensures { self.new ≡ record self.old { spare = self.old.spare + 1; spent = self.old.spent - 1; room = 0; may_move = false } }
     {

@@ -29,6 +29,7 @@ use Rattle.fdp_core.proofs.Rooms.{begun_seen}
 use Rattle.fdp_core.proofs.Outlasting.{outlasts-all}
 use Rattle.fdp_core.proofs.Wholes.{unbegun}
 use Rattle.fdp_roominess.proofs.Runs.{keeps-alike}
+use Rattle.fdp_relocation.specs.fdp_book.declared.log.TheConstants.{MOST_STEP_ENTRIES}
 
 -- ---- the step, or none
 
@@ -44,7 +45,7 @@ steps-some : (es : List Entry) → 1 ≤ length es → steps_of es ≡ 1
 steps-some [] e = absurd (omega (arith, e))
 steps-some (x ∷ es) e = refl
 
-pub grown-cancelled : (b d : BookSeen) (es : List Entry) → IsLonger (begun b) d es → (d.room == 300) ≡ true → 0 < b.spare → IsGrown b (cancelled d) es
+pub grown-cancelled : (b d : BookSeen) (es : List Entry) → IsLonger (begun b) d es → (d.room == MOST_STEP_ENTRIES) ≡ true → 0 < b.spare → IsGrown b (cancelled d) es
 grown-cancelled b d es longer full spare =
     let room : d.room ≡ 300 = grind (arith, nat_tests, full) in
     let none = steps-none es (omega (arith, room, longer.room_is)) in
@@ -57,7 +58,7 @@ grown-cancelled b d es longer full spare =
       spare_is = omega (arith, none, longer.spare_is, spare);
     }
 
-pub grown-kept : (b d : BookSeen) (es : List Entry) → IsLonger (begun b) d es → (d.room == 300) ≡ false → 0 < b.spare → IsGrown b d es
+pub grown-kept : (b d : BookSeen) (es : List Entry) → IsLonger (begun b) d es → (d.room == MOST_STEP_ENTRIES) ≡ false → 0 < b.spare → IsGrown b d es
 grown-kept b d es longer less spare =
     let some = steps-some es (grind (arith, nat_tests, less, longer.room_is)) in
     record {
@@ -73,17 +74,17 @@ pub sound-cancelled : (handed : Counts) (f : FlashState) (d : BookSeen) (block :
 sound-cancelled handed f d block so = record { geometry = so.geometry; legal = so.legal; stored = so.stored; apart = λ tells opened. laned-alike d (cancelled d) f.cells refl refl refl refl (so.apart tells opened); ledger = ledger-alike handed d (cancelled d) f refl refl refl refl refl so.ledger; room = keeps-alike handed.faults f.faults f.told d (cancelled d) refl refl refl refl refl so.room; buffer = so.buffer }
 
 -- a step that added nothing may still move
-pub may-still : {F : Type 0} (state : F → FlashState) (old mid : Seen F) (rg : ℕ) (x : Advance) → Collects state (stage_of old) (stage_of mid) rg x → old.book.may_move ≡ true → old.book.room ≡ 300 → (mid.book.room == 300) ≡ true → IsTrue mid.book.may_move
+pub may-still : {F : Type 0} (state : F → FlashState) (old mid : Seen F) (rg : ℕ) (x : Advance) → Collects state (stage_of old) (stage_of mid) rg x → old.book.may_move ≡ true → old.book.room ≡ MOST_STEP_ENTRIES → (mid.book.room == MOST_STEP_ENTRIES) ≡ true → IsTrue mid.book.may_move
 may-still state old mid rg advance.Nothing h may room full = h.made.move_is ∙ may
 may-still state old mid rg advance.Copied h may room full = h.1.made.move_is ∙ may
-may-still state old mid rg advance.Moved h may room full = let same : mid.book.room ≡ 300 = grind (arith, nat_tests, full) in absurd (omega (arith, room, same, h.moved.longer.room_is))
+may-still state old mid rg advance.Moved h may room full = let same : mid.book.room ≡ MOST_STEP_ENTRIES = grind (arith, nat_tests, full) in absurd (omega (arith, room, same, h.moved.longer.room_is))
 may-still state old mid rg advance.Erased (unit, inl h) may room full = h.made.move_is ∙ may
 may-still state old mid rg advance.Erased (unit, inr h) may room full = h.made.move_is ∙ may
 may-still state old mid rg advance.Starved h may room full = h.made.move_is ∙ may
 may-still state old mid rg advance.Fault (inl h) may room full = h.1.made.move_is ∙ may
 may-still state old mid rg advance.Fault (inr (inl h)) may room full = h.1.made.move_is ∙ may
 may-still state old mid rg advance.Fault (inr (inr (inl h))) may room full = ap (λ (b : BookSeen). b.may_move) h.book ∙ may
-may-still state old mid rg advance.Fault (inr (inr (inr h))) may room full = let same : mid.book.room ≡ 300 = grind (arith, nat_tests, full) in absurd (omega (arith, room, same, h.2.moved.longer.room_is))
+may-still state old mid rg advance.Fault (inr (inr (inr h))) may room full = let same : mid.book.room ≡ MOST_STEP_ENTRIES = grind (arith, nat_tests, full) in absurd (omega (arith, room, same, h.2.moved.longer.room_is))
 
 -- ---- what it is
 
@@ -127,7 +128,7 @@ module _ {F : Type 0} (state : F → FlashState) (old mid new : Seen F) (rg : �
   collected advance.Fault a more grown = as-step advance.Fault a grown
 
 -- a step that added nothing spent nothing: as many checkpoints were written at most as entries were added and steps spent
-pub cancelled-epochs : (b d : BookSeen) (es : List Entry) (old now : ℕ) → IsLonger (begun b) d es → (d.room == 300) ≡ true → old ≤ 2 ^ 62 + length b.entries + b.spent → now + length b.entries ≤ old + length d.entries → now ≤ 2 ^ 62 + length d.entries + (cancelled d).spent
+pub cancelled-epochs : (b d : BookSeen) (es : List Entry) (old now : ℕ) → IsLonger (begun b) d es → (d.room == MOST_STEP_ENTRIES) ≡ true → old ≤ 2 ^ 62 + length b.entries + b.spent → now + length b.entries ≤ old + length d.entries → now ≤ 2 ^ 62 + length d.entries + (cancelled d).spent
 cancelled-epochs b d es old now longer full was more = omega (arith, was, more, longer.spent_is)
 
 -- what holds from the book of a step that has begun

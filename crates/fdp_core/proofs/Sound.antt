@@ -26,10 +26,11 @@ use Rattle.fdp_rules.specs.Step.{Follows}
 use Rattle.fdp_relocation.proofs.fdp_book.Longer.{written-one}
 use Rattle.fdp_roominess.specs.Run.{KeepsRoom}
 use Rattle.fdp_roominess.proofs.Runs.{keeps-alike}
+use Rattle.fdp_relocation.specs.fdp_book.declared.log.TheConstants.{MOST_STEP_ENTRIES}
 
--- a step that has begun: it may add 300 entries, one of them that of a move
+-- a step that has begun: it may add so many entries, one of them that of a move
 abbrev pub begun : BookSeen → BookSeen
-begun b = record b { spare = b.spare - 1; spent = b.spent + 1; room = 300; may_move = true }
+begun b = record b { spare = b.spare - 1; spent = b.spent + 1; room = MOST_STEP_ENTRIES; may_move = true }
 
 -- the flash as it is, or after calls that read: the same one, with the same cells
 pub record IsSameFlash (f n : FlashState) : Type 0 where

@@ -19,6 +19,7 @@ use Rattle.fdp_relocation.specs.Toil.{wanted_at, work}
 use Rattle.fdp_relocation.specs.fdp_saving.Calls.{FailAtEnd}
 use Rattle.fdp_units.specs.DataUnits.{is_free}
 use Rattle.fdp_units.specs.UnitTable.{HasNoVictim, count_in, toil_of}
+use Rattle.fdp_relocation.specs.fdp_book.declared.log.TheConstants.{MOST_STEP_ENTRIES}
 
 -- no pass is under way in a group, and none would gain a page
 pub record HasNoPass (b : BookSeen) (rg : ℕ) : Type 0 where
@@ -80,7 +81,7 @@ left_in b rg = (b.config.unit_pages - next_in (passes_at b.pages rg)) + (if b.ma
 -- a step that has added nothing may make a pass in a group that is short of free units
 pub record MayBeginPass (b : BookSeen) (rg : ℕ) : Type 0 where
   pub group : rg < b.config.groups
-  pub room : b.room ≡ 300
+  pub room : b.room ≡ MOST_STEP_ENTRIES
   pub may_move : b.may_move ≡ true
   pub short : count_in b.pages.units rg is_free < 3
 

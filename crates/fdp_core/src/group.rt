@@ -1,4 +1,4 @@
-ghost use Rattle.std.specs.Prelude.{◌≡◌, ◌↔◌, ◌+◌, ◌*◌, ◌≤◌, ◌<◌, ◌^◌, IsTrue, length, not, OnOk, OnErr, IfOk};
+ghost use Rattle.std.specs.Prelude.{◌≡◌, ◌↔◌, ◌+◌, ◌*◌, ◌≤◌, ◌<◌, IsTrue, length, not, OnOk, OnErr, IfOk};
 ghost use Rattle.fdp_base.specs.Config.{IsValidConfig};
 ghost use Rattle.fdp_relocation.specs.fdp_book.Book.{point_in, state_in};
 ghost use Rattle.fdp_relocation.specs.fdp_book.Stages.{IsFree, IsStage};
@@ -18,6 +18,8 @@ ghost use Rattle.fdp_roominess.specs.Run.{StaysRoomy, WearsByFailure};
 ghost use Rattle.fdp_rules.specs.History.{totals_of};
 ghost use Rattle.fdp_relocation.specs.fdp_trails.Toil.{is_live, is_stale, pages_where};
 ghost use Rattle.fdp_units.specs.UnitTable.{toil_of};
+ghost use Rattle.fdp_base.specs.declared.limits.TheConstants.{MOST_STEPS};
+ghost use Rattle.fdp_relocation.specs.fdp_book.declared.log.TheConstants.{MOST_STEP_ENTRIES};
 
 use fdp_base::{DriveConfig, Entry, Totals};
 use fdp_flash::Flash;
@@ -78,7 +80,7 @@ impl<F: Flash> Group<F> {
 
     /// Takes the memory for so many steps. Each call of `start`, `place`, `commit` and `collect` that adds an entry is one step.
     pub fn reserve(&mut self, steps: u32) -> Result<(), AllocError>
-        requires { self.old.book.spent + steps ≤ 2 ^ 30 }
+        requires { self.old.book.spent + steps ≤ MOST_STEPS }
         ensures ok { OnOk result (steps ≤ self.new.book.spare) }
         ensures kept { self.new ≡ record self.old { book = record self.old.book { spare = self.new.book.spare } } }
         ensures err { OnErr result (self.new ≡ self.old) }
@@ -96,7 +98,7 @@ impl<F: Flash> Group<F> {
     /// The steps that were made.
     pub fn spent(&self) -> u32
         ensures spent { result ≡ self.now.book.spent }
-        ensures bound { self.now.book.spent + self.now.book.spare ≤ 2 ^ 30 }
+        ensures bound { self.now.book.spent + self.now.book.spare ≤ MOST_STEPS }
     {
         self.book.spent()
     }
@@ -104,7 +106,7 @@ impl<F: Flash> Group<F> {
     /// The history, oldest entry first.
     pub fn entries(&self) -> &[Entry]
         ensures entries { result.now ≡ self.now.book.entries }
-        ensures few { length result.now ≤ 300 * self.now.book.spent + 1 }
+        ensures few { length result.now ≤ MOST_STEP_ENTRIES * self.now.book.spent + 1 }
         ensures legal { IsLegalOver (F.state self.now.flash) self.now.book }
         ensures cells { HoldsHistory (F.state self.now.flash) self.now.book }
         ensures apart { IsTrue (F.state self.now.flash).told → OpenedApart self.now.book.config self.now.book.found self.now.book.opened → IsIsolatedDrive self.now.book.config (point_in self.now.book) self.now.book.entries (F.state self.now.flash).cells }

@@ -1,5 +1,5 @@
 -- What the crews of a lock have done, read off the value that it gives back.
-use Rattle.std.proofs.Common.{◌≡◌, ◌≢◌, ◌⊎◌, ℕ, zero, suc, ◌+◌, ◌-◌, ◌^◌, ◌<◌, ◌≤◌, Bool, true, false, cond, get_or, List, [], ◌∷◌, ◌++◌, Option, Some, None, length, refl, sym, ◌∙◌, ap, subst, arith, inl, inr, nat_eq}
+use Rattle.std.proofs.Common.{◌≡◌, ◌≢◌, ◌⊎◌, ℕ, zero, suc, ◌+◌, ◌-◌, ◌<◌, ◌≤◌, Bool, true, false, cond, get_or, List, [], ◌∷◌, ◌++◌, Option, Some, None, length, refl, sym, ◌∙◌, ap, subst, arith, inl, inr, nat_eq}
 use Rattle.std.specs.Prelude.{All, filter, map, slice_index_or, ◌==◌, ◌&&◌}
 use Rattle.std.specs.Option.{option_map_or}
 use Rattle.std.proofs.lemmas.Bool.{cases_lt}
@@ -33,6 +33,7 @@ use Rattle.fdp_crews.proofs.Lists.{all-both, found-at, number-in}
 use Rattle.fdp_crews.specs.Crews.{HasServedFor, HasSwept, LeavesSome, trace_of}
 use Rattle.fdp_crews.specs.Leaving.{IsSomeNotWhole}
 use Rattle.fdp_crews.specs.Shifts.{EndsAs, HasLeft, HasTrace, IsShift}
+use Rattle.fdp_base.specs.declared.limits.TheConstants.{MOST_STEPS}
 
 -- ---- a queue of which the record has nothing
 
@@ -199,7 +200,7 @@ module _ {S O I : Type 0} {g : _} (origin : S → O) (entries : S → List I) (r
     pub left : hosts ≢ ends.Whole → IsSomeNotWhole (map (λ w. w.end) ws)
     pub end_whole : end ≡ ends.Whole → hosts ≡ ends.Whole
     pub end_left : end ≢ ends.Whole → hosts ≢ ends.Whole
-    pub end_spent : end ≡ ends.Turns → spent ≡ 2 ^ 30
+    pub end_spent : end ≡ ends.Turns → spent ≡ MOST_STEPS
 
   pub shift-made : (traces : List (List Command)) (head : Seat S O I g) (ws : List (Worker S O I g)) (ss : List (Sweeper S O I g)) (value : S) (hosts end : End) (spent : ℕ) → AreBack traces head ws ss value → Ended ws hosts end spent →
       IsShift (run_of origin run lock) traces (map (λ w. w.receipts.items) ws) (map entry (entries value)) spent end

@@ -1,5 +1,5 @@
 -- What the crews of a drive have done once its lock has ended.
-use Rattle.std.specs.Prelude.{◌≡◌, ◌≢◌, ◌⊎◌, ℕ, ◌+◌, ◌^◌, ◌<◌, ◌≤◌, List, [], get_or, length}
+use Rattle.std.specs.Prelude.{◌≡◌, ◌≢◌, ◌⊎◌, ℕ, ◌+◌, ◌<◌, ◌≤◌, List, [], get_or, length}
 use Rattle.fdp_base.specs.declared.command.Command.{Command}
 use Rattle.fdp_base.specs.declared.entry.Entry.{Entry}
 use Rattle.fdp_rules.specs.History.{Found}
@@ -10,6 +10,7 @@ use Rattle.fdp_workers.specs.declared.receipt.Receipt.{Receipt}
 use Rattle.fdp_workers.specs.Queues.{ServesWhole, receipts_of, times_started}
 use Rattle.fdp_workers.specs.Run.{Run}
 use Rattle.fdp_crews.specs.Crews.{LeavesSome, trace_of}
+use Rattle.fdp_base.specs.declared.limits.TheConstants.{MOST_STEPS}
 
 -- the queue is that of one of the traces
 pub record HasTrace (traces : List (List Command)) (queue : ℕ) : Type 0 where
@@ -35,7 +36,7 @@ pub record IsUnserved (receipts : List (List Receipt)) (es : List Entry) : Type 
 -- each trace is whole, and its receipts are there; or one is not whole, and the drive has made all the steps that it may make; or one is not whole for want of memory, or memory was wanting before any was begun
 abbrev pub EndsAs : Run → List (List Command) → List (List Receipt) → List Entry → ℕ → End → Type 0
 EndsAs run traces receipts es spent ends.Whole = ((queue : ℕ) → HasTrace traces queue → ServesWhole run queue (trace_of traces queue) es) × (length receipts ≡ length traces)
-EndsAs run traces receipts es spent ends.Turns = HasLeft traces es × (spent ≡ 2 ^ 30)
+EndsAs run traces receipts es spent ends.Turns = HasLeft traces es × (spent ≡ MOST_STEPS)
 EndsAs run traces receipts es spent ends.NoMemory = HasLeft traces es ⊎ IsUnserved receipts es
 
 -- A history in which crews served these traces: each queue has completed a beginning of its trace, in order, each command once, and started none

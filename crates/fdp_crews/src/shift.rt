@@ -1,4 +1,4 @@
-ghost use Rattle.std.specs.Prelude.{◌≡◌, ◌≢◌, ◌+◌, ◌^◌, ◌≤◌, ◌∷◌, [], All, List, length, map, vec_capacity};
+ghost use Rattle.std.specs.Prelude.{◌≡◌, ◌≢◌, ◌+◌, ◌≤◌, ◌∷◌, [], All, List, length, map, vec_capacity};
 ghost use mathlib.Core.List.{IsPrefix};
 ghost use Rattle.fdp_base.specs.declared.command.Command.{Command};
 ghost use Rattle.fdp_base.specs.Config.{IsValidConfig};
@@ -10,6 +10,7 @@ ghost use Rattle.fdp_gauge.specs.Passes.{IsPassOf};
 ghost use Rattle.fdp_lock.specs.Seats.{parts_of, seats_of, seen_of, lock_origin};
 ghost use Rattle.fdp_workers.specs.declared.ends.End.TheVariants as ends;
 ghost use Rattle.fdp_workers.specs.Hosting.{run_of};
+ghost use Rattle.fdp_base.specs.declared.limits.TheConstants.{MOST_STEPS};
 
 use crate::crews::run_crews;
 use crate::hiring::{hire_collectors, hire_hosts};
@@ -158,7 +159,7 @@ fn serve_on<V: Steps + Send, G: Gate + Sync, R: Threads + Wait + Sync>(
 fn end_of<V: Steps>(value: &V, hosts: End) -> End
     ensures whole { result ≡ ends.Whole → hosts ≡ ends.Whole }
     ensures left { result ≢ ends.Whole → hosts ≢ ends.Whole }
-    ensures spent { result ≡ ends.Turns → V.spent value.now ≡ 2 ^ 30 }
+    ensures spent { result ≡ ends.Turns → V.spent value.now ≡ MOST_STEPS }
 {
     match hosts {
         End::Whole => End::Whole,

@@ -1,5 +1,5 @@
 -- What a session of several traces does to the history of a drive.
-use Rattle.std.specs.Prelude.{◌≡◌, ◌≢◌, ℕ, ◌^◌, ◌<◌, ◌≤◌, ◌⊎◌, List, length}
+use Rattle.std.specs.Prelude.{◌≡◌, ◌≢◌, ℕ, ◌<◌, ◌≤◌, ◌⊎◌, List, length}
 use mathlib.Core.List.{IsPrefix}
 use Rattle.fdp_base.specs.declared.command.Command.{Command}
 use Rattle.fdp_base.specs.declared.config.DriveConfig.{DriveConfig}
@@ -16,6 +16,7 @@ use Rattle.fdp_crews.specs.fdp_workers.declared.ends.End.{End}
 use Rattle.fdp_crews.specs.fdp_workers.declared.ends.End.TheVariants as ends
 use Rattle.fdp_crews.specs.fdp_workers.declared.receipt.Receipt.{Receipt}
 use Rattle.fdp_crews.specs.fdp_workers.Queues.{times_started}
+use Rattle.fdp_base.specs.declared.limits.TheConstants.{MOST_STEPS}
 
 -- ---- what each queue gets
 
@@ -46,7 +47,7 @@ pub record HasLeft (c : DriveConfig) (traces : List (List Command)) (es : List E
 -- each trace is whole, and its receipts are there; or one is not, since no further step may be made; or one is not for want of memory, or memory was wanting before any was begun
 abbrev pub EndsAs : BookSeen → List (List Command) → List (List Receipt) → End → Type 0
 EndsAs b traces receipts ends.Whole = HoldsTraces b.config traces b.entries × (length receipts ≡ length traces)
-EndsAs b traces receipts ends.Turns = HasLeft b.config traces b.entries × (b.spent ≡ 2 ^ 30)
+EndsAs b traces receipts ends.Turns = HasLeft b.config traces b.entries × (b.spent ≡ MOST_STEPS)
 EndsAs b traces receipts ends.NoMemory = HasLeft b.config traces b.entries ⊎ IsUnserved receipts b.entries
 
 -- the drive is the same one, over the same flash, and began with the same

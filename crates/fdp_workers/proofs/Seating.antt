@@ -1,5 +1,5 @@
 -- What a turn makes of its seat.
-use Rattle.std.proofs.Common.{◌≡◌, ◌≢◌, ◌⊎◌, inl, ⊎_elim, ℕ, ◌+◌, ◌^◌, ◌<◌, ◌≤◌, true, List, [], ◌++◌, length, drop, None, Some, refl, sym, ◌∙◌, ap, subst, arith}
+use Rattle.std.proofs.Common.{◌≡◌, ◌≢◌, ◌⊎◌, inl, ⊎_elim, ℕ, ◌+◌, ◌<◌, ◌≤◌, true, List, [], ◌++◌, length, drop, None, Some, refl, sym, ◌∙◌, ap, subst, arith}
 use Rattle.std.specs.Prelude.{map}
 use mathlib.Core.List.{IsPrefix, append-nil}
 use Rattle.fdp_base.specs.declared.command.Command.{Command}
@@ -24,6 +24,7 @@ use Rattle.fdp_workers.specs.Queues.{Has, Progress, begins, ended, flying}
 use Rattle.fdp_workers.specs.Run.{IsHistory, Run, state_by}
 use Rattle.fdp_workers.specs.Turns.{AddsNone, Completes, MakesRoom, PlacesPage, Starts}
 use Rattle.fdp_workers.proofs.Turning.{GoesOnBy, by-none, by-own, completes-has, expects-has, made-all, none-has, own-longer, places-has, starts-has}
+use Rattle.fdp_base.specs.declared.limits.TheConstants.{MOST_STEPS}
 
 -- the write of a ticket is going where the queue has it
 pub ticket-of : (run : Run) (queue : ℕ) (p : Progress) (x : Going) (count : ℕ) (ticket : Ticket) (es : List Entry) → IsTicketIn queue ticket x → Has run queue (flying p x count) es → IsTicketOf (state_by run es) ticket (record x { placed = count })
@@ -105,7 +106,7 @@ module _ {S O I : Type 0} {g : _} (origin : S → O) (entries : S → List I) (r
       (subst (λ (xs : List I). IsTicketOf (state_by (run_of origin run lock) (map entry xs)) ticket (record v { placed = count })) (sym same_entries) there)
 
   -- the drive had made all its steps
-  pub spent-same : (spent : S → ℕ) (s0 s2 : Seat S O I g) (x y : S) → IsSeatOf origin lock s0 → GoesOn origin entries mark s0 x → origin y ≡ origin x → entries y ≡ seen_of s2 → spent y ≡ 2 ^ 30 → IsSpent origin entries spent lock s2
+  pub spent-same : (spent : S → ℕ) (s0 s2 : Seat S O I g) (x y : S) → IsSeatOf origin lock s0 → GoesOn origin entries mark s0 x → origin y ≡ origin x → entries y ≡ seen_of s2 → spent y ≡ MOST_STEPS → IsSpent origin entries spent lock s2
   spent-same spent s0 s2 x y of_lock finds same_origin seen all = record {
     value = y;
     origin_is = same_origin ∙ origin-same s0 x of_lock finds;

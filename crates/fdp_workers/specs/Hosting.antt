@@ -24,6 +24,7 @@ use Rattle.fdp_workers.specs.declared.stop.Stop.{Stop}
 use Rattle.fdp_workers.specs.declared.receipt.Receipt.{Receipt}
 use Rattle.fdp_workers.specs.Queues.{Has, Progress, begins, ended, flying, served, so_far}
 use Rattle.fdp_workers.specs.Run.{IsHistory, Run}
+use Rattle.fdp_base.specs.declared.limits.TheConstants.{MOST_STEPS}
 
 -- what the drive of a lock began with
 abbrev pub run_of : {S O I : Type 0} → (S → O) → (O → Run) → GroupLock S O I → Run
@@ -102,7 +103,7 @@ module _ {S O I : Type 0} {g : _} where
     pub value : S
     pub origin_is : origin value ≡ lock_origin origin lock
     pub entries_are : entries value ≡ seen_of s
-    pub spent_is : spent value ≡ 2 ^ 30
+    pub spent_is : spent value ≡ MOST_STEPS
 
   -- a write was started: it goes on with this ticket
   pub record StartsAt (origin : S → O) (run : O → Run) (entry : I → Entry) (mark : I → Mark) (lock : GroupLock S O I) (p : Progress) (number : ℕ) (command : Command) (s : Seat S O I g) (ticket : Ticket) : Type 0 where

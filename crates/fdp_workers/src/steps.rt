@@ -1,10 +1,11 @@
-ghost use Rattle.std.specs.Prelude.{◌≡◌, ◌↔◌, ◌≢◌, ◌+◌, ◌<◌, ◌^◌, IsTrue, OnOk, length, map};
+ghost use Rattle.std.specs.Prelude.{◌≡◌, ◌↔◌, ◌≢◌, ◌+◌, ◌<◌, IsTrue, OnOk, length, map};
 ghost use mathlib.Core.List.{IsPrefix};
 ghost use Rattle.fdp_gauge.specs.Passes.{seen_of, IsPassOf};
 ghost use Rattle.fdp_rules.specs.PlainState.{Going};
 ghost use Rattle.fdp_core.specs.fdp_book.Tickets.{IsTicketOf};
 ghost use Rattle.fdp_workers.specs.Run.{IsHistory, state_by};
 ghost use Rattle.fdp_workers.specs.Turns.{AddsNone, Begins, Completes, IsFlying, IsReady, IsWaiting, MayBegin, Places};
+ghost use Rattle.fdp_base.specs.declared.limits.TheConstants.{MOST_STEPS};
 
 use fdp_base::{Command, Recorded};
 use fdp_core::{Advance, Begun, Done, Placed, Room, Ticket};
@@ -35,11 +36,11 @@ pub trait Steps: Recorded {
 
     /// Whether no further step may be made.
     fn is_spent(&self) -> bool
-        ensures { IsTrue result ↔ spent self.now ≡ 2 ^ 30 };
+        ensures { IsTrue result ↔ spent self.now ≡ MOST_STEPS };
 
     /// Takes the memory for a step.
     fn reserve(&mut self) -> Result<(), AllocError>
-        requires left { spent self.old ≢ 2 ^ 30 }
+        requires left { spent self.old ≢ MOST_STEPS }
         ensures ok { OnOk result (0 < spare self.new) }
         ensures origin { Self.origin self.new ≡ Self.origin self.old }
         ensures entries { Self.entries self.new ≡ Self.entries self.old };

@@ -1,5 +1,5 @@
 //! Single turns of a host: each makes one step.
-ghost use Rattle.std.specs.Prelude.{◌≡◌, ◌+◌, ◌^◌, ◌<◌, MatchResult, IfErr, OnOk};
+ghost use Rattle.std.specs.Prelude.{◌≡◌, ◌+◌, ◌<◌, MatchResult, IfErr, OnOk};
 ghost use Rattle.fdp_base.specs.CommandKinds.{IsWellFormed, blocks_written};
 ghost use Rattle.fdp_core.specs.fdp_book.Room.{room_for};
 ghost use Rattle.fdp_lock.specs.Seats.{turns_of};
@@ -7,6 +7,7 @@ ghost use Rattle.fdp_rules.specs.PlainState.{Going};
 ghost use Rattle.fdp_workers.specs.declared.stop.Stop.TheVariants.{Turns};
 ghost use Rattle.fdp_workers.specs.Hosting.{BeginsAt, EndsAt, IsFlyingAt, IsIdleAt, IsPost, IsSpent, KeepsPost, PlacesAt, StopsAt, WaitsAt, run_of};
 ghost use Rattle.fdp_workers.specs.Queues.{Progress};
+ghost use Rattle.fdp_base.specs.declared.limits.TheConstants.{MOST_STEPS};
 
 use crate::steps::Steps;
 use crate::stop::Stop;
@@ -21,7 +22,7 @@ pub(crate) fn take_room<V: Steps>(value: &mut V) -> Result<(), Stop>
     ensures origin { V.origin value.new ≡ V.origin value.old }
     ensures entries { V.entries value.new ≡ V.entries value.old }
     ensures room { OnOk result (0 < V.spare value.new) }
-    ensures cause { IfErr result (λ stop. stop ≡ Turns → V.spent value.new ≡ 2 ^ 30) }
+    ensures cause { IfErr result (λ stop. stop ≡ Turns → V.spent value.new ≡ MOST_STEPS) }
 {
     if value.is_spent() {
         return Err(Stop::Turns);

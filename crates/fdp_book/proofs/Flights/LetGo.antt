@@ -4,12 +4,11 @@ use Rattle.std.specs.Prelude.{option_map}
 use Rattle.fdp_base.specs.declared.command.Command.{Command}
 use Rattle.fdp_base.specs.declared.command.Command.TheVariants as commands
 use Rattle.fdp_base.specs.declared.command.Write.{Write}
-use Rattle.fdp_base.specs.declared.config.DriveConfig.{DriveConfig}
 use Rattle.fdp_base.specs.declared.entry.Entry.{Entry}
 use Rattle.fdp_base.specs.declared.entry.Entry.TheVariants as entries
 use Rattle.fdp_rules.specs.Change.{birth_of, started}
 use Rattle.fdp_base.specs.CommandKinds.{IsWellFormed, pid_of, write_of}
-use Rattle.fdp_rules.specs.History.{point_of, Found}
+use Rattle.fdp_rules.specs.History.{Found}
 use Rattle.fdp_rules.specs.Next.{next}
 use Rattle.fdp_base.specs.Numbers.{with_at}
 use Rattle.fdp_rules.specs.PlainState.{Going}
@@ -18,7 +17,6 @@ use Rattle.fdp_rules.specs.Refusal.{refusal_of}
 use Rattle.fdp_rules.specs.Room.{roomiest}
 use Rattle.fdp_rules.specs.Step.{Follows, IsOnTarget, IsQueue, goes_to}
 use Rattle.fdp_rules.specs.Target.{target_of}
-use Rattle.fdp_rules.proofs.Pushes.{point_of-push}
 use Rattle.fdp_history.specs.Orderly.{IsOrderly}
 use Rattle.fdp_commands.specs.declared.admission.Admission.{Admission}
 use Rattle.fdp_commands.specs.declared.targets.Destination.{Destination}

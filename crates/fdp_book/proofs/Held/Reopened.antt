@@ -17,7 +17,7 @@ use Rattle.fdp_book.specs.declared.flight.Flight.{Flight}
 use Rattle.fdp_book.specs.declared.tables.Setting.{Setting}
 use Rattle.fdp_book.specs.declared.tables.Sums.{Sums}
 use Rattle.fdp_book.specs.declared.tables.Tables.{Tables}
-use Rattle.fdp_book.specs.Held.{AreFlightsOf, ArePagesOf, AreSpacesOf, AreSumsOf, IsBook, IsHeld, IsMapOf, IsSettingOf, going_of, lead_in, page_in}
+use Rattle.fdp_book.specs.Held.{AreFlightsOf, ArePagesOf, AreSumsOf, IsBook, IsHeld, IsMapOf, IsSettingOf, going_of, lead_in, page_in}
 use Rattle.fdp_book.specs.Logged.{Logged}
 use Rattle.fdp_book.specs.Reopened.{WasFound, cells_found}
 use Rattle.fdp_book.proofs.Held.Fresh.{none-some, none_in}
@@ -55,15 +55,14 @@ use Rattle.fdp_owners.specs.declared.owner.Owner.{Owner}
 use Rattle.fdp_owners.specs.OwnerTable.{owner_at}
 use Rattle.fdp_readings.specs.fdp_pages.Joined.{AreJoined}
 use Rattle.fdp_readings.specs.fdp_pages.PageTables.{PageTables}
-use Rattle.fdp_pointers.specs.Facts.{Page}
-use Rattle.fdp_pointers.specs.Pointers.{Pointer, Pointer.of_block, Pointer.of_flight}
+use Rattle.fdp_pointers.specs.Pointers.{Pointer.of_block, Pointer.of_flight}
 use Rattle.fdp_rules.specs.Change.{after, changed_by}
 use Rattle.fdp_rules.specs.History.{Found, first_state, point_of, state_of}
 use Rattle.fdp_rules.specs.PlainState.{Block, Namespace, PlainState}
 use Rattle.fdp_rules.specs.Point.{Point}
 use Rattle.fdp_snapshot.specs.declared.space.Space.{Space}
 use Rattle.fdp_snapshot.specs.declared.state.State.{State}
-use Rattle.fdp_spaces.specs.SpaceTable.{SpaceTable, namespace_at}
+use Rattle.fdp_spaces.specs.SpaceTable.{namespace_at}
 use Rattle.fdp_found.proofs.fdp_state.Loadable.{loadable}
 use Rattle.fdp_found.specs.fdp_state.Loaded.{IsDriveState}
 

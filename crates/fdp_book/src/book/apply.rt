@@ -5,6 +5,7 @@ ghost use Rattle.fdp_book.specs.Book.{state_in};
 ghost use Rattle.fdp_book.specs.Commanded.{AppliesTo, MayTakeEffect, applied_reply};
 ghost use Rattle.fdp_book.specs.Room.{places_made, room_for};
 ghost use Rattle.fdp_book.specs.Steps.{Completes};
+ghost use Rattle.fdp_book.specs.declared.log.TheConstants.{MOST_STEP_ENTRIES};
 
 use super::Book;
 use super::clearing::{clear_blocks, clear_ranges};
@@ -35,7 +36,7 @@ impl Book {
         requires may { MayTakeEffect self.old queue command }
         requires memory { room ≡ room_for command self.old.config }
         requires status { (status ≡ statuses.SUCCESS) ⊎ (status ≡ statuses.WRITE_FAULT) }
-        requires room { self.old.room ≡ 300 }
+        requires room { self.old.room ≡ MOST_STEP_ENTRIES }
         ensures step { Completes self.old self.new [] queue number command (applied_reply (state_in self.old) command status) moment result }
         ensures pages { AppliesTo self.old.config command self.old.pages self.new.pages }
     {

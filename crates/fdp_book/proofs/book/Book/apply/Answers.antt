@@ -23,6 +23,7 @@ use Rattle.fdp_readings.specs.fdp_locations.Written.{Written}
 use Rattle.fdp_rules.specs.Answer.{dword0_of}
 use Rattle.fdp_rules.specs.Change.{is_status}
 use Rattle.fdp_book.proofs.book.Book.apply.Goals as goal
+use Rattle.fdp_book.specs.declared.log.TheConstants.{MOST_STEP_ENTRIES}
 
 pub make_change-requires-clause-may : goal.make_change-requires-clause-may
 make_change-requires-clause-may c =
@@ -49,7 +50,7 @@ invariant_of-self c =
     let b : BookSeen = book_of i.config i.origin i.log i.tables in
     let first : Spot → Option Written = pages_held i.config i.origin.cells in
     let may : MayTakeEffect b c.args.queue c.args.command = subst (λ (x : BookSeen). MayTakeEffect x c.args.queue c.args.command) (sym c.self.view_is) c.requires.may in
-    let room : i.log.room ≡ 300 = ap (λ (x : BookSeen). x.room) c.self.view_is ∙ c.requires.room in
+    let room : i.log.room ≡ MOST_STEP_ENTRIES = ap (λ (x : BookSeen). x.room) c.self.view_is ∙ c.requires.room in
     let reply : Reply = applied_reply (state_in b) c.args.command c.args.status in
     let both = twice b c.args.self.now c.args.command c.args.status c.dword0_of-dword0.result c.into_places-places.result.1 c.self.view_is c.dword0_of-dword0.ensures c.into_places-places.ensures.reply in
     let success : IsHeld i.config i.origin.found first (i.log.entries ++ success_entry i.config i.origin.found i.log.entries c.args.queue c.args.number c.args.command c.args.moment ∷ []) c.make_change.new.tables =

@@ -1,4 +1,4 @@
-use Rattle.std.proofs.Common.{◌≡◌, ◌+◌, ◌<◌, ◌≤◌, ◌^◌, ◌*◌, arith, length, ap, subst, sym, ◌∙◌, ℕ}
+use Rattle.std.proofs.Common.{◌≡◌, ◌+◌, ◌<◌, ◌≤◌, ◌^◌, ◌*◌, arith, length, subst}
 use Rattle.fdp_rules.specs.History.{totals_of}
 use Rattle.fdp_rules.specs.Totals.{erases, host_blocks, media_blocks}
 use Rattle.fdp_book.specs.Book.{BookSeen}

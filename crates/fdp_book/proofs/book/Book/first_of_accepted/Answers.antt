@@ -1,4 +1,4 @@
-use Rattle.std.proofs.Common.{◌≡◌, true, false, None, ⊎_elim, subst}
+use Rattle.std.proofs.Common.{◌≡◌, true, None, ⊎_elim, subst}
 use Rattle.std.proofs.lemmas.Bool.{false≢true}
 use Rattle.fdp_base.specs.declared.command.Command.{Command}
 use Rattle.fdp_book.specs.Book.{point_in}

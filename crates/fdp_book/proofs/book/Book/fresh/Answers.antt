@@ -1,4 +1,4 @@
-use Rattle.std.proofs.Common.{◌≡◌, ◌∙◌, List, [], ap, arith, sym, subst}
+use Rattle.std.proofs.Common.{◌≡◌, List, [], ap, arith, sym, subst}
 use Rattle.fdp_base.specs.declared.config.DriveConfig.{DriveConfig}
 use Rattle.fdp_base.specs.declared.entry.Entry.{Entry}
 use Rattle.fdp_rules.specs.History.{fresh}

@@ -1,4 +1,4 @@
-use Rattle.std.proofs.Common.{◌≡◌, ◌∙◌, ◌<◌, Option, ap, subst, sym}
+use Rattle.std.proofs.Common.{◌∙◌, ◌<◌, ap, subst, sym}
 use Rattle.std.specs.Prelude.{IfSome}
 use Rattle.fdp_base.specs.Placement.{geometry_of}
 use Rattle.fdp_image.specs.Areas.{data_pages}

@@ -1,4 +1,4 @@
-use Rattle.std.proofs.Common.{◌≡◌, ◌∙◌, ◌+◌, ◌<◌, ◌≤◌, ◌++◌, ℕ, List, ap, arith, length, sym}
+use Rattle.std.proofs.Common.{◌≡◌, ◌∙◌, ◌++◌, ℕ, List, ap, arith, length, sym}
 use Rattle.std.specs.Int.{to_le_bytes, w16, w64}
 use Rattle.fdp_book.specs.Book.{BookSeen, state_in}
 use Rattle.fdp_book.proofs.Answering.{put-another, written-end}

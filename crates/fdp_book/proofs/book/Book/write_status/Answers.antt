@@ -1,6 +1,6 @@
-use Rattle.std.proofs.Common.{◌≡◌, ◌∙◌, ◌+◌, ◌*◌, ◌<◌, ◌≤◌, ◌++◌, ℕ, List, [], Option, Some, None, ap, arith, length, refl, subst, sym}
+use Rattle.std.proofs.Common.{◌≡◌, ◌∙◌, ◌*◌, ◌<◌, ◌≤◌, ◌++◌, ℕ, List, [], Option, Some, None, ap, arith, length, refl, subst, sym}
 use Rattle.std.specs.Int.{to_le_bytes, w16}
-use Rattle.std.specs.Prelude.{All, flat_map, slice_index_or}
+use Rattle.std.specs.Prelude.{flat_map, slice_index_or}
 use Rattle.std.specs.Option.{option_map_or}
 use Rattle.fdp_base.specs.declared.config.DriveConfig.{DriveConfig}
 use Rattle.fdp_base.specs.Config.{IsValidConfig}

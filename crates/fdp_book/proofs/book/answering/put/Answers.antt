@@ -1,4 +1,4 @@
-use Rattle.std.proofs.Common.{◌≡◌, ◌+◌, ◌++◌, List, ℕ, arith, length, subst, take}
+use Rattle.std.proofs.Common.{◌≡◌, ◌+◌, ◌++◌, List, ℕ, arith, length, subst}
 use Rattle.std.proofs.lemmas.List.{take_all, take_more}
 use Rattle.fdp_book.specs.Answering.{IsFilled}
 use Rattle.fdp_book.proofs.Answering.{put-next, put-none}

@@ -1,5 +1,3 @@
-use Rattle.std.proofs.Common.{◌≡◌, ◌+◌, ◌++◌, List, ℕ, length, take}
-use Rattle.fdp_book.specs.Answering.{IsFilled}
 use Rattle.fdp_book.proofs.Answering.{IsPut}
 use Rattle.fdp_book.proofs.book.answering.put.Given as goal
 

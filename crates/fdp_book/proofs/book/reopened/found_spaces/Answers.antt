@@ -1,6 +1,5 @@
-use Rattle.std.proofs.Common.{◌≡◌, ◌∙◌, ◌<◌, Option, Some, ap, arith, length, refl, slice_get, sym}
+use Rattle.std.proofs.Common.{◌∙◌, Some, ap, length, refl}
 use Rattle.std.proofs.lemmas.Option.{slice_get_read}
-use Rattle.fdp_snapshot.specs.declared.space.Space.{Space}
 use Rattle.fdp_book.proofs.Histories.Finding.{found-absent, found-first, found-next}
 use Rattle.fdp_book.proofs.book.reopened.found_spaces.Goals as goal
 

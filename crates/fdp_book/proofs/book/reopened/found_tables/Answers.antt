@@ -1,6 +1,5 @@
 use Rattle.std.proofs.Common.{◌≡◌, ◌∙◌, ◌+◌, ℕ, List, None, Option, ap, refl, replicate, slice_get, sym}
 use Rattle.std.specs.Prelude.{option_map}
-use Rattle.fdp_base.specs.Placement.{geometry_of}
 use Rattle.fdp_image.specs.Checkpoint.{in_place, namespace_of}
 use Rattle.fdp_map.specs.MapTable.{MapTable, mapped_at, size_in}
 use Rattle.fdp_snapshot.specs.declared.space.Space.{Space}

@@ -23,6 +23,7 @@ use Rattle.fdp_relocation.specs.fdp_keeper.Keeper.{KeeperSeen}
 use Rattle.fdp_roominess.specs.Run.{IsRoomyImage}
 use Rattle.fdp_flash.specs.Runs.{Runs}
 use Rattle.fdp_base.specs.Counts.{Rose}
+use Rattle.fdp_relocation.specs.fdp_book.declared.log.TheConstants.{MOST_STEP_ENTRIES}
 
 pub invariant_of-self : goal.invariant_of-self
 invariant_of-self g c =
@@ -38,7 +39,7 @@ cancel-requires-clause-may_move g c =
     let old : Seen g.row.F.Denot = record { book = c.self.inside.book; keeper = c.self.inside.keeper; handed = c.self.inside.handed; flash = c.self.inside.flash } in
     let mid = c.advance-advance.new.self in
     let collects = from-begun old c.begin.new.self (λ s. Collects state (stage_of s) (stage_of mid) c.args.rg c.advance-advance.result) c.begin.ensures c.advance-advance.ensures.collects in
-    let full = subst (λ (s : Seen g.row.F.Denot). (s.book.room == 300) ≡ true) c.self-2.view_is (sym c.has_added_nothing.ensures ∙ c.if-has_added_nothing.true) in
+    let full = subst (λ (s : Seen g.row.F.Denot). (s.book.room == MOST_STEP_ENTRIES) ≡ true) c.self-2.view_is (sym c.has_added_nothing.ensures ∙ c.if-has_added_nothing.true) in
     subst (λ (s : Seen g.row.F.Denot). IsTrue s.book.may_move) (sym c.self-2.view_is) (may-still state (begun_seen old) mid c.args.rg c.advance-advance.result collects refl refl full)
 
 -- the step, by the group behind it as it was opened
@@ -97,7 +98,7 @@ returns-then-has_added_nothing-clause-step g c =
     let old : Seen g.row.F.Denot = record { book = inside.book; keeper = inside.keeper; handed = inside.handed; flash = inside.flash } in
     let new : Seen g.row.F.Denot = record { book = c.cancel.new.self; keeper = c.self-2.inside.keeper; handed = c.self-2.inside.handed; flash = c.self-2.inside.flash } in
     let book : c.self-2.inside.book ≡ mid.book = ap (λ (s : Seen g.row.F.Denot). s.book) c.self-2.view_is in
-    let full = subst (λ (s : Seen g.row.F.Denot). (s.book.room == 300) ≡ true) c.self-2.view_is (sym c.has_added_nothing.ensures ∙ c.if-has_added_nothing.true) in
+    let full = subst (λ (s : Seen g.row.F.Denot). (s.book.room == MOST_STEP_ENTRIES) ≡ true) c.self-2.view_is (sym c.has_added_nothing.ensures ∙ c.if-has_added_nothing.true) in
     let final : new.book ≡ cancelled mid.book = c.cancel.ensures ∙ ap cancelled book in
     let handed : mid.handed ≡ old.handed = (from-begun old c.begin.new.self (λ s. Advances state s mid c.args.rg c.advance-advance.result) c.begin.ensures c.advance-advance.ensures.step).relocates.extends.handed_is in
     subst (λ (s : Seen g.row.F.Denot). 0 < s.book.spare → answers.Collects state s new c.args.rg c.advance-advance.result) c.self.view_is
@@ -125,7 +126,7 @@ returns-else-has_added_nothing-clause-step g c =
     let inside = c.self.inside in
     let mid = c.advance-advance.new.self in
     let old : Seen g.row.F.Denot = record { book = inside.book; keeper = inside.keeper; handed = inside.handed; flash = inside.flash } in
-    let less = subst (λ (s : Seen g.row.F.Denot). (s.book.room == 300) ≡ false) c.self-2.view_is (sym c.has_added_nothing.ensures ∙ c.if-has_added_nothing.false) in
+    let less = subst (λ (s : Seen g.row.F.Denot). (s.book.room == MOST_STEP_ENTRIES) ≡ false) c.self-2.view_is (sym c.has_added_nothing.ensures ∙ c.if-has_added_nothing.false) in
     let handed : mid.handed ≡ old.handed = (from-begun old c.begin.new.self (λ s. Advances state s mid c.args.rg c.advance-advance.result) c.begin.ensures c.advance-advance.ensures.step).relocates.extends.handed_is in
     subst (λ (s : Seen g.row.F.Denot). 0 < s.book.spare → answers.Collects state s mid c.args.rg c.advance-advance.result) c.self.view_is
     (λ spare. is-mid state old mid mid c.begin.new.self c.args.rg c.advance-advance.result c.begin.ensures c.advance-advance.ensures.step c.advance-advance.ensures.told handed refl refl refl
