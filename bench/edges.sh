@@ -9,7 +9,8 @@ trap 'rm -rf "$work"' EXIT
 cd "$work"
 cp "$top/examples/drive-s.toml" s.toml
 cp "$top/examples/first.trace" first.trace
-mkdir folder
+mkdir folder again
+cp first.trace again/s.toml
 : > empty
 blocks=52
 awk -v b=$blocks 'BEGIN { for (i = 0; i < 8192; i++) print "write 1", i % b, 1, i + 1 }' > long.trace
@@ -57,6 +58,7 @@ run 0 "queue 1" run s.toml drive.img empty
 run 0 "queue 1" record s.toml drive.img first.trace
 run 0 "queue 1" try run s.toml drive.img first.trace
 cmp -s new.img drive.img || fail "a trial changed the image"
+run 0 "queue 1" try run s.toml drive.img again/s.toml
 run 2 "fault 2 config absent" try run absent drive.img first.trace
 
 cp new.img drive.img
