@@ -1,10 +1,12 @@
 #!/bin/sh
-# Measures a turn of the group lock with 1, 2, 4 and 6 threads, beside a turn of std's mutex.
-# Usage: bench/turns.sh [TURNS]: so many turns a thread, 200000 if not given. It builds a small program in a temporary
-# folder, which is proved first; that takes a minute or two.
+# Measures a turn of the group lock beside a turn of std's mutex over the same value, about 1 KB: 1, 2, 4 and 6 threads, turns that last 0, 3 and 10
+# microseconds. A turn adds an entry to the value, and a thread does nothing between two turns.
+# Usage: bench/turns.sh [TURNS]: so many turns of all threads together, 200000 if not given. It builds a small program in a temporary
+# folder, which is proved first; that takes a minute or two. It warns where the machine is busy.
 set -eu
 turns=${1:-200000}
 top=$(cd "$(dirname "$0")/.." && pwd)
+awk -v processors="$(nproc)" '{ if ($1 > processors) print "turns.sh: the machine is busy: load " $1 " on " processors " processors" }' /proc/loadavg >&2
 work=$(mktemp -d)
 trap 'rm -rf "$work"' EXIT
 mkdir -p "$work/crates/turns/src" "$work/crates/turns/specs"
@@ -29,44 +31,37 @@ ghost use Rattle.fdp_lock_tests.specs.Tally.{IsFresh, IsBack};
 
 use anyhow::Error;
 use fdp_lock::{GroupLock, Seat};
-use fdp_lock_tests::{Tally, work, work_both, work_four};
+use fdp_lock_tests::{Load, Tally, linger, work, work_both, work_four};
 use std::alloc::{AllocError, Global};
 use std::sync::{Mutex, Wait};
 use std::thread::{Threads, join};
 use std::time::Instant;
 
-fn tally(alloc: Global, entries: usize) -> Result<Tally, AllocError>
-    ensures { IfOk result (λ t. t.numbers.items ≡ []) }
-{
-    let numbers = Vec::with_capacity(alloc, entries)?;
-    Ok(Tally { name: 0, numbers })
-}
-
-fn one<R: Wait>(rt: &R, alloc: Global, turns: u32) -> Result<usize, AllocError> {
-    let tally = tally(alloc, turns as usize)?;
+fn one<R: Wait>(rt: &R, alloc: Global, load: Load) -> Result<usize, AllocError> {
+    let tally = Tally::with_room(alloc, 0, load.turns as usize)?;
     let Ok((lock, mut first)) = GroupLock::new(alloc, tally, 2) else { return Ok(0) };
     let a = lock.split(&mut first, 1);
-    let a = work(rt, &lock, a, turns);
+    let a = work(rt, &lock, a, load);
     Ok(lock.close(vec![in alloc; first, a]?).numbers.len())
 }
 
-fn two<R: Threads + Wait + Sync>(rt: &R, alloc: Global, turns: u32) -> Result<usize, AllocError> {
-    let tally = tally(alloc, turns as usize * 2)?;
+fn two<R: Threads + Wait + Sync>(rt: &R, alloc: Global, load: Load) -> Result<usize, AllocError> {
+    let tally = Tally::with_room(alloc, 0, load.turns as usize * 2)?;
     let Ok((lock, mut first)) = GroupLock::new(alloc, tally, 3) else { return Ok(0) };
     let a = lock.split(&mut first, 1);
     let b = lock.split(&mut first, 2);
-    let (a, b) = work_both(rt, &lock, a, b, turns);
+    let (a, b) = work_both(rt, &lock, a, b, load);
     Ok(lock.close(vec![in alloc; first, a, b]?).numbers.len())
 }
 
-fn four<R: Threads + Wait + Sync>(rt: &R, alloc: Global, turns: u32) -> Result<usize, AllocError> {
-    let tally = tally(alloc, turns as usize * 4)?;
+fn four<R: Threads + Wait + Sync>(rt: &R, alloc: Global, load: Load) -> Result<usize, AllocError> {
+    let tally = Tally::with_room(alloc, 0, load.turns as usize * 4)?;
     let Ok((lock, mut first)) = GroupLock::new(alloc, tally, 5) else { return Ok(0) };
     let a = lock.split(&mut first, 1);
     let b = lock.split(&mut first, 2);
     let c = lock.split(&mut first, 3);
     let d = lock.split(&mut first, 4);
-    let ((a, b), (c, d)) = work_four(rt, &lock, a, b, c, d, turns);
+    let ((a, b), (c, d)) = work_four(rt, &lock, a, b, c, d, load);
     Ok(lock.close(vec![in alloc; first, a, b, c, d]?).numbers.len())
 }
 
@@ -81,7 +76,7 @@ fn work_six<R: Threads + Wait + Sync>(
     d: Seat<Tally>,
     e: Seat<Tally>,
     f: Seat<Tally>,
-    turns: u32,
+    load: Load,
 ) -> (Pair, (Pair, Pair))
     requires front { IsFresh lock.now a × IsFresh lock.now b }
     requires middle { IsFresh lock.now c × IsFresh lock.now d }
@@ -95,17 +90,17 @@ fn work_six<R: Threads + Wait + Sync>(
         || -> Pair
             requires { IsFresh lock.now a × IsFresh lock.now b }
             ensures { IsBack lock.entry.now a result.0 × IsBack lock.entry.now b result.1 }
-        { work_both(rt, lock, a, b, turns) },
+        { work_both(rt, lock, a, b, load) },
         || -> (Pair, Pair)
             requires { (IsFresh lock.now c × IsFresh lock.now d) × (IsFresh lock.now e × IsFresh lock.now f) }
             ensures front { IsBack lock.entry.now c result.0.0 × IsBack lock.entry.now d result.0.1 }
             ensures back { IsBack lock.entry.now e result.1.0 × IsBack lock.entry.now f result.1.1 }
-        { work_four(rt, lock, c, d, e, f, turns) },
+        { work_four(rt, lock, c, d, e, f, load) },
     )
 }
 
-fn six<R: Threads + Wait + Sync>(rt: &R, alloc: Global, turns: u32) -> Result<usize, AllocError> {
-    let tally = tally(alloc, turns as usize * 6)?;
+fn six<R: Threads + Wait + Sync>(rt: &R, alloc: Global, load: Load) -> Result<usize, AllocError> {
+    let tally = Tally::with_room(alloc, 0, load.turns as usize * 6)?;
     let Ok((lock, mut first)) = GroupLock::new(alloc, tally, 7) else { return Ok(0) };
     let a = lock.split(&mut first, 1);
     let b = lock.split(&mut first, 2);
@@ -113,51 +108,103 @@ fn six<R: Threads + Wait + Sync>(rt: &R, alloc: Global, turns: u32) -> Result<us
     let d = lock.split(&mut first, 4);
     let e = lock.split(&mut first, 5);
     let f = lock.split(&mut first, 6);
-    let ((a, b), ((c, d), (e, f))) = work_six(rt, &lock, a, b, c, d, e, f, turns);
+    let ((a, b), ((c, d), (e, f))) = work_six(rt, &lock, a, b, c, d, e, f, load);
     Ok(lock.close(vec![in alloc; first, a, b, c, d, e, f]?).numbers.len())
 }
 
-fn add<R: Wait>(rt: &R, shared: &Mutex<Vec<u8>>, turns: u32) {
-    for _ in 0..turns {
-        let _ = shared.lock(rt).push(1);
+fn add<R: Wait>(rt: &R, shared: &Mutex<Tally>, load: Load) {
+    for _ in 0..load.turns {
+        let mut tally = shared.lock(rt);
+        linger(load.rounds);
+        let _ = tally.numbers.push(1);
     }
 }
 
-fn add_both<R: Threads + Wait + Sync>(rt: &R, shared: &Mutex<Vec<u8>>, turns: u32) {
-    join(rt, || add(rt, shared, turns), || add(rt, shared, turns));
+fn add_both<R: Threads + Wait + Sync>(rt: &R, shared: &Mutex<Tally>, load: Load) {
+    join(rt, || add(rt, shared, load), || add(rt, shared, load));
 }
 
-fn add_four<R: Threads + Wait + Sync>(rt: &R, shared: &Mutex<Vec<u8>>, turns: u32) {
-    join(rt, || add_both(rt, shared, turns), || add_both(rt, shared, turns));
+fn add_four<R: Threads + Wait + Sync>(rt: &R, shared: &Mutex<Tally>, load: Load) {
+    join(rt, || add_both(rt, shared, load), || add_both(rt, shared, load));
 }
 
-fn add_six<R: Threads + Wait + Sync>(rt: &R, shared: &Mutex<Vec<u8>>, turns: u32) {
-    join(rt, || add_both(rt, shared, turns), || add_four(rt, shared, turns));
+fn add_six<R: Threads + Wait + Sync>(rt: &R, shared: &Mutex<Tally>, load: Load) {
+    join(rt, || add_both(rt, shared, load), || add_four(rt, shared, load));
+}
+
+/// The rounds of a microsecond, by the quickest of five runs.
+fn rounds_of_a_microsecond(rt: HostRuntime) -> Result<u32, Error> {
+    let mut least: u128 = u128::MAX;
+    for _ in 0..5u32 {
+        let start = Instant::now(&rt)?;
+        linger(100_000);
+        least = least.min(start.elapsed(&rt)?.as_nanos());
+    }
+    Ok(u32::try_from(100_000_000 / least.max(1)).unwrap_or(u32::MAX))
+}
+
+<<<<<<< HEAD
+fn compare(rt: HostRuntime, threads: u32, hold: u32, load: Load) -> Result<(), Error> {
+    let shared = Mutex::new(Tally::with_room(rt.alloc(), 0, load.turns as usize * threads as usize)?);
+    let start = Instant::now(&rt)?;
+    let made = match threads {
+        1 => one(&rt, rt.alloc(), load)?,
+        2 => two(&rt, rt.alloc(), load)?,
+        4 => four(&rt, rt.alloc(), load)?,
+        _ => six(&rt, rt.alloc(), load)?,
+    };
+    let lock = start.elapsed(&rt)?.as_nanos();
+    let start = Instant::now(&rt)?;
+    match threads {
+        1 => add(&rt, &shared, load),
+        2 => add_both(&rt, &shared, load),
+        4 => add_four(&rt, &shared, load),
+        _ => add_six(&rt, &shared, load),
+    }
+    let mutex = start.elapsed(&rt)?.as_nanos();
+    let all = u128::from(threads) * u128::from(load.turns) | 1;
+    println!(rt; "{hold} us, {threads} threads, {made} entries: {} ns a turn, {} ns by a mutex", lock / all, mutex / all)?;
+    Ok(())
+=======
+fn by_lock<R: Threads + Wait + Sync>(rt: &R, alloc: Global, threads: u32, load: Load) -> Result<usize, AllocError> {
+    match threads {
+        1 => one(rt, alloc, load),
+        2 => two(rt, alloc, load),
+        4 => four(rt, alloc, load),
+        _ => six(rt, alloc, load),
+    }
+}
+
+fn by_mutex<R: Threads + Wait + Sync>(rt: &R, shared: &Mutex<Tally>, threads: u32, load: Load) {
+    match threads {
+        1 => add(rt, shared, load),
+        2 => add_both(rt, shared, load),
+        4 => add_four(rt, shared, load),
+        _ => add_six(rt, shared, load),
+    }
+>>>>>>> 46f0927ac18eeb3d569b092886f881e718cdf2c5
 }
 
 fn main(rt: HostRuntime) -> Result<(), Error> {
     let turns: u32 = TURNS;
-    let numbers: Vec<u8> = Vec::with_capacity(rt.alloc(), 13 * turns as usize)?;
-    let shared = Mutex::new(numbers);
-    for threads in [1u32, 2, 4, 6] {
-        let start = Instant::now(&rt)?;
-        let made = match threads {
-            1 => one(&rt, rt.alloc(), turns)?,
-            2 => two(&rt, rt.alloc(), turns)?,
-            4 => four(&rt, rt.alloc(), turns)?,
-            _ => six(&rt, rt.alloc(), turns)?,
-        };
-        let lock = start.elapsed(&rt)?.as_nanos();
-        let start = Instant::now(&rt)?;
-        match threads {
-            1 => add(&rt, &shared, turns),
-            2 => add_both(&rt, &shared, turns),
-            4 => add_four(&rt, &shared, turns),
-            _ => add_six(&rt, &shared, turns),
+    let rounds = rounds_of_a_microsecond(rt)?;
+    for hold in [0u32, 3, 10] {
+        for threads in [1u32, 2, 4, 6] {
+            let load = Load { turns: turns / threads.max(1), rounds: rounds.saturating_mul(hold) };
+<<<<<<< HEAD
+            compare(rt, threads, hold, load)?;
+=======
+            let shared = Mutex::new(Tally::with_room(rt.alloc(), 0, turns as usize)?);
+            let start = Instant::now(&rt)?;
+            let made = by_lock(&rt, rt.alloc(), threads, load)?;
+            let lock = start.elapsed(&rt)?.as_nanos();
+            let start = Instant::now(&rt)?;
+            by_mutex(&rt, &shared, threads, load);
+            let mutex = start.elapsed(&rt)?.as_nanos();
+            let all = u128::from(turns).max(1);
+            println!(rt; "{hold} us, {threads} threads, {made} entries: {} ns a turn, {} ns by a mutex", lock / all, mutex / all)?;
+>>>>>>> 46f0927ac18eeb3d569b092886f881e718cdf2c5
         }
-        let mutex = start.elapsed(&rt)?.as_nanos();
-        let all = u128::from(threads) * u128::from(turns) + 1;
-        println!(rt; "{threads} threads, {made} entries: {} ns a turn, {} ns by a mutex", lock / all, mutex / all)?;
     }
     Ok(())
 }

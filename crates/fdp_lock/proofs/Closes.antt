@@ -1,21 +1,18 @@
 -- What the table has when all parts are in one view.
-use Rattle.std.proofs.Common.{◌≡◌, ◌≢◌, ◌==◌, ℕ, zero, suc, ◌+◌, ◌<◌, ◌≤◌, Bool, true, false, ne_eqb, inl, List, [], ◌∷◌, length, Option, Some, sum_by, refl, sym, ◌∙◌, ap, subst, ⊎_elim, arith}
+use Rattle.std.proofs.Common.{◌≡◌, ◌≢◌, ◌==◌, ℕ, zero, suc, ◌+◌, ◌<◌, ◌≤◌, Bool, true, false, ne_eqb, List, [], ◌∷◌, Option, Some, sum_by, refl, sym, ◌∙◌, ap, subst, arith}
 use mathlib.Core.Option.{some, some-injective, some-ne-none}
 use mathlib.Core.List.{IsPrefix}
-use mathlib.Core.Logic.{dite}
-use native.Mathlib.Decide.{ℕ_discrete}
 use lib.ListN.{get_elem?}
 use Rattle.std.proofs.lemmas.List.Sums.{sum_by-cons}
-use Rattle.std.proofs.lemmas.Bool.Decides.{nat_tests}
 use Rattle.atomic_table.specs.Table.{Final, Seen, opening}
 use Rattle.fdp_base.specs.declared.recorded.Mark.{Mark}
 use Rattle.fdp_base.specs.Records.{carrying, CarriesNone}
 use Rattle.fdp_base.proofs.Records.{two-le-sum_by, prefix_refl, nil-prefix, carrying-none}
 use Rattle.fdp_lock.specs.declared.view.View.{View}
 use Rattle.fdp_lock.specs.declared.view.Stage.TheVariants.{Idle}
-use Rattle.fdp_lock.specs.Rule.{one_if, between, parts, has_number, AllMade, Fits, AtHome, IsOut, first_view}
+use Rattle.fdp_lock.specs.Rule.{turn_in, parts, has_turn, has_number, AllMade, Fits, AtHome, first_view}
 use Rattle.fdp_lock.specs.Gathers.{Ends}
-use Rattle.fdp_lock.proofs.Moves.{times, Keeps}
+use Rattle.fdp_lock.proofs.Moves.{one_if, times, Keeps}
 use Rattle.fdp_lock.proofs.Turns.{Idle-Holding}
 
 -- what only one view has is its own
@@ -30,9 +27,6 @@ sum_by-alone f (x ∷ xs) zero v at others =
 sum_by-alone f (x ∷ xs) (suc i) v at others =
     omega (arith, sum_by-cons f x xs, others 0 x (λ e. absurd (omega arith)) refl, sum_by-alone f xs i v at (λ j u ne there. others (suc j) u (λ e. ne (omega arith)) there))
 
-between-none : (n a : ℕ) → between n a a ≡ 0
-between-none n a = grind (arith, nat_tests)
-
 one_if-le : (b : Bool) → one_if b ≤ 1
 one_if-le true = omega arith
 one_if-le false = omega arith
@@ -41,22 +35,18 @@ at_single : {A : Type 0} (x u : A) (j : ℕ) → get_elem? (x ∷ []) j ≡ some
 at_single x u zero e = some-injective x u e
 at_single x u (suc j) e = absurd (some-ne-none u (sym e))
 
-module _ {S O I : Type 0} (origin : S → O) (entries : S → List I) (mark : I → Mark) (start : S) (seats : ℕ) where
+module _ {S O I : Type 0} (origin : S → O) (entries : S → List I) (mark : I → Mark) (org : O) (seats : ℕ) where
   -- the rule at the opening
-  pub opens : seats ≤ 255 → 0 < seats → CarriesNone mark (entries start)
-      → Keeps origin entries mark start seats (opening (length (entries start) ∷ 0 ∷ 0 ∷ []) (Some start ∷ []) (first_view origin entries start seats))
-  opens few some_seat none_marked =
-      let v : View O I = first_view origin entries start seats in
+  pub opens : (start : S) → origin start ≡ org → 0 < seats → CarriesNone mark (entries start) → Keeps origin entries mark org seats (opening (0 ∷ []) (Some start ∷ []) (first_view org (entries start) seats))
+  opens start org_is some_seat none_marked =
+      let v : View O I = first_view org (entries start) seats in
       record {
         log = entries start;
-        ticket = 0;
-        serving = 0;
+        taken = 0;
         words = refl;
-        order = omega arith;
-        drawn = omega arith;
-        few = few;
+        turn = refl;
+        one = omega arith;
         whole = omega arith;
-        queue = λ n. sym (between-none n 0);
         once = λ q. omega (arith, one_if-le (0 == q));
         unnamed = λ q nonzero none_there. carrying-none mark q (entries start) none_marked nonzero;
         first = λ j u there has q above.
@@ -64,24 +54,23 @@ module _ {S O I : Type 0} (origin : S → O) (entries : S → List I) (mark : I 
             let here : P v = λ a. (let ne : 0 ≢ q = λ (e : 0 ≡ q). absurd (omega arith) in omega (arith, ap one_if (ne_eqb 0 q ne))) in
             subst P (at_single v u j there) here above;
         each = λ j u there.
-            let P : View O I → Type 0 = λ z. Fits {S = S} mark (entries start) (origin start) 0 (some (Some start) ∷ []) z in
+            let P : View O I → Type 0 = λ z. Fits mark (entries start) org z in
             subst P (at_single v u j there) record {
               seen = prefix_refl (entries start);
               told = nil-prefix (entries start);
               origin = λ some_part. refl;
               made = (λ nonzero. absurd (nonzero refl), tt);
-              few = omega arith;
               idle = λ none_there. absurd (omega arith);
-              holding = λ t e. Idle-Holding e;
+              holding = λ e. Idle-Holding e;
             };
-        home = inl (start, refl, refl, refl);
+        home = λ _. (start, refl, refl, org_is);
       }
 
-  pub ends : (id : ℕ) (v : View O I) (words : List ℕ) (slots : List (Option S)) → v.stage ≡ Idle → v.parts ≡ seats → 0 < seats → Final (Seen (Keeps origin entries mark start seats) id v) words slots
+  pub ends : (id : ℕ) (v : View O I) (words : List ℕ) (slots : List (Option S)) → v.stage ≡ Idle → v.parts ≡ seats → 0 < seats → Final (Seen (Keeps origin entries mark org seats) id v) words slots
       → (x : S) × (get_elem? slots 0 ≡ some (Some x)) × Ends origin entries mark v x
   ends id v words slots idle whole some_seat final =
       let s = final.0 in
-      let k : Keeps origin entries mark start seats s = final.1.0 in
+      let k : Keeps origin entries mark org seats s = final.1.0 in
       let at : get_elem? s.views id ≡ some v = final.1.1 in
       let f = k.each id v at in
       let no_part : (j : ℕ) (u : View O I) → j ≢ id → get_elem? s.views j ≡ some u → u.parts ≡ 0 = λ j u ne there.
@@ -89,15 +78,8 @@ module _ {S O I : Type 0} (origin : S → O) (entries : S → List I) (mark : I 
       let nothing : (j : ℕ) (u : View O I) → j ≢ id → get_elem? s.views j ≡ some u → (u.made ≡ []) × (u.stage ≡ Idle) = λ j u ne there. (k.each j u there).idle (no_part j u ne there) in
       let only : (q : ℕ) → sum_by (has_number q) s.views ≡ has_number q v = λ q.
       sum_by-alone (has_number {O = O} {I = I} q) s.views id v at (λ j u ne there. ap (times q) (nothing j u ne there).0) in
-      let home : AtHome {I = I} origin entries k.log (origin start) s.homes =
-      ⊎_elim (λ h. h)
-      (λ (h : IsOut k.serving s.homes s.views).
-      dite (ℕ_discrete h.1.0 id)
-      (λ (e : h.1.0 ≡ id).
-      let same : v ≡ h.1.1 = some-injective v h.1.1 (sym at ∙ ap (get_elem? s.views) (sym e) ∙ h.1.2) in
-      Idle-Holding (sym idle ∙ ap (λ (z : View O I). z.stage) same ∙ h.1.3))
-      (λ (ne : h.1.0 ≢ id). Idle-Holding (sym (nothing h.1.0 h.1.1 ne h.1.2).1 ∙ h.1.3)))
-      k.home in
+      let idle_alone : sum_by has_turn s.views ≡ 0 = sum_by-alone (has_turn {O = O} {I = I}) s.views id v at (λ j u ne there. ap turn_in (nothing j u ne there).1) ∙ ap turn_in idle in
+      let home : AtHome {I = I} origin entries k.log org s.homes = k.home (sym k.turn ∙ idle_alone) in
       let x : S = home.0 in (
         x,
         final.4 0 (Some x) (ap (λ hs. get_elem? hs 0) home.1),
@@ -110,7 +92,7 @@ module _ {S O I : Type 0} (origin : S → O) (entries : S → List I) (mark : I 
       )
 
   -- the same of what was taken out of the slot
-  pub ends_with : (id : ℕ) (v : View O I) (words : List ℕ) (slots : List (Option S)) (y : Option S) → v.stage ≡ Idle → v.parts ≡ seats → 0 < seats → Final (Seen (Keeps origin entries mark start seats) id v) words slots
+  pub ends_with : (id : ℕ) (v : View O I) (words : List ℕ) (slots : List (Option S)) (y : Option S) → v.stage ≡ Idle → v.parts ≡ seats → 0 < seats → Final (Seen (Keeps origin entries mark org seats) id v) words slots
       → get_elem? slots 0 ≡ some y → (x : S) × (y ≡ Some x) × Ends origin entries mark v x
   ends_with id v words slots y idle whole some_seat final taken =
       let e = ends id v words slots idle whole some_seat final in

@@ -10,9 +10,9 @@ use Rattle.fdp_base.proofs.Records.{prefix_refl, prefix_trans}
 use Rattle.fdp_lock.specs.declared.seat.Seat.{Seat}
 use Rattle.fdp_lock.specs.declared.view.View.{View}
 use Rattle.fdp_lock.specs.Gathers.{Ends, Gathered, takes_in}
-use Rattle.fdp_lock.specs.Rule.{one_if, has_number, own, AllMade}
+use Rattle.fdp_lock.specs.Rule.{has_number, own, AllMade}
 use Rattle.fdp_lock.specs.Seats.{number_of, parts_of, seen_of, made_of, HasOrigin, HoldsNoTurn, GoesOn}
-use Rattle.fdp_lock.proofs.Moves.{times}
+use Rattle.fdp_lock.proofs.Moves.{one_if, times}
 use Rattle.fdp_lock.proofs.Shares.{times-append}
 
 module _ {X : Type 0} (P : X → Type 0) where

@@ -1,10 +1,9 @@
 -- A step of one seat on the table keeps the rule.
-use Rattle.std.proofs.Common.{◌≡◌, ◌≢◌, ◌⊎◌, ◌==◌, ℕ, suc, ◌+◌, ◌*◌, ◌<◌, ◌≤◌, Bool, true, cond, eqb, List, [], ◌∷◌, length, set, Option, sum_by, count_by, eq-eqb, refl, ◌∙◌, ap, subst, ⊎_elim, arith}
-use mathlib.Core.Option.{some, none, some-injective, some-ne-none}
+use Rattle.std.proofs.Common.{◌≡◌, ◌≢◌, ◌⊎◌, ◌==◌, ℕ, ◌+◌, ◌<◌, ◌≤◌, Bool, true, cond, eqb, List, [], ◌∷◌, set, Option, sum_by, count_by, eq-eqb, refl, ◌∙◌, ap, subst, ⊎_elim, arith}
+use mathlib.Core.Option.{some}
 use mathlib.Core.List.{IsPrefix}
 use lib.ListN.{get_elem?}
 use Rattle.std.proofs.lemmas.List.Sums.{sum_by-cons}
-use Rattle.std.proofs.lemmas.Bool.Decides.{nat_tests}
 use Rattle.atomic_table.specs.Table.{State}
 use Rattle.atomic_table.proofs.Lists.{at_set}
 use Rattle.fdp_base.specs.declared.recorded.Mark.{Mark}
@@ -12,7 +11,7 @@ use Rattle.fdp_base.specs.Records.{carrying}
 use Rattle.fdp_base.proofs.Records.{sum_by-changed, sum_by-kept, at-le-sum_by, two-le-sum_by, prefix_trans}
 use Rattle.fdp_lock.specs.declared.view.View.{View}
 use Rattle.fdp_lock.specs.declared.view.Stage.TheVariants.{Holding}
-use Rattle.fdp_lock.specs.Rule.{one_if, between, parts, turns, has_ticket, has_number, AllMade, Fits, AtHome, IsOut, Held}
+use Rattle.fdp_lock.specs.Rule.{parts, has_turn, has_number, AllMade, Fits, AtHome, Held}
 
 abbrev pub times : {I : Type 0} → ℕ → List (ℕ × List I) → ℕ
 times q ms = count_by (λ m. m.0 == q) ms
@@ -27,65 +26,47 @@ AllMade-longer {I} mark log more (m ∷ ms) same made =
       AllMade-longer mark log more ms (λ q nonzero some_there. same q nonzero (omega (arith, sum_by-cons (λ (n : ℕ × List I). cond (eqb n.0 q) 1 0) m ms))) made.1,
     )
 
-pub turns_bounded : {O I : Type 0} (vs : List (View O I)) → ((j : ℕ) (v : View O I) → get_elem? vs j ≡ some v → v.turns ≤ v.parts * 1099511627776) → sum_by turns vs ≤ sum_by parts vs * 1099511627776
-turns_bounded [] few = omega arith
-turns_bounded {O} {I} (v ∷ vs) few =
-    omega (arith, sum_by-cons (turns {O = O} {I = I}) v vs, sum_by-cons (parts {O = O} {I = I}) v vs, few 0 v refl, turns_bounded vs (λ j w at. few (suc j) w at))
+abbrev pub one_if : Bool → ℕ
+one_if b = cond b 1 0
 
-pub between-more : (n a b : ℕ) → a ≤ b → between n a (b + 1) ≡ between n a b + one_if (b == n)
-between-more n a b le = grind (arith, nat_tests)
-
-pub between-less : (n a b : ℕ) → a < b → between n (a + 1) b + one_if (a == n) ≡ between n a b
-between-less n a b lt = grind (arith, nat_tests)
-
-pub between-one : (n a b : ℕ) → between n a b ≤ 1
-between-one n a b = grind (arith, nat_tests)
-
-pub between-first : (a b : ℕ) → 0 < between a a b → a < b
-between-first a b some_there = grind (arith, nat_tests)
-
-module _ {S O I : Type 0} (origin : S → O) (entries : S → List I) (mark : I → Mark) (start : S) (seats : ℕ) where
+module _ {S O I : Type 0} (origin : S → O) (entries : S → List I) (mark : I → Mark) (org : O) (seats : ℕ) where
   abbrev pub Keeps : State (Option S) (View O I) → Type 0
-  Keeps s = Held origin entries mark start seats s
+  Keeps s = Held origin entries mark org seats s
 
   abbrev pub Homes : Type 0
   Homes = List (mathlib.Core.Option.Option (Option S))
 
-  abbrev pub after : List I → ℕ → ℕ → Homes → List (View O I) → State (Option S) (View O I)
-  after log ticket serving homes views = record { words = length log ∷ ticket ∷ serving ∷ []; homes = homes; views = views }
+  abbrev pub after : ℕ → Homes → List (View O I) → State (Option S) (View O I)
+  after taken homes views = record { words = taken ∷ []; homes = homes; views = views }
 
   -- what is owed where one seat's view v becomes w
-  pub record Moves (s : State (Option S) (View O I)) (k : Keeps s) (id : ℕ) (v w : View O I) (log : List I) (ticket serving : ℕ) (homes : Homes) : Type 0 where
+  pub record Moves (s : State (Option S) (View O I)) (k : Keeps s) (id : ℕ) (v w : View O I) (log : List I) (taken : ℕ) (homes : Homes) : Type 0 where
     pub parts : w.parts ≡ v.parts
-    pub turns : ticket + v.turns ≤ k.ticket + w.turns
-    pub order : serving ≤ ticket
+    pub turn : taken + has_turn v ≡ k.taken + has_turn w
+    pub one : taken ≤ 1
     pub numbers : (q : ℕ) → has_number q w ≡ has_number q v
     pub given : w.given ≡ v.given
-    pub queue : (n : ℕ) → between n serving ticket + has_ticket n v ≡ between n k.serving k.ticket + has_ticket n w
     pub goes_on : IsPrefix k.log log
     pub others : (q : ℕ) → q ≢ 0 → has_number q v ≡ 0 → carrying mark q log ≡ carrying mark q k.log
-    pub fits : Fits {S = S} mark log (origin start) serving homes w
-    pub quiet : (j : ℕ) (u : View O I) → j ≢ id → get_elem? s.views j ≡ some u → (t : ℕ) → u.stage ≡ Holding t → (t ≡ serving) × (homes ≡ none ∷ []) × (u.seen ≡ log)
-    pub home : AtHome {I = I} origin entries log (origin start) homes ⊎ IsOut serving homes (set s.views id w)
+    pub fits : Fits mark log org w
+    pub quiet : (j : ℕ) (u : View O I) → j ≢ id → get_elem? s.views j ≡ some u → u.stage ≡ Holding → u.seen ≡ log
+    pub home : taken ≡ 0 → AtHome {I = I} origin entries log org homes
 
   module _ (s : State (Option S) (View O I)) (k : Keeps s) (id : ℕ) (v w : View O I) (at : get_elem? s.views id ≡ some v) where
     -- another seat does not have a number of this one
     pub apart : (j : ℕ) (u : View O I) → j ≢ id → get_elem? s.views j ≡ some u → (q : ℕ) → 0 < has_number q u → has_number q v ≡ 0
     apart j u ne there q has = omega (arith, two-le-sum_by (has_number {O = O} {I = I} q) s.views j id u v ne there at, k.once q)
 
-    pub moved : (log : List I) (ticket serving : ℕ) (homes : Homes) → Moves s k id v w log ticket serving homes → Keeps (after log ticket serving homes (set s.views id w))
-    moved log ticket serving homes m =
+    pub moved : (log : List I) (taken : ℕ) (homes : Homes) → Moves s k id v w log taken homes → Keeps (after taken homes (set s.views id w))
+    moved log taken homes m =
         let same_number : (q : ℕ) → sum_by (has_number q) (set s.views id w) ≡ sum_by (has_number q) s.views = λ q. sum_by-kept (has_number {O = O} {I = I} q) s.views id v w at (m.numbers q) in
         record {
           log = log;
-          ticket = ticket;
-          serving = serving;
+          taken = taken;
           words = refl;
-          order = m.order;
-          drawn = let more = m.turns in let was = k.drawn in omega (arith, sum_by-changed (turns {O = O} {I = I}) s.views id v w at);
-          few = k.few;
+          turn = let change = m.turn in let was = k.turn in omega (arith, sum_by-changed (has_turn {O = O} {I = I}) s.views id v w at);
+          one = m.one;
           whole = sum_by-kept (parts {O = O} {I = I}) s.views id v w at m.parts ∙ k.whole;
-          queue = λ n. let q = m.queue n in let was = k.queue n in omega (arith, sum_by-changed (has_ticket {O = O} {I = I} n) s.views id v w at);
           once = λ q. omega (arith, same_number q, k.once q);
           unnamed = λ q nonzero none_there.
               let was : sum_by (has_number q) s.views ≡ 0 = omega (arith, same_number q) in
@@ -99,7 +80,7 @@ module _ {S O I : Type 0} (origin : S → O) (entries : S → List I) (mark : I 
               (λ (else : (j ≢ id) × (get_elem? s.views j ≡ some u)). k.first j u else.1 has q above)
               (at_set s.views id j w u there);
           each = λ j u there.
-              let P : View O I → Type 0 = λ z. Fits {S = S} mark log (origin start) serving homes z in
+              let P : View O I → Type 0 = λ z. Fits mark log org z in
               ⊎_elim (λ (here : (j ≡ id) × (w ≡ u)). subst P here.1 m.fits)
               (λ (else : (j ≢ id) × (get_elem? s.views j ≡ some u)).
               let f = k.each j u else.1 in
@@ -108,7 +89,6 @@ module _ {S O I : Type 0} (origin : S → O) (entries : S → List I) (mark : I 
                 told = prefix_trans u.told k.log log f.told m.goes_on;
                 origin = f.origin;
                 made = AllMade-longer mark k.log log u.made (λ q nonzero has. m.others q nonzero (apart j u else.0 else.1 q has)) f.made;
-                few = f.few;
                 idle = f.idle;
                 holding = m.quiet j u else.0 else.1;
               })

@@ -1,6 +1,6 @@
--- What a turn does on the table keeps the rule: draw a ticket, take the value, announce the length, pass on.
-use Rattle.std.proofs.Common.{◌≡◌, ◌≢◌, ◌⊎◌, ◌==◌, ℕ, zero, suc, ◌+◌, ◌*◌, ◌%◌, ◌^◌, ◌<◌, cond, eqb, List, [], ◌∷◌, ◌++◌, length, drop, set, slice_index, slice_set, Option, Some, None, eq-eqb, refl, sym, ◌∙◌, ap, subst, inl, inr, ⊎_elim, arith}
-use mathlib.Core.Option.{some, none, some-injective, some-ne-none}
+-- What a turn does on the table keeps the rule: take the value, and give it back.
+use Rattle.std.proofs.Common.{◌≡◌, ◌≢◌, ◌==◌, ℕ, ◌<◌, cond, eqb, List, [], ◌∷◌, ◌++◌, length, drop, set, slice_index, slice_set, Option, Some, None, eq-eqb, refl, sym, ◌∙◌, ap, subst, arith}
+use mathlib.Core.Option.{some, none}
 use mathlib.Core.List.{IsPrefix, append-nil}
 use mathlib.Core.Logic.{dite}
 use native.Mathlib.Decide.{ℕ_discrete}
@@ -8,29 +8,18 @@ use prog.Atomic.{either}
 use lib.ListN.{get_elem?}
 use Rattle.std.proofs.lemmas.List.Sums.{sum_by-cons}
 use Rattle.atomic_table.specs.Table.{State, Step, Act, Allows, Valid, keeps, takes, gives, homes_after, carried_after, rest}
-use Rattle.atomic_table.proofs.Lists.{set_again, set_else, exchanged}
+use Rattle.atomic_table.proofs.Lists.{set_again, exchanged}
 use Rattle.fdp_base.specs.declared.recorded.Mark.{Mark}
 use Rattle.fdp_base.specs.Records.{carrying, CarriesOnly, longer}
 use Rattle.fdp_base.proofs.Records.{at-le-sum_by, two-le-sum_by, prefix_refl, prefix_trans, prefix_rest, nil-prefix, longer-prefix, prefix-longer, prefix-longer_second, carrying-only, carrying-append}
 use Rattle.fdp_lock.specs.declared.view.View.{View}
-use Rattle.fdp_lock.specs.declared.view.Stage.TheVariants.{Idle, Waiting, Holding}
-use Rattle.fdp_lock.specs.Rule.{one_if, ticket_in, parts, turns, has_ticket, has_number, AllMade, AtHome, IsOut, own}
-use Rattle.fdp_lock.specs.Steps.{Place, adds, drawing, holding, telling, resting, naming, learning, Finds, Draws, Serves, Tells, Passes, Names, Learns}
-use Rattle.fdp_lock.proofs.Moves.{times, turns_bounded, between-more, between-less, between-one, between-first, Keeps, Homes, after, Moves, moved}
+use Rattle.fdp_lock.specs.declared.view.Stage.TheVariants.{Idle, Holding}
+use Rattle.fdp_lock.specs.Rule.{turn_in, parts, has_turn, has_number, AllMade, own}
+use Rattle.fdp_lock.specs.Steps.{Place, adds, holding, telling, resting, naming, learning, Finds, Takes, Gives, Names, Learns}
+use Rattle.fdp_lock.proofs.Moves.{one_if, times, Keeps, Homes, after, Moves, moved}
 
-pub Idle-Holding : {A : Type 0} {t : ℕ} → Idle ≡ Holding t → A
+pub Idle-Holding : {A : Type 0} → Idle ≡ Holding → A
 Idle-Holding e = cc
-
-pub Waiting-Holding : {A : Type 0} {n t : ℕ} → Waiting n ≡ Holding t → A
-Waiting-Holding e = cc
-
-pub out-home : {A X : Type 0} {a : X} → some a ∷ [] ≡ none ∷ [] → A
-out-home e = cc
-
-pub placed : {A : Type 0} (l : List A) (i : ℕ) (v w : A) → get_elem? l i ≡ some v → get_elem? (set l i w) i ≡ some w
-placed [] i v w e = absurd (some-ne-none v (sym e))
-placed (x ∷ xs) zero v w e = refl
-placed (x ∷ xs) (suc i) v w e = placed xs i v w e
 
 pub one_here : (n : ℕ) → one_if (n == n) ≡ 1
 one_here n = ap one_if (eq-eqb n n refl)
@@ -54,6 +43,12 @@ same_value x y c e d = let both : Some x ≡ Some y = ap (slot_value None) (sym 
 pub taken_last : {S : Type 0} (y : S) (c : List (ℕ × S)) → c ≡ (0, y) ∷ [] → c ≡ (0, y) ∷ rest c
 taken_last y c e = e ∙ ap (λ (d : List (ℕ × _)). (0, y) ∷ rest d) (sym e)
 
+-- the one slot of a table
+one_slot : {A : Type 0} (hs : List A) (a : A) → length hs ≡ 1 → slice_set hs 0 a ≡ a ∷ []
+one_slot [] a e = absurd (omega arith)
+one_slot (h ∷ []) a e = refl
+one_slot (h ∷ g ∷ hs) a e = absurd (omega arith)
+
 -- the new entries go under their numbers
 module _ {I : Type 0} (mark : I → Mark) (new : List I) where
   times-adds : (q : ℕ) (ms : List (ℕ × List I)) → times q (adds mark new ms) ≡ times q ms
@@ -67,135 +62,68 @@ module _ {I : Type 0} (mark : I → Mark) (new : List I) where
   AllMade-adds log (m ∷ ms) made =
       (λ nonzero. carrying-append mark m.0 log new ∙ ap (λ (xs : List I). xs ++ carrying mark m.0 new) (made.0 nonzero), AllMade-adds log ms made.1)
 
-module _ {S O I : Type 0} (origin : S → O) (entries : S → List I) (mark : I → Mark) (start : S) (seats : ℕ) where
-  module _ (s : State (Option S) (View O I)) (k : Keeps origin entries mark start seats s) where
-    ticket_small : k.ticket < 281474976710656
-    ticket_small = omega (arith, k.drawn, turns_bounded s.views (λ j v at. (k.each j v at).few), k.whole, k.few)
-
-    unchanged : (id : ℕ) (v : View O I) → get_elem? s.views id ≡ some v → Keeps origin entries mark start seats (after origin entries mark start seats k.log k.ticket k.serving s.homes (set s.views id v))
+module _ {S O I : Type 0} (origin : S → O) (entries : S → List I) (mark : I → Mark) (org : O) (seats : ℕ) where
+  module _ (s : State (Option S) (View O I)) (k : Keeps origin entries mark org seats s) where
+    unchanged : (id : ℕ) (v : View O I) → get_elem? s.views id ≡ some v → Keeps origin entries mark org seats (after origin entries mark org seats k.taken s.homes (set s.views id v))
     unchanged id v at =
         let back : s.views ≡ set s.views id v = sym (set_again s.views id v at) in
-        let same : s ≡ after origin entries mark start seats k.log k.ticket k.serving s.homes (set s.views id v) = λ i. record { words = k.words i; homes = s.homes; views = back i } in
-        subst (Keeps origin entries mark start seats) same k
+        let same : s ≡ after origin entries mark org seats k.taken s.homes (set s.views id v) = λ i. record { words = k.words i; homes = s.homes; views = back i } in
+        subst (Keeps origin entries mark org seats) same k
 
-    -- a view that does not hold the turn may change
-    stays_home : (id : ℕ) (v w : View O I) → get_elem? s.views id ≡ some v → (v.stage ≡ Holding k.serving → ⊥)
-        → AtHome {I = I} origin entries k.log (origin start) s.homes ⊎ IsOut k.serving s.homes (set s.views id w)
-    stays_home id v w at free =
-        ⊎_elim (λ h. inl h)
-        (λ (h : IsOut k.serving s.homes s.views).
-        let ne : h.1.0 ≢ id = λ (e : h.1.0 ≡ id).
-        let same : v ≡ h.1.1 = some-injective v h.1.1 (sym at ∙ ap (get_elem? s.views) (sym e) ∙ h.1.2) in
-        free (ap (λ (z : View O I). z.stage) same ∙ h.1.3) in
-        inr (h.0, (h.1.0, h.1.1, set_else s.views id h.1.0 w ne ∙ h.1.2, h.1.3)))
-        k.home
+    -- one view at most has the turn
+    one_turn : (i j : ℕ) (v u : View O I) → i ≢ j → get_elem? s.views i ≡ some v → get_elem? s.views j ≡ some u → v.stage ≡ Holding → u.stage ≡ Holding → ⊥
+    one_turn i j v u ne at there mine theirs =
+        absurd (omega (arith, two-le-sum_by (has_turn {O = O} {I = I}) s.views i j v u ne at there, k.turn, k.one, ap turn_in mine, ap turn_in theirs))
 
-    -- a ticket that is served is in one view
-    one_served : (i j : ℕ) (v u : View O I) → i ≢ j → get_elem? s.views i ≡ some v → get_elem? s.views j ≡ some u → has_ticket k.serving v ≡ 1 → has_ticket k.serving u ≡ 1 → ⊥
-    one_served i j v u ne at there one two =
-        absurd (omega (arith, two-le-sum_by (has_ticket {O = O} {I = I} k.serving) s.views i j v u ne at there, k.queue k.serving, between-one k.serving k.serving k.ticket))
-
-    -- the value is at home where a seat waits for the turn that is served
-    home_awaits : (id : ℕ) (v : View O I) → get_elem? s.views id ≡ some v → v.stage ≡ Waiting k.serving → AtHome {I = I} origin entries k.log (origin start) s.homes
-    home_awaits id v at waits =
-        ⊎_elim (λ h. h)
-        (λ (h : IsOut k.serving s.homes s.views).
-        let ne : id ≢ h.1.0 = λ (e : id ≡ h.1.0).
-        let same : v ≡ h.1.1 = some-injective v h.1.1 (sym at ∙ ap (get_elem? s.views) e ∙ h.1.2) in
-        Waiting-Holding (sym waits ∙ ap (λ (z : View O I). z.stage) same ∙ h.1.3) in
-        absurd (one_served id h.1.0 v h.1.1 ne at h.1.2 (ap (ticket_in k.serving) waits ∙ one_here k.serving) (ap (ticket_in k.serving) h.1.3 ∙ one_here k.serving)))
-        k.home
-
-    -- a step that changes no word and no slot, of a seat that holds no turn
-    idle_moves : (id : ℕ) (v w : View O I) → get_elem? s.views id ≡ some v → v.stage ≡ Idle → w.stage ≡ Idle → w.parts ≡ v.parts → w.turns ≡ v.turns → w.given ≡ v.given → w.origin ≡ v.origin
-        → w.made ≡ v.made → IsPrefix w.seen k.log → IsPrefix w.told k.log → Moves origin entries mark start seats s k id v w k.log k.ticket k.serving s.homes
-    idle_moves id v w at idle idle_after parts turns given org made seen told =
+    -- a step that changes no word and no slot, of a seat that has no turn
+    idle_moves : (id : ℕ) (v w : View O I) → get_elem? s.views id ≡ some v → v.stage ≡ Idle → w.stage ≡ Idle → w.parts ≡ v.parts → w.given ≡ v.given → w.origin ≡ v.origin → w.made ≡ v.made → IsPrefix w.seen k.log → IsPrefix w.told k.log
+        → Moves origin entries mark org seats s k id v w k.log k.taken s.homes
+    idle_moves id v w at idle idle_after parts given origin_is made seen told =
         let f = k.each id v at in
         record {
           parts = parts;
-          turns = omega arith;
-          order = k.order;
+          turn = omega (arith, ap turn_in idle, ap turn_in idle_after);
+          one = k.one;
           numbers = λ q. ap (times q) made;
           given = given;
-          queue = λ n. omega (arith, ap (ticket_in n) idle, ap (ticket_in n) idle_after);
           goes_on = prefix_refl k.log;
           others = λ q nonzero none_there. refl;
           fits = record {
             seen = seen;
             told = told;
-            origin = λ some_part. org ∙ f.origin (omega arith);
+            origin = λ some_part. origin_is ∙ f.origin (omega arith);
             made = subst (AllMade mark k.log) (sym made) f.made;
-            few = (let b = f.few in omega (arith, ap (λ (n : ℕ). n * 1099511627776) parts));
             idle = λ none_there. (made ∙ (f.idle (sym parts ∙ none_there)).0, idle_after);
-            holding = λ t e. Idle-Holding (sym idle_after ∙ e);
+            holding = λ e. Idle-Holding (sym idle_after ∙ e);
           };
-          quiet = λ j u ne there t e. (k.each j u there).holding t e;
-          home = stays_home id v w at (λ e. Idle-Holding (sym idle ∙ e));
+          quiet = λ j u ne there. (k.each j u there).holding;
+          home = k.home;
         }
 
   -- what a step gives, of a state with these words
-  abbrev Gives : (id : ℕ) (me : Place S O I) (word : ℕ) (f : ℕ → ℕ) (then : ℕ → Place S O I → Type 0) → State (Option S) (View O I) → List ℕ → Type 0
-  Gives id me word f then s ws = (x : View O I) × (a : Act (Option S)) × Valid s.homes me.1 a
-      × Keeps origin entries mark start seats record { words = slice_set ws word (f (slice_index ws word)); homes = homes_after s.homes me.1 a; views = slice_set s.views id x }
-      × then (slice_index ws word) (x, carried_after me.1 a)
+  abbrev Permits : (id : ℕ) (me : Place S O I) (f : ℕ → ℕ) (then : ℕ → Place S O I → Type 0) → State (Option S) (View O I) → List ℕ → Type 0
+  Permits id me f then s ws = (x : View O I) × (a : Act (Option S)) × Valid s.homes me.1 a
+      × Keeps origin entries mark org seats record { words = slice_set ws 0 (f (slice_index ws 0)); homes = homes_after s.homes me.1 a; views = slice_set s.views id x }
+      × then (slice_index ws 0) (x, carried_after me.1 a)
 
-  -- a seat draws the next ticket
-  pub draws : (slots id : ℕ) (me : Place S O I) (st : Step (Option S)) → me.0.stage ≡ Idle → 0 < me.0.parts → me.0.turns < 1099511627776
-      → Allows (Keeps origin entries mark start seats) slots id me 1 (λ n. (n + 1) % 2 ^ 64) (Draws st me)
-  draws slots id me st idle some_part few s k slots_are at small =
-      let v : View O I = me.0 in
-      let w : View O I = drawing k.ticket v in
-      let f = k.each id v at in
-      let no_ticket : (n : ℕ) → has_ticket n v ≡ 0 = λ n. ap (ticket_in n) idle in
-      let m : Moves origin entries mark start seats s k id v w k.log (k.ticket + 1) k.serving s.homes = record {
-        parts = refl;
-        turns = omega arith;
-        order = omega (arith, k.order);
-        numbers = λ q. refl;
-        given = refl;
-        queue = λ n. omega (arith, between-more n k.serving k.ticket k.order, no_ticket n);
-        goes_on = prefix_refl k.log;
-        others = λ q nonzero none_there. refl;
-        fits = record {
-          seen = f.seen;
-          told = f.told;
-          origin = f.origin;
-          made = f.made;
-          few = omega arith;
-          idle = λ none_there. absurd (omega arith);
-          holding = λ t e. Waiting-Holding e;
-        };
-        quiet = λ j u ne there t e. (k.each j u there).holding t e;
-        home = stays_home s k id v w at (λ e. Idle-Holding (sym idle ∙ e));
-      } in
-      let done = moved origin entries mark start seats s k id v w at k.log (k.ticket + 1) k.serving s.homes m in
-      let next : (k.ticket + 1) % 2 ^ 64 ≡ k.ticket + 1 = (let b = ticket_small s k in omega arith) in
-      let R : ℕ → Type 0 = λ n. Keeps origin entries mark start seats record { words = length k.log ∷ n ∷ k.serving ∷ []; homes = s.homes; views = set s.views id w } in
-      let P : List ℕ → Type 0 = Gives id me 1 (λ n. (n + 1) % 2 ^ 64) (Draws st me) s in
-      subst P (sym k.words) (w, keeps, tt, subst R (sym next) done, refl)
-
-  -- a seat that waits looks which ticket is served, and takes the value where it is its own
-  pub serves : (slots id : ℕ) (me : Place S O I) (st : Step (Option S)) (t : ℕ) → me.0.stage ≡ Waiting t → me.1 ≡ [] → 0 < me.0.parts
-      → Allows (Keeps origin entries mark start seats) slots id me 2 (λ n. n) (Serves origin entries mark st me)
-  serves slots id me st t waits empty some_part s k slots_are at small =
+  -- a seat takes the value where it is at home
+  pub may_take : (slots id : ℕ) (me : Place S O I) (st : Step (Option S)) → me.0.stage ≡ Idle → 0 < me.0.parts → Allows (Keeps origin entries mark org seats) slots id me 0 (λ _. 1) (Takes origin entries mark st me)
+  may_take slots id me st idle some_part s k slots_are at small =
       let v : View O I = me.0 in
       let f = k.each id v at in
-      let P : List ℕ → Type 0 = Gives id me 2 (λ n. n) (Serves origin entries mark st me) s in
-      let own_ticket : (n : ℕ) → v.stage ≡ Waiting n → t ≡ n = λ n e. (let both : Waiting t ≡ Waiting n = sym waits ∙ e in cc) in
+      let P : List ℕ → Type 0 = Permits id me (λ _. 1) (Takes origin entries mark st me) s in
       subst P (sym k.words)
-      (dite (ℕ_discrete k.serving t)
-      (λ (e : k.serving ≡ t).
-      let h = home_awaits s k id v at (waits ∙ ap (λ (n : ℕ). Waiting n) (sym e)) in
+      (dite (ℕ_discrete k.taken 0)
+      (λ (e : k.taken ≡ 0).
+      let h = k.home e in
       let x : S = h.0 in
-      let w : View O I = holding t (entries x) v in
-      let ticket : (n : ℕ) → has_ticket n w ≡ has_ticket n v = λ n. sym (ap (ticket_in n) waits) in
-      let m : Moves origin entries mark start seats s k id v w k.log k.ticket k.serving (none ∷ []) = record {
+      let w : View O I = holding (entries x) v in
+      let m : Moves origin entries mark org seats s k id v w k.log 1 (none ∷ []) = record {
         parts = refl;
-        turns = omega arith;
-        order = k.order;
+        turn = omega (arith, e, ap turn_in idle);
+        one = omega arith;
         numbers = λ q. refl;
         given = refl;
-        queue = λ n. omega (arith, ticket n);
         goes_on = prefix_refl k.log;
         others = λ q nonzero none_there. refl;
         fits = record {
@@ -203,52 +131,45 @@ module _ {S O I : Type 0} (origin : S → O) (entries : S → List I) (mark : I 
           told = f.told;
           origin = f.origin;
           made = f.made;
-          few = f.few;
           idle = λ none_there. absurd (omega arith);
-          holding = λ n g. (let both : Holding t ≡ Holding n = g in let same : n ≡ t = cc in same ∙ sym e, refl, h.2);
+          holding = λ _. h.2;
         };
-        quiet = λ j u ne there n g.
-            out-home (sym h.1 ∙ ((k.each j u there).holding n g).1);
-        home = inr (refl, (id, w, placed s.views id v w at, ap (λ (n : ℕ). Holding n) (sym e)));
+        quiet = λ j u ne there. (k.each j u there).holding;
+        home = λ out. absurd (omega arith);
       } in
-      let done = moved origin entries mark start seats s k id v w at k.log k.ticket k.serving (none ∷ []) m in
+      let done = moved origin entries mark org seats s k id v w at k.log 1 (none ∷ []) m in
       let taken : slice_set s.homes 0 none ≡ none ∷ [] = ap (λ hs. slice_set hs 0 none) h.1 in
-      let R : Homes origin entries mark start seats → Type 0 = λ hs. Keeps origin entries mark start seats record { words = length k.log ∷ k.ticket ∷ k.serving ∷ []; homes = hs; views = set s.views id w } in
+      let R : Homes origin entries mark org seats → Type 0 = λ hs. Keeps origin entries mark org seats record { words = 1 ∷ []; homes = hs; views = set s.views id w } in
       let finds : Finds origin entries mark x v = record {
         seen = subst (λ (xs : List I). IsPrefix v.seen xs) (sym h.2) f.seen;
         made = subst (λ (xs : List I). AllMade mark xs v.made) (sym h.2) f.made;
         origin_is = f.origin some_part ∙ ap (λ (o : O). Some o) (sym h.3);
-      } in (
-        w,
-        takes 0 (Some x),
-        ap (λ hs. get_elem? hs 0) h.1,
-        subst R (sym taken) done,
-        λ n g. (λ r. (x, λ i. (holding (own_ticket n g i) (entries x) v, (0, Some x) ∷ empty i), finds), λ ne. absurd (ne (e ∙ own_ticket n g))),
-      ))
-      (λ (ne : k.serving ≢ t). (v, keeps, tt, unchanged s k id v at, λ n g. (λ r. absurd (ne (r ∙ sym (own_ticket n g))), λ r. refl))))
+      } in (w, takes 0 (Some x), ap (λ hs. get_elem? hs 0) h.1, subst R (sym taken) done, (λ r. (x, refl, finds), λ ne. absurd (ne e))))
+      (λ (ne : k.taken ≢ 0).
+      let out : k.taken ≡ 1 = omega (arith, k.one) in
+      let R : ℕ → Type 0 = λ n. Keeps origin entries mark org seats record { words = n ∷ []; homes = s.homes; views = set s.views id v } in
+      (v, keeps, tt, subst R out (unchanged s k id v at), (λ r. absurd (ne r), λ r. refl))))
 
-  -- a seat that holds the value announces the length of its record, to which it added entries with its own number or 0
-  pub tells : (slots id : ℕ) (me : Place S O I) (st : Step (Option S)) (t number announced : ℕ) (x : S) → me.0.stage ≡ Holding t → me.1 ≡ (0, Some x) ∷ [] → announced ≡ length (entries x)
-      → me.0.made ≡ (number, own me.0.made) ∷ [] → 0 < me.0.parts → IsPrefix me.0.seen (entries x) → CarriesOnly mark number (drop (length me.0.seen) (entries x))
-      → Allows (Keeps origin entries mark start seats) slots id me 0 (λ _. announced) (λ _. Tells entries mark st me announced)
-  tells slots id me st t number announced x holds out is_length numbered some_part longer only s k slots_are at small =
+  -- a seat gives the value back, to which it added entries with its own number or 0
+  pub may_give : (slots id : ℕ) (me : Place S O I) (st : Step (Option S)) (number : ℕ) (x : S) → slots ≡ 1 → me.0.stage ≡ Holding → me.1 ≡ (0, Some x) ∷ [] → me.0.made ≡ (number, own me.0.made) ∷ [] → 0 < me.0.parts
+      → me.0.origin ≡ Some (origin x) → IsPrefix me.0.seen (entries x) → CarriesOnly mark number (drop (length me.0.seen) (entries x)) → Allows (Keeps origin entries mark org seats) slots id me 0 (λ _. 0) (λ _. Gives entries mark st me 0)
+  may_give slots id me st number x one_is holds out numbered some_part same_origin longer only s k slots_are at small =
       let v : View O I = me.0 in
       let f = k.each id v at in
       let log : List I = entries x in
       let new : List I = drop (length v.seen) log in
-      let w : View O I = telling mark log v in
-      let turn = f.holding t holds in
+      let w : View O I = resting (telling mark log v) in
       let whole : v.seen ++ new ≡ log = prefix_rest v.seen log longer in
-      let split : k.log ++ new ≡ log = ap (λ (xs : List I). xs ++ new) (sym turn.2) ∙ whole in
+      let split : k.log ++ new ≡ log = ap (λ (xs : List I). xs ++ new) (sym (f.holding holds)) ∙ whole in
       let mine : 0 < has_number number v = has_own number v.made numbered in
-      let one : has_ticket k.serving v ≡ 1 = ap (ticket_in k.serving) (holds ∙ ap (λ (n : ℕ). Holding n) turn.0) ∙ one_here k.serving in
-      let m : Moves origin entries mark start seats s k id v w log k.ticket k.serving (none ∷ []) = record {
+      let org_is : origin x ≡ org = (let both : Some (origin x) ≡ Some org = sym same_origin ∙ f.origin some_part in cc) in
+      let home : Homes origin entries mark org seats = some (Some x) ∷ [] in
+      let m : Moves origin entries mark org seats s k id v w log 0 home = record {
         parts = refl;
-        turns = omega arith;
-        order = k.order;
+        turn = omega (arith, at-le-sum_by (has_turn {O = O} {I = I}) s.views id v at, k.turn, k.one, ap turn_in holds);
+        one = omega arith;
         numbers = λ q. times-adds mark new q v.made;
         given = refl;
-        queue = λ n. refl;
         goes_on = (new, split);
         others = λ q nonzero none_there.
             let ne : q ≢ number = λ (e : q ≡ number). absurd (omega (arith, ap (λ (n : ℕ). has_number n v) e)) in
@@ -258,111 +179,51 @@ module _ {S O I : Type 0} (origin : S → O) (entries : S → List I) (mark : I 
           told = prefix_trans v.told k.log log f.told (new, split);
           origin = f.origin;
           made = subst (λ (xs : List I). AllMade mark xs (adds mark new v.made)) split (AllMade-adds mark new k.log v.made f.made);
-          few = f.few;
           idle = λ none_there. absurd (omega arith);
-          holding = λ n e. (let both : Holding t ≡ Holding n = sym holds ∙ e in let same : n ≡ t = cc in same ∙ turn.0, refl, refl);
+          holding = λ e. Idle-Holding e;
         };
-        quiet = λ j u ne there n e.
-            let theirs = (k.each j u there).holding n e in
-            absurd (one_served s k id j v u (λ (same : id ≡ j). ne (sym same)) at there one (ap (ticket_in k.serving) (e ∙ ap (λ (z : ℕ). Holding z) theirs.0) ∙ one_here k.serving));
-        home = inr (refl, (id, w, placed s.views id v w at, holds ∙ ap (λ (n : ℕ). Holding n) turn.0));
+        quiet = λ j u ne there e. absurd (one_turn s k id j v u (λ (same : id ≡ j). ne (sym same)) at there holds e);
+        home = λ _. (x, refl, refl, org_is);
       } in
-      let done = moved origin entries mark start seats s k id v w at log k.ticket k.serving (none ∷ []) m in
-      let R : ℕ → Homes origin entries mark start seats → Type 0 = λ n hs. Keeps origin entries mark start seats record { words = n ∷ k.ticket ∷ k.serving ∷ []; homes = hs; views = set s.views id w } in
-      let P : List ℕ → Type 0 = Gives id me 0 (λ _. announced) (λ _. Tells entries mark st me announced) s in
-      subst P (sym k.words) (
-        w,
-        keeps,
-        tt,
-        subst (λ (n : ℕ). R n s.homes) (sym is_length) (subst (λ (hs : Homes origin entries mark start seats). R (length log) hs) (sym turn.1) done),
-        λ y e. let same : x ≡ y = same_value x y me.1 out e in λ i. (telling mark (entries (same i)) v, me.1),
-      )
-
-  -- a seat that has announced the length gives the value back, and the next ticket is served
-  pub passes : (slots id : ℕ) (me : Place S O I) (st : Step (Option S)) (t : ℕ) (x : S) → me.0.stage ≡ Holding t → me.1 ≡ (0, Some x) ∷ [] → 0 < me.0.parts → me.0.seen ≡ entries x → me.0.origin ≡ Some (origin x)
-      → Allows (Keeps origin entries mark start seats) slots id me 2 (λ n. (n + 1) % 2 ^ 64) (Passes st me)
-  passes slots id me st t x holds out some_part seen org s k slots_are at small =
-      let v : View O I = me.0 in
-      let f = k.each id v at in
-      let w : View O I = resting v in
-      let turn = f.holding t holds in
-      let holds_served : v.stage ≡ Holding k.serving = holds ∙ ap (λ (n : ℕ). Holding n) turn.0 in
-      let one : has_ticket k.serving v ≡ 1 = ap (ticket_in k.serving) holds_served ∙ one_here k.serving in
-      let more : k.serving < k.ticket = between-first k.serving k.ticket (omega (arith, at-le-sum_by (has_ticket {O = O} {I = I} k.serving) s.views id v at, k.queue k.serving)) in
-      let same_origin : origin x ≡ origin start = (let both : Some (origin x) ≡ Some (origin start) = sym org ∙ f.origin some_part in cc) in
-      let home : Homes origin entries mark start seats = some (Some x) ∷ [] in
-      let m : Moves origin entries mark start seats s k id v w k.log k.ticket (k.serving + 1) home = record {
-        parts = refl;
-        turns = omega arith;
-        order = omega arith;
-        numbers = λ q. refl;
-        given = refl;
-        queue = λ n. omega (arith, between-less n k.serving k.ticket more, ap (ticket_in n) holds_served);
-        goes_on = prefix_refl k.log;
-        others = λ q nonzero none_there. refl;
-        fits = record {
-          seen = f.seen;
-          told = f.told;
-          origin = f.origin;
-          made = f.made;
-          few = f.few;
-          idle = λ none_there. absurd (omega arith);
-          holding = λ n e. Idle-Holding e;
-        };
-        quiet = λ j u ne there n e.
-            let theirs = (k.each j u there).holding n e in
-            absurd (one_served s k id j v u (λ (same : id ≡ j). ne (sym same)) at there one (ap (ticket_in k.serving) (e ∙ ap (λ (z : ℕ). Holding z) theirs.0) ∙ one_here k.serving));
-        home = inl (x, refl, sym seen ∙ turn.2, same_origin);
-      } in
-      let done = moved origin entries mark start seats s k id v w at k.log k.ticket (k.serving + 1) home m in
-      let back : homes_after s.homes me.1 gives ≡ home = λ i. homes_after (turn.1 i) (out i) gives in
-      let next : (k.serving + 1) % 2 ^ 64 ≡ k.serving + 1 = (let b = ticket_small s k in omega arith) in
-      let R : ℕ → Homes origin entries mark start seats → Type 0 = λ n hs. Keeps origin entries mark start seats record { words = length k.log ∷ k.ticket ∷ n ∷ []; homes = hs; views = set s.views id w } in
-      let P : List ℕ → Type 0 = Gives id me 2 (λ n. (n + 1) % 2 ^ 64) (Passes st me) s in
+      let done = moved origin entries mark org seats s k id v w at log 0 home m in
+      let back : homes_after s.homes me.1 gives ≡ home = (λ i. homes_after s.homes (out i) gives) ∙ one_slot s.homes (some (Some x)) (slots_are ∙ one_is) in
+      let R : Homes origin entries mark org seats → Type 0 = λ hs. Keeps origin entries mark org seats record { words = 0 ∷ []; homes = hs; views = set s.views id w } in
+      let P : List ℕ → Type 0 = Permits id me (λ _. 0) (λ _. Gives entries mark st me 0) s in
       subst P (sym k.words) (
         w,
         gives,
         tt,
-        subst (λ (n : ℕ). R n (homes_after s.homes me.1 gives)) (sym next) (subst (λ (hs : Homes origin entries mark start seats). R (k.serving + 1) hs) (sym back) done),
-        λ i. (w, carried_after (out i) gives),
+        subst R (sym back) done,
+        λ y e. let same : x ≡ y = same_value x y me.1 out e in λ i. (resting (telling mark (entries (same i)) v), rest (out i)),
       )
 
-  -- both, of the seat that has just put the value back into its slot
-  pub tells_after : (slots id : ℕ) (v : View O I) (me : Place S O I) (st : Step (Option S)) (t number announced : ℕ) (x : S) → me ≡ (v, (0, Some x) ∷ []) → v.stage ≡ Holding t → announced ≡ length (entries x)
-      → v.made ≡ (number, own v.made) ∷ [] → 0 < v.parts → IsPrefix v.seen (entries x) → CarriesOnly mark number (drop (length v.seen) (entries x))
-      → Allows (Keeps origin entries mark start seats) slots id me 0 (λ _. announced) (λ _. Tells entries mark st me announced)
-  tells_after slots id v me st t number announced x put holds is_length numbered some_part longer only =
-      let P : Place S O I → Type 0 = λ m. Allows (Keeps origin entries mark start seats) slots id m 0 (λ _. announced) (λ _. Tells entries mark st m announced) in
-      subst P (sym put) (tells slots id (v, (0, Some x) ∷ []) st t number announced x holds refl is_length numbered some_part longer only)
-
-  pub passes_after : (slots id : ℕ) (v : View O I) (me : Place S O I) (st : Step (Option S)) (t : ℕ) (x : S) → me ≡ (telling mark (entries x) v, (0, Some x) ∷ []) → v.stage ≡ Holding t → 0 < v.parts → v.origin ≡ Some (origin x)
-      → Allows (Keeps origin entries mark start seats) slots id me 2 (λ n. (n + 1) % 2 ^ 64) (Passes st me)
-  passes_after slots id v me st t x told holds some_part org =
-      let P : Place S O I → Type 0 = λ m. Allows (Keeps origin entries mark start seats) slots id m 2 (λ n. (n + 1) % 2 ^ 64) (Passes st m) in
-      subst P (sym told) (passes slots id (telling mark (entries x) v, (0, Some x) ∷ []) st t x holds refl some_part refl org)
+  -- the same, of the seat that has just put the value back into its slot
+  pub may_give_after : (slots id : ℕ) (v : View O I) (me : Place S O I) (st : Step (Option S)) (number : ℕ) (x : S) → slots ≡ 1 → me ≡ (v, (0, Some x) ∷ []) → v.stage ≡ Holding → v.made ≡ (number, own v.made) ∷ [] → 0 < v.parts
+      → v.origin ≡ Some (origin x) → IsPrefix v.seen (entries x) → CarriesOnly mark number (drop (length v.seen) (entries x)) → Allows (Keeps origin entries mark org seats) slots id me 0 (λ _. 0) (λ _. Gives entries mark st me 0)
+  may_give_after slots id v me st number x one_is put holds numbered some_part same_origin longer only =
+      let P : Place S O I → Type 0 = λ m. Allows (Keeps origin entries mark org seats) slots id m 0 (λ _. 0) (λ _. Gives entries mark st m 0) in
+      subst P (sym put) (may_give slots id (v, (0, Some x) ∷ []) st number x one_is holds refl numbered some_part same_origin longer only)
 
   -- a seat says which number it gives next
-  pub names : (slots id : ℕ) (me : Place S O I) (st : Step (Option S)) (q : ℕ) → me.0.stage ≡ Idle
-      → Allows (Keeps origin entries mark start seats) slots id me 0 (λ n. either (n == q) q n) (Names st me)
+  pub names : (slots id : ℕ) (me : Place S O I) (st : Step (Option S)) (q : ℕ) → me.0.stage ≡ Idle → Allows (Keeps origin entries mark org seats) slots id me 0 (λ n. either (n == q) q n) (Names st me)
   names slots id me st q idle s k slots_are at small =
       let v : View O I = me.0 in
       let f = k.each id v at in
       let w : View O I = naming st.first v in
-      let m = idle_moves s k id v w at idle idle refl refl refl refl refl f.seen f.told in
-      let done = moved origin entries mark start seats s k id v w at k.log k.ticket k.serving s.homes m in
+      let m = idle_moves s k id v w at idle idle refl refl refl refl f.seen f.told in
+      let done = moved origin entries mark org seats s k id v w at k.log k.taken s.homes m in
       let same : (n : ℕ) → either (n == q) q n ≡ n = λ n. exchanged n q q (λ z. z ≡ n) (λ e. sym e) (λ _. refl) in
-      let R : ℕ → Type 0 = λ n. Keeps origin entries mark start seats record { words = n ∷ k.ticket ∷ k.serving ∷ []; homes = s.homes; views = set s.views id w } in
-      let P : List ℕ → Type 0 = Gives id me 0 (λ n. either (n == q) q n) (Names st me) s in
-      subst P (sym k.words) (w, keeps, tt, subst R (sym (same (length k.log))) done, refl)
+      let R : ℕ → Type 0 = λ n. Keeps origin entries mark org seats record { words = n ∷ []; homes = s.homes; views = set s.views id w } in
+      let P : List ℕ → Type 0 = Permits id me (λ n. either (n == q) q n) (Names st me) s in
+      subst P (sym k.words) (w, keeps, tt, subst R (sym (same k.taken)) done, refl)
 
   -- a seat compares what it has seen with what it was told
-  pub learns : (slots id : ℕ) (me : Place S O I) (st : Step (Option S)) → me.0.stage ≡ Idle
-      → Allows (Keeps origin entries mark start seats) slots id me 0 (λ n. n) (Learns st me)
+  pub learns : (slots id : ℕ) (me : Place S O I) (st : Step (Option S)) → me.0.stage ≡ Idle → Allows (Keeps origin entries mark org seats) slots id me 0 (λ n. n) (Learns st me)
   learns slots id me st idle s k slots_are at small =
       let v : View O I = me.0 in
       let f = k.each id v at in
       let w : View O I = learning v in
-      let m = idle_moves s k id v w at idle idle refl refl refl refl refl (longer-prefix v.seen v.told k.log f.seen f.told) (nil-prefix k.log) in
-      let done = moved origin entries mark start seats s k id v w at k.log k.ticket k.serving s.homes m in
-      let P : List ℕ → Type 0 = Gives id me 0 (λ n. n) (Learns st me) s in
+      let m = idle_moves s k id v w at idle idle refl refl refl refl (longer-prefix v.seen v.told k.log f.seen f.told) (nil-prefix k.log) in
+      let done = moved origin entries mark org seats s k id v w at k.log k.taken s.homes m in
+      let P : List ℕ → Type 0 = Permits id me (λ n. n) (Learns st me) s in
       subst P (sym k.words) (w, keeps, tt, done, (refl, prefix-longer v.seen v.told k.log f.seen f.told, prefix-longer_second v.seen v.told k.log f.seen f.told))

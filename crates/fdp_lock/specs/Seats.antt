@@ -39,7 +39,7 @@ module _ {S O I : Type 0} {g : _} where
   HoldsNoTurn s = (s.token.me.0.stage ≡ Idle) × (s.token.me.1 ≡ [])
 
   abbrev pub HoldsTurn : Seat S O I g → Type 0
-  HoldsTurn s = (n : ℕ) × (s.token.me.0.stage ≡ Holding n) × (s.token.me.1 ≡ (0, None) ∷ [])
+  HoldsTurn s = (s.token.me.0.stage ≡ Holding) × (s.token.me.1 ≡ (0, None) ∷ [])
 
 -- how many parts the seats of the lock have together
 abbrev pub seats_of : {S O I : Type 0} → GroupLock S O I → ℕ

@@ -5,7 +5,7 @@ use Rattle.atomic_table.specs.Table.{Me, Step}
 use Rattle.fdp_base.specs.declared.recorded.Mark.{Mark}
 use Rattle.fdp_base.specs.Records.{carrying, longer}
 use Rattle.fdp_lock.specs.declared.view.View.{View}
-use Rattle.fdp_lock.specs.declared.view.Stage.TheVariants.{Idle, Waiting, Holding}
+use Rattle.fdp_lock.specs.declared.view.Stage.TheVariants.{Idle, Holding}
 use Rattle.fdp_lock.specs.Rule.{AllMade}
 
 abbrev pub Place : Type 0 → Type 0 → Type 0 → Type 0
@@ -16,11 +16,8 @@ abbrev pub adds : {I : Type 0} → (I → Mark) → List I → List (ℕ × List
 adds mark new ms = map (λ m. (m.0, m.1 ++ carrying mark m.0 new)) ms
 
 module _ {O I : Type 0} where
-  abbrev pub drawing : ℕ → View O I → View O I
-  drawing t v = record v { stage = Waiting t; turns = v.turns + 1 }
-
-  abbrev pub holding : ℕ → List I → View O I → View O I
-  holding t log v = record v { stage = Holding t; seen = log }
+  abbrev pub holding : List I → View O I → View O I
+  holding log v = record v { stage = Holding; seen = log }
 
   abbrev pub telling : (I → Mark) → List I → View O I → View O I
   telling mark log v = record v { seen = log; made = adds mark (drop (length v.seen) log) v.made }
@@ -39,17 +36,17 @@ module _ {O I : Type 0} where
   giver v = record v { parts = v.parts - 1; given = v.next }
 
   abbrev pub newcomer : View O I → View O I
-  newcomer v = record { stage = Idle; parts = 1; turns = 0; given = 0; next = 0; origin = v.origin; seen = v.seen; told = []; made = (v.next, []) ∷ [] }
+  newcomer v = record { stage = Idle; parts = 1; given = 0; next = 0; origin = v.origin; seen = v.seen; told = []; made = (v.next, []) ∷ [] }
 
   -- what a seat tells another
   abbrev pub note : View O I → View O I
-  note v = record { stage = Idle; parts = 0; turns = 0; given = 0; next = 0; origin = None; seen = v.seen; told = []; made = [] }
+  note v = record { stage = Idle; parts = 0; given = 0; next = 0; origin = None; seen = v.seen; told = []; made = [] }
 
   abbrev pub spent : View O I
-  spent = record { stage = Idle; parts = 0; turns = 0; given = 0; next = 0; origin = None; seen = []; told = []; made = [] }
+  spent = record { stage = Idle; parts = 0; given = 0; next = 0; origin = None; seen = []; told = []; made = [] }
 
   abbrev pub joined : View O I → View O I → View O I
-  joined v w = record v { parts = v.parts + w.parts; turns = v.turns + w.turns; given = v.given + w.given; told = w.seen; made = w.made ++ v.made }
+  joined v w = record v { parts = v.parts + w.parts; given = v.given + w.given; told = w.seen; made = w.made ++ v.made }
 
 -- the value goes on from all that was seen, and has of each number just the entries that were made
 pub record Finds {S O I : Type 0} (origin : S → O) (entries : S → List I) (mark : I → Mark) (x : S) (v : View O I) : Type 0 where
@@ -59,19 +56,12 @@ pub record Finds {S O I : Type 0} (origin : S → O) (entries : S → List I) (m
 
 -- of each step: the seat before, the number found and the seat after
 module _ {S O I : Type 0} where
-  abbrev pub Draws : Step (Option S) → Place S O I → ℕ → Place S O I → Type 0
-  Draws st m r n = n ≡ (drawing r m.0, m.1)
+  -- the value was at home, and the seat has it; or it was out
+  abbrev pub Takes : (S → O) → (S → List I) → (I → Mark) → Step (Option S) → Place S O I → ℕ → Place S O I → Type 0
+  Takes origin entries mark st m r n = (r ≡ 0 → (x : S) × (n ≡ (holding (entries x) m.0, (0, Some x) ∷ m.1)) × Finds origin entries mark x m.0) × (r ≢ 0 → n ≡ m)
 
-  -- the turn came, and the seat has the value; or another ticket is served
-  abbrev pub Serves : (S → O) → (S → List I) → (I → Mark) → Step (Option S) → Place S O I → ℕ → Place S O I → Type 0
-  Serves origin entries mark st m r n = (t : ℕ) → m.0.stage ≡ Waiting t
-      → (r ≡ t → (x : S) × (n ≡ (holding t (entries x) m.0, (0, Some x) ∷ [])) × Finds origin entries mark x m.0) × (r ≢ t → n ≡ m)
-
-  abbrev pub Tells : (S → List I) → (I → Mark) → Step (Option S) → Place S O I → ℕ → Place S O I → Type 0
-  Tells entries mark st m r n = (x : S) → m.1 ≡ (0, Some x) ∷ [] → n ≡ (telling mark (entries x) m.0, m.1)
-
-  abbrev pub Passes : Step (Option S) → Place S O I → ℕ → Place S O I → Type 0
-  Passes st m r n = n ≡ (resting m.0, [])
+  abbrev pub Gives : (S → List I) → (I → Mark) → Step (Option S) → Place S O I → ℕ → Place S O I → Type 0
+  Gives entries mark st m r n = (x : S) → m.1 ≡ (0, Some x) ∷ [] → n ≡ (resting (telling mark (entries x) m.0), [])
 
   abbrev pub Names : Step (Option S) → Place S O I → ℕ → Place S O I → Type 0
   Names st m r n = n ≡ (naming st.first m.0, m.1)

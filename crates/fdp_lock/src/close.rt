@@ -3,7 +3,7 @@ ghost use Rattle.std.specs.Prelude.{◌≡◌, ◌≢◌, ℕ, ◌<◌, [], sum_
 ghost use mathlib.Core.List.{IsPrefix};
 ghost use Rattle.fdp_base.specs.Records.{carrying};
 
-use crate::lock::{GroupLock, LENGTH};
+use crate::lock::{GroupLock, TAKEN};
 use crate::plays::{Both, Learn};
 use crate::seat::Seat;
 use crate::view::{Stage, Token};
@@ -34,6 +34,7 @@ impl<V: Recorded> GroupLock<V> {
         ensures gathered { Gathered V.mark self.now.table.shared.table_id (lock_origin V.origin self.now) seats.items result }
     {
         let Some(last) = seats.pop() else {
+            // All seats come back, and there is one at least.
             unreachable!()
         };
         let Seat { mut token, .. } = last;
@@ -53,7 +54,7 @@ impl<V: Recorded> GroupLock<V> {
         ensures seen { IsPrefix token.old.me.0.seen token.new.me.0.seen × IsPrefix other.me.0.seen token.new.me.0.seen }
     {
         self.table.shared.join_seat::<Both>(token, other);
-        self.table.shared.load::<Learn>(token, LENGTH);
+        self.table.shared.load::<Learn>(token, TAKEN);
     }
 
     fn unlock(self, token: Token<V>) -> V
@@ -62,12 +63,13 @@ impl<V: Recorded> GroupLock<V> {
         requires all_parts { token.me.0.parts ≡ seats_of self }
         ensures { Ends V.origin V.entries V.mark token.me.0 result }
     {
-        let GroupLock { table } = self;
+        let GroupLock { gate: _, table } = self;
         let mut closed = table.close_with(token);
         let value = closed.take(0);
         closed.free();
         match value {
             Some(value) => value,
+            // No seat is out, so the value is at home.
             None => unreachable!(),
         }
     }

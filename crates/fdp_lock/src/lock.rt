@@ -2,33 +2,27 @@ ghost use Rattle.std.specs.Prelude.{◌≡◌, ◌≢◌, ℕ, ◌+◌, ◌^◌,
 ghost use mathlib.Core.List.{IsPrefix};
 ghost use Rattle.fdp_base.specs.Records.{carrying, CarriesNone, CarriesOnly};
 
-use crate::plays::{Draw, PassOn, Serve, Tell};
+use crate::plays::{Give, Take};
 use crate::seat::Seat;
 use crate::turn::Turn;
-use crate::view::{About, Stage, Ticketed, Token, View};
+use crate::view::{About, OneTurn, Stage, Token, View};
 use atomic_table::{Refused, Table};
 use fdp_base::Recorded;
 use std::alloc::Global;
 use std::snapshot::Snapshot;
-use std::sync::Wait;
+use std::sync::{Mutex, Wait};
 use std::thread;
 
-// Words of the table.
-pub(crate) const LENGTH: usize = 0;
+// The word of the table: 1 while the value is out, and else 0.
+pub(crate) const TAKEN: usize = 0;
 
-const TICKET: usize = 1;
-
-const SERVING: usize = 2;
-
-// After so many looks, each with a yield of the processor, a seat sleeps: a sleeper costs two calls of the system.
-const LOOKS: u32 = 20;
-
-/// A lock of turns over a value that records. A turn hands out the value to one seat at a time, in the order in which
-/// the seats drew their tickets.
+/// A lock of turns over a value that records. A turn hands out the value to one seat at a time. Seats wait before a
+/// gate, which lets the thread that runs go on; so turns have no order.
 #[derive(Drop)]
 pub struct GroupLock<V: Recorded> {
-    pub(crate) table: Table<Option<V>, View<V::Origin, V::Item>, About<V>, Ticketed, Global>,
-    ghost shape: { (table.shared.table_id.words ≡ 3) × (table.shared.table_id.slots ≡ 1) × (0 < table.shared.key.seats) },
+    pub(crate) gate: Mutex<()>,
+    pub(crate) table: Table<Option<V>, View<V::Origin, V::Item>, About<V>, OneTurn, Global>,
+    ghost shape: { (table.shared.table_id.words ≡ 1) × (table.shared.table_id.slots ≡ 1) × (0 < table.shared.key.seats) },
 }
 
 /// There was no memory for a lock. The value comes back.
@@ -40,7 +34,7 @@ pub struct NotMade<V> {
 impl<V: Recorded> GroupLock<V> {
     ghost use Rattle.fdp_lock.specs.Rule.{own};
     ghost use Rattle.fdp_lock.specs.Seats.{turns_of, number_of, seen_of, made_of, seats_of, HasOrigin, HoldsTurn, HoldsNoTurn, IsSeatOf, IsFirst, GoesOn, KeepsPlace};
-    ghost use Rattle.fdp_lock.specs.Steps.{drawing, holding, telling, resting, Finds};
+    ghost use Rattle.fdp_lock.specs.Steps.{holding, telling, resting, Finds};
 
     /// A lock over a value, and its first seat, which has all of the `seats` parts.
     pub fn new(alloc: Global, value: V, seats: u8) -> Result<(GroupLock<V>, Seat<V>), NotMade<V>>
@@ -54,15 +48,17 @@ impl<V: Recorded> GroupLock<V> {
             value: Snapshot::of(&value),
             seats,
         };
-        let length = value.length();
         let mut slots = match Vec::with_capacity(alloc, 1) {
             Ok(slots) => slots,
             Err(_) => return Err(NotMade { value }),
         };
         slots.push_reserved(Some(value));
-        match Table::new(alloc, &[length, 0, 0], slots, &about) {
+        match Table::new(alloc, &[0], slots, &about) {
             Ok((table, token)) => Ok((
-                GroupLock { table },
+                GroupLock {
+                    gate: Mutex::new(()),
+                    table,
+                },
                 Seat {
                     token,
                     number: 0,
@@ -78,7 +74,7 @@ impl<V: Recorded> GroupLock<V> {
     }
 
     /// Waits for the seat's turn, and hands out the value.
-    pub fn enter<R: Wait>(&self, rt: &R, seat: &mut Seat<V>) -> Turn<V>
+    pub fn enter<R: Wait>(&self, rt: &R, seat: &mut Seat<V>) -> Turn<'_, V>
         requires of_lock { IsSeatOf V.origin self.now seat.old }
         requires no_turn { HoldsNoTurn seat.old }
         requires few { turns_of seat.old < 2 ^ 40 }
@@ -89,109 +85,80 @@ impl<V: Recorded> GroupLock<V> {
         ensures made { made_of seat.new ≡ made_of seat.old }
         ensures place { KeepsPlace seat.old seat.new }
     {
-        let ticket = self.draw(&mut seat.token);
+        let gate = self.gate.lock(rt);
         seat.turns += 1;
         Turn {
-            value: self.take(rt, &mut seat.token, ticket),
+            value: self.take(rt, &mut seat.token),
+            gate,
         }
     }
 
-    fn draw(&self, token: &mut Token<V>) -> u64
+    fn take<R: Wait>(&self, rt: &R, token: &mut Token<V>) -> V
         requires table { token.old.table_id ≡ self.now.table.shared.table_id }
-        requires idle { (token.old.me.0.stage ≡ Stage.Idle) × (0 < token.old.me.0.parts) × (token.old.me.0.turns < 2 ^ 40) }
+        requires idle { (token.old.me.0.stage ≡ Stage.Idle) × (token.old.me.1 ≡ []) × (0 < token.old.me.0.parts) }
         ensures table { token.new.table_id ≡ token.old.table_id }
-        ensures drawn { token.new.me ≡ (drawing result token.old.me.0, token.old.me.1) }
-    {
-        self.table.shared.fetch_add::<Draw>(token, TICKET, 1)
-    }
-
-    fn take<R: Wait>(&self, rt: &R, token: &mut Token<V>, ticket: u64) -> V
-        requires table { token.old.table_id ≡ self.now.table.shared.table_id }
-        requires waits { (token.old.me.0.stage ≡ Stage.Waiting ticket) × (token.old.me.1 ≡ []) × (0 < token.old.me.0.parts) }
-        ensures table { token.new.table_id ≡ token.old.table_id }
-        ensures taken { token.new.me ≡ (holding ticket (V.entries result) token.old.me.0, (0, None) ∷ []) }
+        ensures taken { token.new.me ≡ (holding (V.entries result) token.old.me.0, (0, None) ∷ []) }
         ensures finds { Finds V.origin V.entries V.mark result token.old.me.0 }
     {
-        let mut looks = 0;
+        // Who is through the gate finds the value at home, and makes one round.
         for _ in rt.forever() {
-            if let Some(value) = self.look(token, ticket) {
+            if let Some(value) = self.try_take(token) {
                 return value;
             }
-            if looks < LOOKS {
-                looks += 1;
-                thread::yield_now();
-            } else {
-                self.sleep(rt, ticket);
-            }
+            thread::yield_now();
         }
+        // The loop ends by its return alone.
         unreachable!()
     }
 
-    // The value, where the ticket is served.
-    fn look(&self, token: &mut Token<V>, ticket: u64) -> Option<V>
+    // The value, where it is at home.
+    fn try_take(&self, token: &mut Token<V>) -> Option<V>
         requires table { token.old.table_id ≡ self.now.table.shared.table_id }
-        requires waits { (token.old.me.0.stage ≡ Stage.Waiting ticket) × (token.old.me.1 ≡ []) × (0 < token.old.me.0.parts) }
+        requires idle { (token.old.me.0.stage ≡ Stage.Idle) × (token.old.me.1 ≡ []) × (0 < token.old.me.0.parts) }
         ensures table { token.new.table_id ≡ token.old.table_id }
-        ensures waits { IfNone result (token.new.me ≡ token.old.me) }
-        ensures taken { IfSome result (λ x. token.new.me ≡ (holding ticket (V.entries x) token.old.me.0, (0, None) ∷ [])) }
+        ensures idle { IfNone result (token.new.me ≡ token.old.me) }
+        ensures taken { IfSome result (λ x. token.new.me ≡ (holding (V.entries x) token.old.me.0, (0, None) ∷ [])) }
         ensures finds { IfSome result (λ x. Finds V.origin V.entries V.mark x token.old.me.0) }
     {
-        if self.table.shared.load::<Serve>(token, SERVING) != ticket {
+        if self.table.shared.swap::<Take>(token, TAKEN, 1) != 0 {
             return None;
         }
         self.table.shared.exchange(token, 0, None)
     }
 
-    // Sleeps until another ticket is served, or for no reason.
-    fn sleep<R: Wait>(&self, rt: &R, ticket: u64) {
-        let served = self.table.shared.peek(SERVING);
-        if served != ticket {
-            self.table
-                .shared
-                .park(rt, SERVING, (served % (1 << 32)) as u32);
-        }
-    }
-
-    /// Ends the turn: the value goes back, and the next ticket is served.
-    pub fn leave(&self, turn: Turn<V>, seat: &mut Seat<V>)
+    /// Ends the turn: the value goes back.
+    pub fn leave(&self, turn: Turn<'_, V>, seat: &mut Seat<V>)
         requires of_lock { IsSeatOf V.origin self.now seat.old }
         requires turn { HoldsTurn seat.old }
         requires same_origin { HasOrigin seat.old (V.origin turn.value) }
         requires goes_on { IsPrefix (seen_of seat.old) (V.entries turn.value) }
         requires own_entries { CarriesOnly V.mark (number_of seat.old) (drop (length (seen_of seat.old)) (V.entries turn.value)) }
-        ensures seen { seen_of seat.new ≡ V.entries turn.value }
-        ensures made { made_of seat.new ≡ made_of seat.old ++ carrying V.mark (number_of seat.old) (drop (length (seen_of seat.old)) (V.entries turn.value)) }
+        ensures seen { seen_of seat.new ≡ V.entries turn.entry.value }
+        ensures made { made_of seat.new ≡ made_of seat.old ++ carrying V.mark (number_of seat.old) (drop (length (seen_of seat.old)) (V.entries turn.entry.value)) }
         ensures no_turn { HoldsNoTurn seat.new }
         ensures turns { turns_of seat.new ≡ turns_of seat.old }
         ensures place { KeepsPlace seat.old seat.new }
     {
-        let Turn { value } = turn;
+        let Turn { value, gate } = turn;
         self.put(&mut seat.token, value);
-        self.wake();
+        // After the value is back, so that who comes through the gate finds it at home.
+        drop(gate);
     }
 
-    // A seat that draws its ticket after this sees that it is served, so a wake is owed only to those that have one.
-    fn wake(&self) {
-        if self.table.shared.peek(TICKET) > self.table.shared.peek(SERVING) {
-            self.table.shared.wake_all(SERVING);
-        }
-    }
-
-    // Puts the value back, announces its length, and serves the next ticket.
+    // Puts the value into its slot before the word says that it is at home.
     fn put(&self, token: &mut Token<V>, value: V)
         requires table { token.old.table_id ≡ self.now.table.shared.table_id }
-        requires turn { ((n : ℕ) × (token.old.me.0.stage ≡ Stage.Holding n)) × (token.old.me.1 ≡ (0, None) ∷ []) × (0 < token.old.me.0.parts) }
+        requires turn { (token.old.me.0.stage ≡ Stage.Holding) × (token.old.me.1 ≡ (0, None) ∷ []) × (0 < token.old.me.0.parts) }
         requires same_origin { token.old.me.0.origin ≡ Some (V.origin value) }
         requires goes_on { IsPrefix token.old.me.0.seen (V.entries value) }
         requires own_entries { (number : ℕ) × (token.old.me.0.made ≡ (number, own token.old.me.0.made) ∷ []) × CarriesOnly V.mark number (drop (length token.old.me.0.seen) (V.entries value)) }
         ensures table { token.new.table_id ≡ token.old.table_id }
         ensures put { token.new.me ≡ (resting (telling V.mark (V.entries value) token.old.me.0), []) }
     {
-        let length = value.length();
         let before = self.table.shared.exchange(token, 0, Some(value));
+        // The slot is empty while its value is out.
         let None = before else { unreachable!() };
-        self.table.shared.store::<Tell>(token, LENGTH, length);
-        self.table.shared.fetch_add::<PassOn>(token, SERVING, 1);
+        self.table.shared.store::<Give>(token, TAKEN, 0);
     }
 }
 
@@ -204,6 +171,7 @@ fn only_value<V>(mut slots: Vec<Option<V>>) -> V
     slots.destroy_empty();
     match last {
         Some(Some(value)) => value,
+        // No seat is out, so the value is at home.
         Some(None) | None => unreachable!(),
     }
 }

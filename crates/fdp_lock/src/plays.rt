@@ -1,36 +1,22 @@
 //! What each step on the table tells the seat that makes it.
-ghost use Rattle.fdp_lock.specs.Steps.{Draws, Serves, Tells, Passes, Names, Learns, giver, newcomer, note, joined, spent};
+ghost use Rattle.fdp_lock.specs.Steps.{Takes, Gives, Names, Learns, giver, newcomer, note, joined, spent};
 
 use crate::view::View;
 use atomic_table::{Join, Play, Split};
 use fdp_base::Recorded;
 
-/// Draws the next ticket.
-pub struct Draw;
+/// Takes the value where it is at home.
+pub struct Take;
 
-impl<S, O, I> Play<Option<S>, View<O, I>> for Draw {
-    ghost then = { Draws };
+impl<V: Recorded> Play<Option<V>, View<V::Origin, V::Item>> for Take {
+    ghost then = { Takes V.origin V.entries V.mark };
 }
 
-/// Looks which ticket is served, and takes the value where it is the own one.
-pub struct Serve;
+/// Gives the value back.
+pub struct Give;
 
-impl<V: Recorded> Play<Option<V>, View<V::Origin, V::Item>> for Serve {
-    ghost then = { Serves V.origin V.entries V.mark };
-}
-
-/// Announces the length of the record.
-pub struct Tell;
-
-impl<V: Recorded> Play<Option<V>, View<V::Origin, V::Item>> for Tell {
-    ghost then = { Tells V.entries V.mark };
-}
-
-/// Gives the value back, and serves the next ticket.
-pub struct PassOn;
-
-impl<S, O, I> Play<Option<S>, View<O, I>> for PassOn {
-    ghost then = { Passes };
+impl<V: Recorded> Play<Option<V>, View<V::Origin, V::Item>> for Give {
+    ghost then = { Gives V.entries V.mark };
 }
 
 /// Says which number the seat gives next. It changes no word.

@@ -3,7 +3,7 @@ ghost use Rattle.fdp_lock.specs.Rule.{IsTied};
 use crate::view::Token;
 use fdp_base::Recorded;
 
-/// A place in the queue of a lock, for one thread. It knows which lock it is of, which entries it has seen, and which
+/// A place at a lock, for one thread. It knows which lock it is of, which entries it has seen, and which
 /// it made; these take no bytes.
 #[derive(Drop)]
 pub struct Seat<V: Recorded> {
@@ -12,7 +12,7 @@ pub struct Seat<V: Recorded> {
     pub(crate) parts: u8,
     pub(crate) turns: u64,
     pub(crate) given: u8,
-    ghost tied: { IsTied token.me.0 number parts turns given },
+    ghost tied: { IsTied token.me.0 number parts given },
 }
 
 impl<V: Recorded> Seat<V> {

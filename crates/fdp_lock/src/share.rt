@@ -3,7 +3,7 @@ ghost use Rattle.std.specs.Prelude.{◌≡◌, ◌+◌, ◌<◌, []};
 ghost use mathlib.Core.List.{IsPrefix};
 ghost use Rattle.fdp_base.specs.Records.{longer};
 
-use crate::lock::{GroupLock, LENGTH};
+use crate::lock::{GroupLock, TAKEN};
 use crate::plays::{Name, Note, Part};
 use crate::seat::Seat;
 use fdp_base::Recorded;
@@ -26,7 +26,7 @@ impl<V: Recorded> GroupLock<V> {
         let next = u64::from(number);
         self.table
             .shared
-            .compare_exchange::<Name>(&mut seat.token, LENGTH, next, next);
+            .compare_exchange::<Name>(&mut seat.token, TAKEN, next, next);
         let token = self.table.shared.split_seat::<Part>(&mut seat.token);
         seat.parts -= 1;
         seat.given = number;

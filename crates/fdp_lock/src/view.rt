@@ -4,18 +4,16 @@ use fdp_base::Recorded;
 use std::collections::LinkedList;
 use std::snapshot::Snapshot;
 
-/// Where a seat stands in the queue of turns, with its ticket.
+/// Whether a seat has a turn.
 pub enum Stage {
     Idle,
-    Waiting(u64),
-    Holding(u64),
+    Holding,
 }
 
 /// What a seat knows. No value of it is made.
 pub struct View<O, I> {
     pub stage: Stage,
     pub parts: u64,
-    pub turns: u64,
     /// The number that it gave last, and the one that it gives next.
     pub given: u64,
     pub next: u64,
@@ -39,12 +37,12 @@ pub struct About<V> {
 }
 
 /// The rule of the table.
-pub struct Ticketed;
+pub struct OneTurn;
 
-impl<V: Recorded> TableRule<Option<V>, View<V::Origin, V::Item>, About<V>> for Ticketed {
+impl<V: Recorded> TableRule<Option<V>, View<V::Origin, V::Item>, About<V>> for OneTurn {
     ghost use Rattle.fdp_lock.specs.Rule.{Held, first_view};
 
-    ghost holds = { λ key. Held V.origin V.entries V.mark key.value.value key.seats };
+    ghost holds = { λ key. Held V.origin V.entries V.mark (V.origin key.value.value) key.seats };
 
-    ghost first = { λ key. first_view V.origin V.entries key.value.value key.seats };
+    ghost first = { λ key. first_view (V.origin key.value.value) (V.entries key.value.value) key.seats };
 }

@@ -7,4 +7,4 @@ mod tests;
 mod worker;
 
 pub use tally::Tally;
-pub use worker::{work, work_both, work_four};
+pub use worker::{Load, linger, work, work_both, work_four};

@@ -1,10 +1,33 @@
 use fdp_base::Recorded;
+use std::alloc::{AllocError, Global};
 
-/// A list of the numbers of the seats that added to it, under a name.
+// So a tally is as large as a drive, about 1 KB.
+const WORDS: usize = 128;
+
+/// A list of the numbers of the seats that added to it, under a name, and a weight that a move has to carry.
 #[derive(Drop)]
 pub struct Tally {
     pub name: u64,
     pub numbers: Vec<u8>,
+    pub weight: [u64; WORDS],
+}
+
+impl Tally {
+    ghost use Rattle.std.specs.Prelude.{◌≡◌, [], IfOk};
+    ghost use Rattle.fdp_lock_tests.specs.Tally.{name_of, numbers_of};
+
+    /// A tally with no number, and room for so many.
+    pub fn with_room(alloc: Global, name: u64, room: usize) -> Result<Tally, AllocError>
+        ensures name { IfOk result (λ t. name_of t ≡ name) }
+        ensures empty { IfOk result (λ t. numbers_of t ≡ []) }
+    {
+        let numbers = Vec::with_capacity(alloc, room)?;
+        Ok(Tally {
+            name,
+            numbers,
+            weight: [0; WORDS],
+        })
+    }
 }
 
 impl Recorded for Tally {

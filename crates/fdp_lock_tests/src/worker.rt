@@ -5,25 +5,33 @@ ghost use Rattle.fdp_lock_tests.specs.Tally.{name_of, IsFresh, IsBack};
 use crate::tally::Tally;
 use fdp_lock::{GroupLock, Seat};
 use std::sync::Wait;
+use std::sync::atomic::{AtomicU32, Ordering};
 use std::thread::{Threads, join};
+
+/// How many turns, and for how many rounds of a loop each lasts.
+#[derive(Clone, Copy)]
+pub struct Load {
+    pub turns: u32,
+    pub rounds: u32,
+}
 
 /// Takes so many turns, and adds the number of the seat in each, as far as there is memory.
 pub fn work<R: Wait>(
     rt: &R,
     lock: &GroupLock<Tally>,
     mut seat: Seat<Tally>,
-    turns: u32,
+    load: Load,
 ) -> Seat<Tally>
     requires { IsFresh lock.now seat }
     ensures { IsBack lock.now seat result }
 {
-    for _ in 0..turns {
-        take_turn(rt, lock, &mut seat);
+    for _ in 0..load.turns {
+        take_turn(rt, lock, &mut seat, load.rounds);
     }
     seat
 }
 
-fn take_turn<R: Wait>(rt: &R, lock: &GroupLock<Tally>, seat: &mut Seat<Tally>)
+fn take_turn<R: Wait>(rt: &R, lock: &GroupLock<Tally>, seat: &mut Seat<Tally>, rounds: u32)
     requires of_lock { IsSeatOf name_of lock.now seat.old }
     requires no_turn { HoldsNoTurn seat.old }
     requires few { turns_of seat.old + 1 ≤ 2 ^ 40 }
@@ -34,8 +42,18 @@ fn take_turn<R: Wait>(rt: &R, lock: &GroupLock<Tally>, seat: &mut Seat<Tally>)
     ensures turns { turns_of seat.new ≡ turns_of seat.old + 1 }
 {
     let mut turn = lock.enter(rt, seat);
+    linger(rounds);
+    // A number that is missing is seen by the test.
     let _ = turn.value.numbers.push(seat.number());
     lock.leave(turn, seat);
+}
+
+/// Passes time, some nanoseconds a round.
+pub fn linger(rounds: u32) {
+    let looks = AtomicU32::new(0);
+    for _ in 0..rounds {
+        looks.fetch_add(1, Ordering::SeqCst);
+    }
 }
 
 /// Two seats on threads of their own.
@@ -44,7 +62,7 @@ pub fn work_both<R: Threads + Wait + Sync>(
     lock: &GroupLock<Tally>,
     one: Seat<Tally>,
     two: Seat<Tally>,
-    turns: u32,
+    load: Load,
 ) -> (Seat<Tally>, Seat<Tally>)
     requires one { IsFresh lock.now one }
     requires two { IsFresh lock.now two }
@@ -53,8 +71,8 @@ pub fn work_both<R: Threads + Wait + Sync>(
 {
     join(
         rt,
-        || work(rt, lock, one, turns),
-        || work(rt, lock, two, turns),
+        || work(rt, lock, one, load),
+        || work(rt, lock, two, load),
     )
 }
 
@@ -66,7 +84,7 @@ pub fn work_four<R: Threads + Wait + Sync>(
     b: Seat<Tally>,
     c: Seat<Tally>,
     d: Seat<Tally>,
-    turns: u32,
+    load: Load,
 ) -> ((Seat<Tally>, Seat<Tally>), (Seat<Tally>, Seat<Tally>))
     requires front { IsFresh lock.now a × IsFresh lock.now b }
     requires back { IsFresh lock.now c × IsFresh lock.now d }
@@ -78,10 +96,10 @@ pub fn work_four<R: Threads + Wait + Sync>(
         || -> (Seat<Tally>, Seat<Tally>)
             requires { IsFresh lock.now a × IsFresh lock.now b }
             ensures { IsBack lock.entry.now a result.0 × IsBack lock.entry.now b result.1 }
-        { work_both(rt, lock, a, b, turns) },
+        { work_both(rt, lock, a, b, load) },
         || -> (Seat<Tally>, Seat<Tally>)
             requires { IsFresh lock.now c × IsFresh lock.now d }
             ensures { IsBack lock.entry.now c result.0 × IsBack lock.entry.now d result.1 }
-        { work_both(rt, lock, c, d, turns) },
+        { work_both(rt, lock, c, d, load) },
     )
 }

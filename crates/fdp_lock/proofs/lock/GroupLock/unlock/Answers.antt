@@ -1,6 +1,7 @@
 use Rattle.std.proofs.Common.{◌≡◌, Some, None, sym, ◌∙◌, subst}
 use Rattle.std.specs.Slots.{slots_items}
 use Rattle.fdp_lock.specs.Gathers.{Ends}
+use Rattle.fdp_lock.specs.Seats.{lock_origin}
 use Rattle.fdp_lock.proofs.Closes.{ends_with}
 use Rattle.fdp_lock.proofs.lock.GroupLock.unlock.Goals as goal
 
@@ -10,7 +11,7 @@ unreachable-requires g c =
     let key = c.args.self.table.shared.key in
     let token = c.args.token in
     let closed = c.close_with-closed.result in
-    let e = ends_with V.origin V.entries V.mark key.value.value key.seats token.id token.me.0 (slots_items closed.words) (slots_items closed.slots) c.take-value.result c.requires.rests.0 c.requires.all_parts c.args.self.shape.2
+    let e = ends_with V.origin V.entries V.mark (lock_origin V.origin c.args.self) key.seats token.id token.me.0 (slots_items closed.words) (slots_items closed.slots) c.take-value.result c.requires.rests.0 c.requires.all_parts c.args.self.shape.2
     c.close_with-closed.ensures.values.2 c.take-value.ensures.value in
     let both : Some e.0 ≡ None = sym e.1 ∙ c.in-None.is in
     cc
@@ -21,7 +22,7 @@ returns g c =
     let key = c.args.self.table.shared.key in
     let token = c.args.token in
     let closed = c.close_with-closed.result in
-    let e = ends_with V.origin V.entries V.mark key.value.value key.seats token.id token.me.0 (slots_items closed.words) (slots_items closed.slots) c.take-value.result c.requires.rests.0 c.requires.all_parts c.args.self.shape.2
+    let e = ends_with V.origin V.entries V.mark (lock_origin V.origin c.args.self) key.seats token.id token.me.0 (slots_items closed.words) (slots_items closed.slots) c.take-value.result c.requires.rests.0 c.requires.all_parts c.args.self.shape.2
     c.close_with-closed.ensures.values.2 c.take-value.ensures.value in
     let both : Some e.0 ≡ Some c.in-Some.value = sym e.1 ∙ c.in-Some.is in
     let same : e.0 ≡ c.in-Some.value = cc in
