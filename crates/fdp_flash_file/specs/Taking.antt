@@ -22,8 +22,9 @@ pub record FailsToRead (head : Result (Option Geometry) Error) : Type 0 where
   pub error : Error
   pub failed : head ≡ Err error
 
--- why it is refused
+-- why it is refused; for want of memory it is not refused here
 abbrev pub IsCause : ℕ → Result (Option Geometry) Error → TakeError → Type 0
 IsCause length head causes.Failed = FailsToRead head
 IsCause length head causes.NotFlash = head ≡ Ok None
 IsCause length head causes.CutShort = IsShort length head
+IsCause length head causes.NoMemory = ⊥

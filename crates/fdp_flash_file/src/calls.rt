@@ -1,11 +1,12 @@
 use crate::flash_file::FlashFile;
-use crate::page::{blank_pages, place_of, read_expected, read_page, write_page};
+use crate::page::place_of;
 use fdp_base::{Geometry, Spot};
 use fdp_flash::{Fetched, Flash, Seen, Wrote};
 use std::io;
-use std::io::{Read, Seek, Write};
+use std::io::Seek;
+use std::os::unix::fs::FileExt;
 
-impl<S: Read + Write + Seek + Drop> Flash for FlashFile<S> {
+impl<S: FileExt + Seek + Drop> Flash for FlashFile<S> {
     ghost use Rattle.fdp_flash_file.specs.FlashFile.{state_of, file_well_formed};
 
     ghost state = { state_of };
@@ -30,21 +31,21 @@ impl<S: Read + Write + Seek + Drop> Flash for FlashFile<S> {
 
     fn look(&mut self, at: Spot, spare: &mut [u8; 32], bytes: &mut [u8]) -> Seen {
         let place = place_of(self.geometry, at);
-        let seen = seen_of(read_page(&mut self.file, place, spare, bytes));
+        let seen = seen_of(self.pages.read(place, spare, bytes));
         self.note(seen == Seen::Failed);
         seen
     }
 
     fn fetch(&mut self, at: Spot, spare: &[u8; 32], bytes: &mut [u8]) -> Fetched {
         let place = place_of(self.geometry, at);
-        let fetched = fetched_of(read_expected(&mut self.file, place, spare, bytes));
+        let fetched = fetched_of(self.pages.read_expected(place, spare, bytes));
         self.note(fetched != Fetched::Whole);
         fetched
     }
 
     fn program(&mut self, at: Spot, spare: &[u8; 32], bytes: &[u8]) -> Wrote {
         let place = place_of(self.geometry, at);
-        let wrote = wrote_of(write_page(&mut self.file, place, spare, bytes));
+        let wrote = wrote_of(self.pages.program(place, spare, bytes));
         self.note(wrote == Wrote::Failed);
         if wrote == Wrote::Done && at.unit < self.geometry.data_units() {
             self.programs = self.programs.saturating_add(1);
@@ -54,8 +55,8 @@ impl<S: Read + Write + Seek + Drop> Flash for FlashFile<S> {
 
     fn erase(&mut self, unit: u32) -> Wrote {
         let first = place_of(self.geometry, Spot { unit, page: 0 });
-        let unit_pages = self.geometry.unit_pages;
-        let wrote = wrote_of(blank_pages(&mut self.file, first, unit_pages));
+        let count = self.geometry.unit_pages as usize;
+        let wrote = wrote_of(self.pages.erase(first, count));
         self.note(wrote == Wrote::Failed);
         wrote
     }

@@ -1,30 +1,33 @@
 ghost use Rattle.std.proofs.Props.{props};
 ghost use Rattle.fdp_base.specs.Geometry.{IsValidGeometry};
 ghost use Rattle.fdp_flash.specs.FlashState.{AreCounts};
+ghost use Rattle.fdp_flash_file.specs.Room.{HasRoom};
 
-use crate::head::{HEAD_BYTES, write_head};
-use crate::page::{blank_pages, file_bytes, place_of, write_at};
-use crate::take::{TakeError, told_geometry};
+use crate::page_file::PageFile;
+use crate::take::{TakeError, pages_of, told_geometry};
 use fdp_base::{Geometry, Spot};
-use std::io;
-use std::io::{Read, Seek, SeekFrom, Write};
+use std::alloc::Global;
+use std::io::Seek;
+use std::os::unix::fs::FileExt;
 
-/// A flash over a file, or over anything that is read, written and sought as one. It does not tell what the file holds.
+/// A flash over a file, or over anything that is read and written at an offset, and tells how long it is. It does not tell
+/// what the file holds.
 ///
-/// No call takes memory. A look or a fetch reads the page into the caller's buffers, a program writes the page and twice
-/// its state, an erase the states of the unit.
+/// `make` and `take` take memory, a byte for each page and room for one page; no other call does. A look or a fetch of a
+/// whole page is one read of the file, and one of another page none; a program is two writes, an erase one.
 #[derive(Drop)]
 pub struct FlashFile<S> {
-    pub(crate) file: S,
+    pub(crate) pages: PageFile<S>,
     pub(crate) geometry: Geometry,
     pub(crate) moment: u64,
     pub(crate) faults: u64,
     pub(crate) programs: u64,
     ghost counts: { AreCounts moment faults programs } by { Prim.hlevel props },
     ghost valid: { IsValidGeometry geometry } by { Prim.hlevel props },
+    ghost room: { HasRoom geometry pages } by { Prim.hlevel props },
 }
 
-impl<S: Read + Write + Seek + Drop> FlashFile<S> {
+impl<S: FileExt + Seek + Drop> FlashFile<S> {
     ghost use Rattle.std.specs.Prelude.{◌≡◌, IfOk, IsTrue, ◌↔◌, if◌then◌else◌};
     ghost use Rattle.fdp_base.specs.Counts.{counted};
     ghost use Rattle.fdp_flash.specs.FlashState.{Begins};
@@ -32,34 +35,38 @@ impl<S: Read + Write + Seek + Drop> FlashFile<S> {
     ghost use Rattle.fdp_flash_file.specs.FlashFile.{state_of, IsTaken};
 
     /// Makes a file that holds a blank flash, and takes it. What the file held is lost, except for what stands behind the
-    /// last page.
-    ///
-    /// The head is written last, so that a file which was not made whole is none of a flash.
-    pub fn make(mut file: S, geometry: Geometry) -> Result<FlashFile<S>, TakeError>
+    /// last page. Where there is no memory the file stays as it is. It costs four writes.
+    pub fn make(alloc: Global, file: S, geometry: Geometry) -> Result<FlashFile<S>, TakeError>
         requires { IsValidGeometry geometry }
         ensures { IfOk result (λ flash. IsTaken geometry (state_of flash)) }
     {
-        match write_blank(&mut file, geometry) {
-            Ok(()) => Ok(FlashFile::begun(file, geometry)),
+        let pages = pages_of(alloc, file, geometry)?;
+        match pages.write_flash(geometry) {
+            Ok(()) => Ok(FlashFile::begun(pages, geometry)),
             Err(_) => Err(TakeError::Failed),
         }
     }
 
     /// Takes a file that holds a flash, with the geometry that its head tells. What stands behind the last page is left
-    /// alone.
-    pub fn take(mut file: S) -> Result<FlashFile<S>, TakeError>
+    /// alone. It costs a seek and two reads, the second of a byte for each page.
+    pub fn take(alloc: Global, mut file: S) -> Result<FlashFile<S>, TakeError>
         ensures { IfOk result (λ flash. IsTaken (state_of flash).geometry (state_of flash)) }
     {
         let geometry = told_geometry(&mut file)?;
-        Ok(FlashFile::begun(file, geometry))
+        let mut pages = pages_of(alloc, file, geometry)?;
+        match pages.read_states() {
+            Ok(()) => Ok(FlashFile::begun(pages, geometry)),
+            Err(_) => Err(TakeError::Failed),
+        }
     }
 
-    fn begun(file: S, geometry: Geometry) -> FlashFile<S>
-        requires { IsValidGeometry geometry }
+    fn begun(pages: PageFile<S>, geometry: Geometry) -> FlashFile<S>
+        requires valid { IsValidGeometry geometry }
+        requires room { HasRoom geometry pages }
         ensures { IsTaken geometry (state_of result) }
     {
         FlashFile {
-            file,
+            pages,
             geometry,
             moment: 0,
             faults: 0,
@@ -88,20 +95,6 @@ impl<S: Read + Write + Seek + Drop> FlashFile<S> {
 
     /// Gives the file back.
     pub fn into_file(self) -> S {
-        self.file
+        self.pages.file
     }
-}
-
-/// Writes a blank flash.
-fn write_blank<S: Write + Seek>(file: &mut S, geometry: Geometry) -> io::Result<()>
-    requires { IsValidGeometry geometry }
-{
-    write_at(file, 0, &[0; HEAD_BYTES])?;
-    for unit in 0..geometry.all_units() {
-        let first = place_of(geometry, Spot { unit, page: 0 });
-        blank_pages(file, first, geometry.unit_pages)?;
-    }
-    write_at(file, file_bytes(geometry) - 1, &[0])?;
-    file.seek(SeekFrom::Start(0))?;
-    write_head(file, geometry)
 }

@@ -17,6 +17,7 @@ ghost use Rattle.fdp_flash_file.specs.Head.{head_numbers};
 use fdp_base::Geometry;
 use std::io;
 use std::io::{Read, Write};
+use std::os::unix::fs::FileExt;
 
 /// How long the head is.
 pub const HEAD_BYTES: usize = 32;
@@ -25,25 +26,30 @@ const NAME: [u8; 8] = *b"FDPFLASH";
 
 const VERSION: u32 = 1;
 
-/// Writes the head of a flash with this geometry.
-pub fn write_head<S: Write>(file: &mut S, geometry: Geometry) -> io::Result<()> {
-    file.write_all(&NAME)?;
+/// Writes the head of a flash with this geometry, in one call.
+pub fn write_head<S: FileExt>(file: &S, geometry: Geometry) -> io::Result<()> {
+    let mut head = [0; HEAD_BYTES];
+    let mut rest = &mut head[..];
+    rest.write_all(&NAME)?;
     for number in numbers_of(geometry) {
-        file.write_all(&number.to_le_bytes())?;
+        rest.write_all(&number.to_le_bytes())?;
     }
-    Ok(())
+    file.write_all_at(&head, 0)
 }
 
-/// Reads the head of a file, and gives the geometry that it tells, if it is the head of a flash.
-pub fn read_head<S: Read>(file: &mut S) -> io::Result<Option<Geometry>>
+/// Reads the head of a file, in one call, and gives the geometry that it tells, if it is the head of a flash.
+pub fn read_head<S: FileExt>(file: &S) -> io::Result<Option<Geometry>>
     ensures { IfOk result (λ told. IfSome told (λ geometry. IsValidGeometry geometry)) }
 {
+    let mut head = [0; HEAD_BYTES];
+    file.read_exact_at(&mut head, 0)?;
+    let mut rest = &head[..];
     let mut name = [0; 8];
-    file.read_exact(&mut name)?;
+    rest.read_exact(&mut name)?;
     let mut numbers = [0; 6];
     for number in &mut numbers {
         let mut bytes = [0; 4];
-        file.read_exact(&mut bytes)?;
+        rest.read_exact(&mut bytes)?;
         *number = u32::from_le_bytes(bytes);
     }
     if name != NAME {

@@ -5,6 +5,7 @@ mod calls;
 mod flash_file;
 mod head;
 mod page;
+mod page_file;
 mod take;
 #[cfg(test)]
 mod tests;

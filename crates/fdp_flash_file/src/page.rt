@@ -1,7 +1,8 @@
 //! Behind the head stands one byte for each page that tells its state, and behind these the spare and the block of each page.
 //!
-//! A program writes Torn, then spare and block, then Whole; an erase writes Blank for all pages of the unit at once. So a stop
-//! between two writes leaves what a stop may leave.
+//! A program writes spare and block at once, and then Whole; an erase writes Blank for all pages of the unit at once. A page is
+//! programmed only where it is blank, so a stop before the last write leaves a page that is blank, as it was. No call writes
+//! Torn: it is read in a file where it stands.
 ghost use Rattle.std.specs.Prelude.{◌≡◌, ◌≤◌, ◌<◌};
 ghost use Rattle.fdp_base.specs.Geometry.{IsValidGeometry, all_pages};
 ghost use Rattle.fdp_flash.specs.Layout.{IsIn, page_number};
@@ -9,9 +10,9 @@ ghost use Rattle.fdp_flash_file.specs.Places.{spare_place, file_size, state_plac
 
 use crate::head::HEAD_BYTES;
 use fdp_base::{Geometry, Spot};
-use fdp_flash::{Fetched, Seen};
-use std::io;
-use std::io::{Read, Seek, SeekFrom, Write};
+
+/// How long a spare is.
+pub const SPARE_BYTES: usize = 32;
 
 /// The state of a page, as its byte tells it.
 #[derive(Clone, Copy, Debug, PartialEq, Eq)]
@@ -49,12 +50,11 @@ impl PageState {
     }
 }
 
-/// The states of a unit that is blank.
-const BLANK_STATES: [u8; 256] = [0; 256];
-
 /// Where a page stands in the file.
 #[derive(Clone, Copy, Debug, PartialEq, Eq)]
 pub struct Place {
+    /// Its number.
+    pub page: usize,
     /// The place of its state.
     pub state: u64,
     /// The place of its spare, which its block follows.
@@ -73,11 +73,14 @@ pub fn file_bytes(geometry: Geometry) -> u64
 pub fn place_of(geometry: Geometry, at: Spot) -> Place
     requires valid { IsValidGeometry geometry }
     requires place { IsIn geometry at }
+    ensures page { result.page ≡ page_number geometry at }
+    ensures within { result.page < all_pages geometry }
     ensures state { result.state ≡ state_place (page_number geometry at) }
     ensures spare { result.spare ≡ spare_place geometry (page_number geometry at) }
 {
     let page = at.unit * geometry.unit_pages + at.page;
     Place {
+        page: page as usize,
         state: HEAD_BYTES as u64 + u64::from(page),
         spare: spare_at(geometry, page),
     }
@@ -89,87 +92,5 @@ fn spare_at(geometry: Geometry, page: u32) -> u64
     ensures { result ≡ spare_place geometry page }
 {
     let states = HEAD_BYTES as u64 + u64::from(geometry.all_pages());
-    states + u64::from(page) * (32 + u64::from(geometry.block))
-}
-
-/// Reads bytes from a place of the file on, until the buffer is full.
-pub fn read_at<S: Read + Seek>(file: &mut S, at: u64, into: &mut [u8]) -> io::Result<()> {
-    file.seek(SeekFrom::Start(at))?;
-    file.read_exact(into)
-}
-
-/// Writes bytes from a place of the file on.
-pub fn write_at<S: Write + Seek>(file: &mut S, at: u64, bytes: &[u8]) -> io::Result<()> {
-    file.seek(SeekFrom::Start(at))?;
-    file.write_all(bytes)
-}
-
-fn state_of<S: Read + Seek>(file: &mut S, place: Place) -> io::Result<PageState> {
-    let mut code = [0];
-    read_at(file, place.state, &mut code)?;
-    Ok(PageState::of_code(code[0]))
-}
-
-fn set_state<S: Write + Seek>(file: &mut S, place: Place, state: PageState) -> io::Result<()> {
-    write_at(file, place.state, &[state.code()])
-}
-
-/// Reads a page as it is.
-pub fn read_page<S: Read + Seek>(
-    file: &mut S,
-    place: Place,
-    spare: &mut [u8; 32],
-    bytes: &mut [u8],
-) -> io::Result<Seen> {
-    match state_of(file, place)? {
-        PageState::Blank => Ok(Seen::Blank),
-        PageState::Torn => Ok(Seen::Torn),
-        PageState::Whole => {
-            read_at(file, place.spare, spare)?;
-            file.read_exact(bytes)?;
-            Ok(Seen::Whole)
-        }
-    }
-}
-
-/// Reads the bytes of a page that is whole with this spare.
-pub fn read_expected<S: Read + Seek>(
-    file: &mut S,
-    place: Place,
-    spare: &[u8; 32],
-    bytes: &mut [u8],
-) -> io::Result<Fetched> {
-    match state_of(file, place)? {
-        PageState::Blank => Ok(Fetched::Other),
-        PageState::Torn => Ok(Fetched::Other),
-        PageState::Whole => {
-            let mut kept = [0; 32];
-            read_at(file, place.spare, &mut kept)?;
-            if kept != *spare {
-                return Ok(Fetched::Other);
-            }
-            file.read_exact(bytes)?;
-            Ok(Fetched::Whole)
-        }
-    }
-}
-
-/// Programs a page. A stop between its writes leaves the page as it was, torn or whole.
-pub fn write_page<S: Write + Seek>(
-    file: &mut S,
-    place: Place,
-    spare: &[u8; 32],
-    bytes: &[u8],
-) -> io::Result<()> {
-    set_state(file, place, PageState::Torn)?;
-    write_at(file, place.spare, spare)?;
-    file.write_all(bytes)?;
-    set_state(file, place, PageState::Whole)
-}
-
-/// Makes so many pages blank, from this one on.
-pub fn blank_pages<S: Write + Seek>(file: &mut S, first: Place, count: u32) -> io::Result<()>
-    requires { count ≤ 256 }
-{
-    write_at(file, first.state, &BLANK_STATES[..count as usize])
+    states + u64::from(page) * (SPARE_BYTES as u64 + u64::from(geometry.block))
 }

@@ -1,11 +1,15 @@
 ghost use Rattle.std.specs.Prelude.{IfOk, IfSome, MatchResult};
 ghost use Rattle.fdp_base.specs.Geometry.{IsValidGeometry};
+ghost use Rattle.fdp_flash_file.specs.Room.{HasRoom};
 ghost use Rattle.fdp_flash_file.specs.Taking.{IsCause, IsWhole};
 
 use crate::head::{HEAD_BYTES, read_head};
 use crate::page::file_bytes;
+use crate::page_file::PageFile;
 use fdp_base::Geometry;
-use std::io::{Read, Seek, SeekFrom};
+use std::alloc::{AllocError, Global};
+use std::io::{Seek, SeekFrom};
+use std::os::unix::fs::FileExt;
 use std::{fmt, io};
 
 /// Why a file was not taken.
@@ -17,6 +21,8 @@ pub enum TakeError {
     NotFlash,
     /// The file begins with the head of a flash, and ends before its last page.
     CutShort,
+    /// There is no memory for the states of its pages.
+    NoMemory,
 }
 
 impl fmt::Display for TakeError {
@@ -25,12 +31,13 @@ impl fmt::Display for TakeError {
             TakeError::Failed => "a call of the file failed",
             TakeError::NotFlash => "the file does not begin with the head of a flash",
             TakeError::CutShort => "the file ends before the last page of its flash",
+            TakeError::NoMemory => "there is no memory for the states of its pages",
         })
     }
 }
 
 /// The geometry that a file tells, if it is the file of a flash.
-pub fn told_geometry<S: Read + Seek>(file: &mut S) -> Result<Geometry, TakeError>
+pub fn told_geometry<S: FileExt + Seek>(file: &mut S) -> Result<Geometry, TakeError>
     ensures { IfOk result (λ geometry. IsValidGeometry geometry) }
 {
     let Ok(bytes) = file.seek(SeekFrom::End(0)) else {
@@ -39,7 +46,7 @@ pub fn told_geometry<S: Read + Seek>(file: &mut S) -> Result<Geometry, TakeError
     if bytes < HEAD_BYTES as u64 {
         return Err(TakeError::NotFlash);
     }
-    geometry_in(bytes, head_geometry(file))
+    geometry_in(bytes, read_head(file))
 }
 
 /// The geometry of the flash whose file has so many bytes, and of which the read of the head gave this.
@@ -58,9 +65,17 @@ fn geometry_in(bytes: u64, head: io::Result<Option<Geometry>>) -> Result<Geometr
     }
 }
 
-fn head_geometry<S: Read + Seek>(file: &mut S) -> io::Result<Option<Geometry>>
-    ensures { IfOk result (λ told. IfSome told (λ geometry. IsValidGeometry geometry)) }
+/// Takes the memory for the flash of a file.
+pub fn pages_of<S: FileExt + Drop>(
+    alloc: Global,
+    file: S,
+    geometry: Geometry,
+) -> Result<PageFile<S>, TakeError>
+    requires { IsValidGeometry geometry }
+    ensures { IfOk result (λ pages. HasRoom geometry pages) }
 {
-    file.seek(SeekFrom::Start(0))?;
-    read_head(file)
+    match PageFile::new(alloc, file, geometry) {
+        Ok(pages) => Ok(pages),
+        Err(AllocError) => Err(TakeError::NoMemory),
+    }
 }

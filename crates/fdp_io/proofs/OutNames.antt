@@ -39,10 +39,15 @@ gone_again old mid new name none added gone =
     (λ ne. gone.elsewhere other ne ∙ added.elsewhere other ne)
     in λ d other. each other d
 
+-- so it is where the answer was that it is added
+pub taken_back : (old mid gone : Names) (name : List ℕ) (added : Bool) → added ≡ true → AddsName old mid name (Ok added) → SetsName mid gone name false → contains_text gone ≡ contains_text old
+taken_back old mid gone name added is adds removed =
+    let sets = subst (λ (b : Bool). AddsName old mid name (Ok b)) is adds in
+    gone_again old mid gone name sets.0 sets.1 removed
+
 -- a flash that was not handed out after all, which was counted, is not out
 pub not_out : {R : Type 0} (old new : BenchFile R) (mid gone : Names) (files : R) (name : List ℕ) (added : Bool) → added ≡ true → AddsName old.out mid name (Ok added) → SetsName mid gone name false →
     new ≡ record { files = files; faults = counted old.faults; out = gone } → SameFlashes (file_bench old) (file_bench new) × Rose old.faults new.faults
 not_out {R} old new mid gone files name added is adds removed left =
-    let sets = subst (λ (b : Bool). AddsName old.out mid name (Ok b)) is adds in
     subst (λ (b : BenchFile R). SameFlashes (file_bench old) (file_bench b) × Rose old.faults b.faults) (sym left)
-    (record { images = refl; out = gone_again old.out mid gone name sets.0 sets.1 removed }, le_refl (counted old.faults))
+    (record { images = refl; out = taken_back old.out mid gone name added is adds removed }, le_refl (counted old.faults))

@@ -2,10 +2,10 @@ ghost use Rattle.fdp_io.specs.Bench.{ReplacesOnDone};
 ghost use Rattle.fdp_io.specs.Reading.{ReadsRest};
 
 use crate::bench::{Bench, NotTaken, TextRead};
-use crate::flash_of::flash_of;
+use crate::flash_of::{NoFlash, flash_of};
 use crate::names::{add_name, remove_name};
 use fdp_base::Geometry;
-use fdp_flash_file::FlashFile;
+use fdp_flash_file::{FlashFile, TakeError};
 use std::alloc::Global;
 use std::collections::BTreeSet;
 use std::fmt::Display;
@@ -99,12 +99,17 @@ impl<R: Files<File = File> + Eprint + Drop> Bench for BenchFile<R> {
             }
             Err(_) => return Err(NotTaken::NoMemory),
         }
-        match flash_of(&self.files, name, geometry) {
+        match flash_of(&self.files, alloc, name, geometry) {
             Ok(flash) => Ok(flash),
             Err(cause) => {
                 remove_name(&mut self.out, name);
-                self.fail(name, cause);
-                Err(NotTaken::Failed)
+                match cause {
+                    NoFlash::Refused(TakeError::NoMemory) => Err(NotTaken::NoMemory),
+                    cause => {
+                        self.fail(name, cause);
+                        Err(NotTaken::Failed)
+                    }
+                }
             }
         }
     }

@@ -194,6 +194,7 @@ fn fill(berths: &mut BTreeMap<String, Option<FlashMem>>, name: &str, flash: Flas
 {
     match berths.get_mut(name) {
         Some(berth) => *berth = Some(flash),
+        // A flash that was handed out has its berth.
         None => unreachable!(),
     }
 }

@@ -2,6 +2,7 @@ ghost use Rattle.fdp_base.specs.Geometry.{IsValidGeometry};
 
 use fdp_base::Geometry;
 use fdp_flash_file::{FlashFile, TakeError};
+use std::alloc::Global;
 use std::fs::File;
 use std::io::ErrorKind;
 use std::rt::Files;
@@ -14,7 +15,7 @@ pub enum NoFlash {
     System(io::Error),
     /// It is a folder or a device.
     NoFile,
-    /// It is not that of a flash, or could not be read or made.
+    /// It is not that of a flash, could not be read or made, or there is no memory for it.
     Refused(TakeError),
 }
 
@@ -31,26 +32,27 @@ impl fmt::Display for NoFlash {
 /// Opens the flash in the file of a name, or makes a file with a blank one where there is none.
 pub fn flash_of<R: Files<File = File>>(
     files: &R,
+    alloc: Global,
     name: &str,
     geometry: Geometry,
 ) -> Result<FlashFile<File>, NoFlash>
     requires { IsValidGeometry geometry }
 {
     match File::options().read(true).write(true).open(files, name) {
-        Ok(file) => found(file),
-        Err(error) if error.kind() == ErrorKind::NotFound => made(files, name, geometry),
+        Ok(file) => found(alloc, file),
+        Err(error) if error.kind() == ErrorKind::NotFound => made(files, alloc, name, geometry),
         Err(error) => Err(NoFlash::System(error)),
     }
 }
 
 /// Takes the flash in a file that is there. Nothing is written.
-fn found(file: File) -> Result<FlashFile<File>, NoFlash> {
+fn found(alloc: Global, file: File) -> Result<FlashFile<File>, NoFlash> {
     match file.metadata() {
         Ok(about) if about.is_file() => {}
         Ok(_) => return Err(NoFlash::NoFile),
         Err(error) => return Err(NoFlash::System(error)),
     }
-    match FlashFile::take(file) {
+    match FlashFile::take(alloc, file) {
         Ok(flash) => Ok(flash),
         Err(cause) => Err(NoFlash::Refused(cause)),
     }
@@ -59,6 +61,7 @@ fn found(file: File) -> Result<FlashFile<File>, NoFlash> {
 /// Makes a file with a blank flash. Where that fails no file is left.
 fn made<R: Files<File = File>>(
     files: &R,
+    alloc: Global,
     name: &str,
     geometry: Geometry,
 ) -> Result<FlashFile<File>, NoFlash>
@@ -70,7 +73,7 @@ fn made<R: Files<File = File>>(
         Ok(file) => file,
         Err(error) => return Err(NoFlash::System(error)),
     };
-    match FlashFile::make(file, geometry) {
+    match FlashFile::make(alloc, file, geometry) {
         Ok(flash) => Ok(flash),
         Err(cause) => {
             // Where this fails too, a file without the head of a flash is left, which no run takes.

@@ -66,6 +66,7 @@ impl Sink for SinkMem {
             return SinkEnd::Failed;
         }
         if self.bytes.extend_from_slice(&bytes[..count]).is_err() {
+            // The room was taken when the sink was made.
             unreachable!()
         }
         SinkEnd::Took(count)

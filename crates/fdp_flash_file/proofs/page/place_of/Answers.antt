@@ -6,3 +6,8 @@ pub spare_at-requires-clause-page : goal.spare_at-requires-clause-page
 spare_at-requires-clause-page c =
     let below = page_number-below c.args.geometry c.args.at c.requires.place in
     omega (arith, below)
+
+pub returns-clause-within : goal.returns-clause-within
+returns-clause-within c =
+    let below = page_number-below c.args.geometry c.args.at c.requires.place in
+    omega (arith, below)
