@@ -1,12 +1,40 @@
 #!/bin/sh
-# Counts the processor's instructions for a block that is written and for one that is read, on examples/large.toml (blocks of 4,096
-# bytes), in commands of one block and of 64: the difference of two runs of which one has more of these commands, so reading the trace
-# and printing are counted, the start of the program is not. It needs valgrind.
-# Usage: bench/instructions.sh
+# Counts the processor's instructions and the calls of the system for each command: of `make 1024`; of reads of a block of 4,096 bytes; of writes of a block;
+# and of writes of 64 blocks, there for each block. Each is the difference of two runs, of which one has more of these commands, so that reading the trace and
+# printing are counted and the start of the program, the making of the drive and the end are not; for `make` the other one is `make 0`. The drive is that of
+# `make`, without collectors but for `make`, whose two look up to 4,096 times each how far the history has grown; no unit is emptied but by `make`.
+# It needs valgrind for the instructions (of all threads, of the program and the libraries and not of the system's core) and strace for the calls.
+# Usage: bench/instructions.sh [NUMBER]: `make NUMBER`, and so many commands of a block, 1024 if not given. The program is the one that ./fdpdrive runs.
 set -eu
 top=$(cd "$(dirname "$0")/.." && pwd)
-work=$(mktemp -d)
-trap 'rm -rf "$work"' EXIT
+. "$top/bench/measures.sh"
+needs valgrind "apt-get install -y valgrind"
+number=${1:-1024}
+cd "$work"
+made_drive 0 0 > drive.toml
+
+# the instructions of a run of the program with these words, which makes a new image
+instructions() {
+    rm -f drive.img
+    valgrind --tool=callgrind --callgrind-out-file=/dev/null "$program" "$@" 2>&1 > output | sed -n 's/.*Collected : //p'
+}
+
+# the calls of the system of such a run; none are counted without strace
+calls() {
+    rm -f drive.img
+    strace -f -c -o counted "$program" "$@" > output
+    awk '$4 ~ /^[0-9]+$/ && $NF != "total" { all += $4 } END { print all }' counted
+}
+
+# what a run with the second words has more than one with the first, for each of so many
+tell() {
+    what=$1 count=$2
+    less=$(instructions $3) more=$(instructions $4)
+    [ -n "$less" ] && [ -n "$more" ] || fail "valgrind counted nothing: $what"
+    line="$what: $(((more - less) / count)) instructions"
+    if [ "$strace" = 1 ]; then line="$line, $(awk -v less="$(calls $3)" -v more="$(calls $4)" -v count="$count" 'BEGIN { printf "%.1f", (more - less) / count }') calls of the system"; fi
+    echo "$line"
+}
 
 # so many commands of a kind, of so many blocks each
 commands() {
@@ -15,21 +43,16 @@ commands() {
     }'
 }
 
-# the instructions of a run over a trace
-instructions() {
-    rm -f "$work/drive.img"
-    valgrind --tool=callgrind --callgrind-out-file=/dev/null "$top/crates/fdpdrive/out/fdpdrive" run "$top/examples/large.toml" "$work/drive.img" "$1" \
-        2>&1 >/dev/null | sed -n 's/.*Collected : //p'
-}
-
-"$top/fdpdrive" run "$top/examples/drive-s.toml" "$work/first.img" /dev/null >/dev/null
-for size in 1 64; do
-    count=$((4096 / size))
-    commands write $((count / 2)) "$size" > "$work/half"
-    commands write "$count" "$size" > "$work/written"
-    { cat "$work/written"; commands read "$count" "$size"; } > "$work/read"
-    half=$(instructions "$work/half")
-    written=$(instructions "$work/written")
-    read=$(instructions "$work/read")
-    echo "commands of $size blocks: $(((written - half) / 2048)) instructions a block written, $(((read - written) / 4096)) a block read"
-done
+tell_machine
+strace=1
+command -v strace > /dev/null || { strace=0 && echo "calls of the system are not counted: strace is not there (apt-get install -y strace)"; }
+tell "make $number, a command" $((4 * number)) "make 0 drive.img" "make $number drive.img"
+commands write "$number" 1 > one
+commands write $((2 * number)) 1 > two
+{ cat one; commands read "$number" 1; } > reads
+commands write $((number / 64)) 64 > one.64
+commands write $((number / 32)) 64 > two.64
+serve="run drive.toml drive.img"
+tell "a read of a block" "$number" "$serve one" "$serve reads"
+tell "a write of a block" "$number" "$serve one" "$serve two"
+tell "a write of 64 blocks, a block" $((number / 64 * 64)) "$serve one.64" "$serve two.64"

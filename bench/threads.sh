@@ -1,99 +1,82 @@
 #!/bin/sh
-# Measures sessions of 1, 2 and 4 hosts with 0 and 2 collectors: each host serves 8,192 commands, three writes of 8 blocks of 4,096 bytes to one read of
-# 4, scattered over its own quarter of a drive of 64 MiB, whose units are emptied and filled again. Prints commands per second, the start of the program, the
-# texts, the making of the drive in a new file and the printing included. It looks that each command succeeded, that a host got the same answers in each
-# run, whatever the schedule, and that the image opens again to the blocks that each host wrote last.
-# Usage: bench/threads.sh [RUNS]: the best of so many runs, 5 if not given.
+# Measures sessions of 1, 2 and 4 hosts with 0 and 2 collectors, which all do the same work on the same drive: its 12,288 blocks of 4,096 bytes, three quarters
+# of its pages, are written once, and half of them once more, before the first; each session begins with a copy of that image. The commands, three writes of 8
+# blocks to one read of 4, fall to four rows, each scattered over its own quarter of the blocks and with a handle of its own; one host serves all four rows by
+# turns, two hosts two each, four hosts one each.
+# Prints commands a second (the texts and the printing included, and not a run of empty traces over the same image, which is the start of the program and the
+# opening), programs a block (pages of data for each block that hosts wrote, so 1 where nothing is copied), and the processors' time. The aim: four hosts serve
+# at least 0.9 times as many commands a second as one host.
+# Collectors have 4,096 turns each, and count each look at how far the history has grown as one, also where it has not: with few hosts the sessions with
+# collectors measure mostly these looks.
+# It looks that each command succeeded, that a host got the same answers in each session, whatever the schedule, and that each image
+# opens to the blocks that were written last.
+# Usage: bench/threads.sh [RUNS [COMMANDS]]: the best of so many runs of so many commands a row, 5 and 2048 (the most that one host serves of each) if not given.
+# The program is the one that ./fdpdrive runs.
 set -eu
-runs=${1:-5}
 top=$(cd "$(dirname "$0")/.." && pwd)
-work=$(mktemp -d)
-trap 'rm -rf "$work"' EXIT
+. "$top/bench/measures.sh"
+needs /usr/bin/time "apt-get install -y time"
+runs=${1:-5}
+commands=${2:-2048}
+cd "$work"
+made_drive 0 0 > 0.toml
+made_drive 2 4096 > 2.toml
+full_drive
 
-fail() {
-    echo "NOT as expected: $1"
-    exit 1
-}
+# what is printed for the queue of a host
+answers() { awk -v host="$1" '$1 == "queue" { mine = $2 == host } /^(stats|ruh|event)/ { mine = 0 } mine' output; }
 
-# the drive with so many collectors
-drive() {
-    cat << END
-block = 4096
-unit_pages = 64
-groups = 2
-units = 128
-area_units = 1
-queues = 4
-blocks_per_command = 64
-fdp = [["initial", "initial", "persistent", "persistent"]]
-enabled = true
-index = 0
-queue_depth = 64
-collectors = $1
-turns = 4096
-namespaces = [{ blocks = 12288, handles = [0, 1, 2, 3] }]
-END
-}
-
-drive 0 > "$work/0.toml"
-drive 2 > "$work/2.toml"
-for host in 1 2 3 4; do
-    awk -v host="$host" 'BEGIN {
-        x = host
-        for (i = 0; i < 8192; i++) {
-            x = (x * 69069 + 12345) % 4294967296
-            lba = 3072 * (host - 1) + 8 * (int(x / 65536) % 384)
-            if (i % 4 == 3) printf "read 1 %d 4\n", lba
-            else printf "write 1 %d 8 %d pid %d\n", lba, host * 16777216 + i, host % 2 ? host - 1 : 32768 + host - 1
-        }
-    }' > "$work/$host.trace"
-done
 for half in 0 1; do
-    awk -v first=$((half * 6144)) 'BEGIN { for (i = 0; i < 6144; i += 64) print "read 1", first + i, 64 }' > "$work/blocks.$half"
+    awk -v first=$((half * 6144)) 'BEGIN { for (i = 0; i < 6144; i += 64) print "read 1", first + i, 64 }' > "blocks.$half"
 done
+for row in 1 2 3 4; do rows 0 "$commands" $row > "1.$row"; done
+rows 0 "$commands" 1 2 > 2.12
+rows 0 "$commands" 3 4 > 2.34
+rows 0 "$commands" 1 2 3 4 > 4.1234
+# what the blocks hold behind each session
+awk '$1 == "write" { for (j = 0; j < $4; j++) holds[$3 + j] = $5 + j }
+    END { for (i = 0; i < 12288; i++) printf "  %08x\n", holds[i] }' full.trace 4.1234 > blocks
 
-# what the blocks hold behind the traces of these hosts
-blocks_behind() {
-    cat "$@" | awk '
-        $1 == "write" { for (j = 0; j < 8; j++) holds[$3 + j] = $5 + j }
-        END { for (i = 0; i < 12288; i++) printf "  %08x\n", holds[i] }'
+# the best run of empty traces
+open() {
+    best=
+    for try in $(seq "$runs"); do
+        cp full.img drive.img
+        timed run 0.toml drive.img empty.trace
+        keep_best
+    done
+    opened=$best opened_user=$best_user opened_system=$best_system
 }
 
-# what the program prints for the queue of a host
-answers() {
-    awk -v host="$1" '$1 == "queue" { mine = $2 == host } /^(stats|ruh|event)/ { mine = 0 } mine' "$work/output"
-}
-
-# the best of the runs of so many hosts with so many collectors
+# the best session of these traces with so many collectors
 measure() {
-    hosts=$1 collectors=$2 best=
-    set --
-    for host in $(seq "$hosts"); do set -- "$@" "$work/$host.trace"; done
-    blocks_behind "$@" > "$work/blocks"
-    for run in $(seq "$runs"); do
-        rm -f "$work/drive.img"
-        start=$(date +%s%N)
-        "$top/fdpdrive" run "$work/$collectors.toml" "$work/drive.img" "$@" > "$work/output" || fail "status $?"
-        end=$(date +%s%N)
-        took=$((end - start))
-        if [ -z "$best" ] || [ "$took" -lt "$best" ]; then best=$took; fi
-        completed=$(grep -c '^[0-9]* \(write\|read\) 0/00 00000000$' "$work/output")
-        [ "$completed" -eq $((8192 * hosts)) ] || fail "$completed commands succeeded"
-        for host in $(seq "$hosts"); do
-            answers "$host" > "$work/answers"
-            [ -e "$work/answers.$host" ] || cp "$work/answers" "$work/answers.$host"
-            cmp -s "$work/answers" "$work/answers.$host" || fail "other answers for host $host"
+    collectors=$1 best=
+    shift
+    for try in $(seq "$runs"); do
+        cp full.img drive.img
+        timed run "$collectors.toml" drive.img "$@"
+        keep_best
+        programs=$(programs_a_block "$before" "$(bytes_written)")
+        [ "$(grep -c '^[0-9]* \(write\|read\) 0/00 00000000$' output)" -eq $((4 * commands)) ] || fail "not all commands succeeded"
+        for host in $(seq $#); do
+            answers "$host" > told
+            [ -e "told.$#.$host" ] || cp told "told.$#.$host"
+            cmp -s told "told.$#.$host" || fail "other answers for host $host"
         done
-        "$top/fdpdrive" run "$work/$collectors.toml" "$work/drive.img" "$work/blocks.0" "$work/blocks.1" > "$work/output" || fail "the image does not open"
-        grep '^  ' "$work/output" | cmp -s - "$work/blocks" || fail "other blocks in the image"
+        timed run 0.toml drive.img blocks.0 blocks.1
+        grep '^  ' output | cmp -s - blocks || fail "other blocks in the image"
     done
-    awk -v hosts="$hosts" -v collectors="$collectors" -v took="$best" 'BEGIN {
-        printf "%d hosts, %d collectors: %d commands per second (%d milliseconds for %d)\n", hosts, collectors, 8192 * hosts / (took / 1e9), took / 1e6, 8192 * hosts }'
+    took=$((best - opened))
+    second=$((4 * commands * 1000000 / (took / 1000)))
+    [ $# -gt 1 ] || alone=$second
+    echo "hosts $#, collectors $collectors: $second commands a second, $(awk -v a="$second" -v b="$alone" 'BEGIN { printf "%.2f", a / b }') of one host's;" \
+        "$programs programs a block; $((best_user - opened_user)) milliseconds user, $((best_system - opened_system)) system, of $((took / 1000000))"
 }
 
-"$top/fdpdrive" run "$work/0.toml" "$work/drive.img" "$work/blocks.0" "$work/blocks.1" > "$work/output"
-for hosts in 1 2 4; do
-    for collectors in 0 2; do
-        measure "$hosts" "$collectors"
-    done
+tell_machine
+open
+for collectors in 0 2; do
+    measure "$collectors" 4.1234
+    measure "$collectors" 2.12 2.34
+    measure "$collectors" 1.1 1.2 1.3 1.4
 done

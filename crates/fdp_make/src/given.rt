@@ -91,18 +91,22 @@ fn cut(bytes: &[u8], index: u128, block: u32) -> &[u8]
     &rest[..rest.len().min(block as usize)]
 }
 
-/// Whether the bytes are a word so many times over.
+/// Whether the bytes are a word so many times over: they begin with it, and are the same as themselves four bytes on, which is
+/// compared many bytes at a time.
 fn is_repeated(word: &[u8; 4], times: u32, bytes: &[u8]) -> bool
     ensures { result ≡ bytes_eq (repeated times word.now) bytes.now }
 {
-    let times = times as usize;
-    if bytes.len() != 4 * times {
+    if bytes.len() != 4 * times as usize {
         return false;
     }
-    for index in 0..times {
-        if &bytes[4 * index..4 * index + 4] != word.as_slice() {
-            return false;
-        }
+    if times == 0 {
+        return true;
     }
-    true
+    is_same(&bytes[..4], word) && is_same(&bytes[4..], &bytes[..bytes.len() - 4])
+}
+
+fn is_same(left: &[u8], right: &[u8]) -> bool
+    ensures { result ≡ bytes_eq left.now right.now }
+{
+    left == right
 }
