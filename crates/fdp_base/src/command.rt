@@ -117,7 +117,7 @@ pub struct Other {
     pub feature: u8,
 }
 
-/// A command of a host. The fields are those of its submission queue entry; `docs/DRIVE.md` has the table.
+/// A command of a host. The fields are those of its submission queue entry; `docs/FORMATS.md` has the table.
 #[derive(Clone, Debug, Drop, PartialEq, Eq)]
 pub enum Command {
     Write(Write),

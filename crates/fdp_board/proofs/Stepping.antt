@@ -1,18 +1,20 @@
 -- A step of a drive, on its board.
-use Rattle.std.proofs.Common.{◌≡◌, ℕ, ◌<◌, ◌≤◌, Bool, List, [], ◌∷◌, ◌++◌, refl, ap, sym, ◌∙◌, subst, arith, append_assoc, inl, inr, ⊎_elim, length}
+use Rattle.std.proofs.Common.{◌≡◌, ℕ, ◌+◌, ◌<◌, ◌≤◌, Bool, List, [], ◌∷◌, ◌++◌, refl, ap, sym, ◌∙◌, subst, arith, append_assoc, inl, inr, ⊎_elim, length, length-append}
 use Rattle.std.specs.Prelude.{All, IsFalse, IsTrue, map}
 use mathlib.Core.List.{IsPrefix}
 use Rattle.std.proofs.lemmas.Bool.{cases_lt}
 use Rattle.fdp_base.specs.declared.config.DriveConfig.{DriveConfig}
+use Rattle.fdp_base.specs.declared.config.Geometry.{Geometry}
 use Rattle.fdp_base.specs.declared.entry.Entry.{Entry}
 use Rattle.fdp_base.specs.declared.entry.Totals.{Totals}
 use Rattle.fdp_base.specs.declared.recorded.Mark.{Mark}
+use Rattle.fdp_base.specs.Placement.{geometry_of}
 use Rattle.fdp_base.proofs.Records.{prefix_trans}
 use Rattle.fdp_workers.specs.fdp_book.Book.{BookSeen, state_in}
 use Rattle.fdp_workers.specs.fdp_book.declared.ticket.Ticket.{Ticket}
 use Rattle.fdp_workers.specs.fdp_book.Tickets.{IsTicketOf}
 use Rattle.fdp_workers.specs.fdp_core.Seen.{Seen}
-use Rattle.fdp_workers.specs.fdp_core.Steps.{Adds}
+use Rattle.fdp_workers.specs.fdp_core.Steps.{Adds, steps_of}
 use Rattle.fdp_workers.specs.fdp_core.Stops.{OutlastsStops}
 use Rattle.fdp_flash.specs.declared.cell.Cell.{Cell}
 use Rattle.fdp_flash.specs.FlashState.{Call, FlashState}
@@ -22,12 +24,14 @@ use Rattle.fdp_workers.specs.fdp_roominess.Run.{BeganRoomy, IsRoomyImage}
 use Rattle.fdp_workers.specs.fdp_survival.Apart.{StandsApart}
 use Rattle.fdp_workers.proofs.fdp_survival.Images.{grown-apart, less-apart}
 use Rattle.fdp_workers.specs.fdp_ledger.declared.counts.Counts.{Counts}
+use Rattle.fdp_workers.specs.fdp_ledger.Emptied.{OnlyErasesEmpty}
+use Rattle.fdp_workers.proofs.fdp_loading.fdp_ledger.Emptied.{emptied-joined}
 use Rattle.fdp_rules.specs.History.{Found, point_of, state_of}
 use Rattle.fdp_rules.specs.PlainState.{Going, PlainState}
 use Rattle.fdp_rules.specs.Seats.{mark_of, marks_after, marks_of, seat_of_entry}
 use Rattle.fdp_workers.specs.Run.{OpensFirst}
 use Rattle.fdp_workers.specs.Turns.{AddsNone, AddsOwn}
-use Rattle.fdp_board.specs.Board.{AreCharged, AreSumsOf, Began, IsBoard, IsKeptImage, IsRoomySince, IsSafeSince, IsUnfailing, began_with, items_of}
+use Rattle.fdp_board.specs.Board.{AreCharged, AreSumsOf, Began, EmptiedAreTold, IsBoard, IsKeptImage, IsRoomySince, IsSafeSince, IsUnfailing, StepsAreTold, began_with, items_of}
 use Rattle.fdp_workers.specs.Marks.{entry_in, mark_in, marked_after}
 use Rattle.fdp_board.proofs.Charging.{charged-after}
 use Rattle.fdp_board.proofs.Outlasting.{AreLate, each_later, kept-grown, kept-less}
@@ -48,16 +52,18 @@ ticket-there s ticket g is = subst (λ (x : PlainState). IsTicketOf x ticket g) 
 
 -- ---- what a step leaves
 
--- what a step adds: these entries, none of which tells of an opening or completes a change before it, and whose media errors tell of calls of the step
+-- what a step adds: these entries, and the step where there are some; none of which tells of an opening or completes a change before it, and whose media errors tell of calls of the step
 pub record Goes {F : Type 0} (state : F → FlashState) (old new : Seen F) (es : List Entry) : Type 0 where
   pub config_is : new.book.config ≡ old.book.config
   pub found_is : new.book.found ≡ old.book.found
   pub opened_is : new.book.opened ≡ old.book.opened
   pub handed_is : new.handed ≡ old.handed
   pub entries_are : new.book.entries ≡ old.book.entries ++ es
+  pub spent_is : new.book.spent ≡ old.book.spent + steps_of es
   pub later : AreLater es
   pub late : AreLate (state old.flash).moment es
   pub charged : AreCharged (state old.flash).moment (state new.flash) es
+  pub emptied : IsTrue (state old.flash).told → OnlyErasesEmpty (state old.flash).geometry (state old.flash).cells (state new.flash).cells es
 
 pub goes : {F : Type 0} (state : F → FlashState) (old new : Seen F) (es : List Entry) (calls : List Call) → Adds state old new es calls → AreLater es → AreLate (state old.flash).moment es → AreCharged (state old.flash).moment (state new.flash) es → Goes state old new es
 goes state old new es calls a later late charged = record {
@@ -66,9 +72,11 @@ goes state old new es calls a later late charged = record {
   opened_is = a.book.opened_is;
   handed_is = a.handed_is;
   entries_are = a.book.entries_are;
+  spent_is = a.book.spent_is;
   later = later;
   late = late;
   charged = charged;
+  emptied = a.matches.emptied;
 }
 
 -- an image by the fields of the book before a step is one by those of the book behind it
@@ -125,6 +133,31 @@ roomy-after state old new es g stops roomy told began well m image above most th
       | inr early ↦ roomy told_before began_before (λ rose. well (omega (arith, rose, run.faults))) m image above early (run.earlier m image early there)
     ])
 
+-- each step has added an entry
+steps-few : (es : List Entry) → steps_of es ≤ length es
+steps-few [] = omega arith
+steps-few (e ∷ es) = omega arith
+
+steps-after : {F : Type 0} (state : F → FlashState) (old new : Seen F) (es : List Entry) → Goes state old new es → StepsAreTold old.book → StepsAreTold new.book
+steps-after state old new es g told =
+    let few = steps-few es in
+    let size : length new.book.entries ≡ length old.book.entries + length es = ap length g.entries_are ∙ length-append old.book.entries es in
+    omega (arith, told, few, size, g.spent_is)
+
+-- and each unit that was emptied has its entry
+emptied-after : {F : Type 0} (state : F → FlashState) (old new : Seen F) (es : List Entry) → Goes state old new es → OutlastsStops state old new → EmptiedAreTold (state old.flash) old.book → EmptiedAreTold (state new.flash) new.book
+emptied-after state old new es g stops was = record {
+  cut = stops.stops.images.geometry ∙ was.cut ∙ ap geometry_of (sym g.config_is);
+  only = λ told is_image.
+      let told_before : IsTrue (state old.flash).told = sym stops.stops.images.told ∙ told in
+      let image_before : IsTrue old.book.found.is_image = ap (λ (f : Found). f.is_image) (sym g.found_is) ∙ is_image in
+      let step : OnlyErasesEmpty (geometry_of old.book.config) (state old.flash).cells (state new.flash).cells es = subst (λ (k : Geometry). OnlyErasesEmpty k (state old.flash).cells (state new.flash).cells es) was.cut (g.emptied told_before) in
+      let all = emptied-joined (geometry_of old.book.config) old.book.opened (state old.flash).cells (state new.flash).cells old.book.entries es (was.only told_before image_before) step in
+      subst (λ (c : DriveConfig). OnlyErasesEmpty (geometry_of c) new.book.opened (state new.flash).cells new.book.entries) (sym g.config_is)
+      (subst (λ (cells : List Cell). OnlyErasesEmpty (geometry_of old.book.config) cells (state new.flash).cells new.book.entries) (sym g.opened_is)
+      (subst (OnlyErasesEmpty (geometry_of old.book.config) old.book.opened (state new.flash).cells) (sym g.entries_are) all));
+}
+
 pub board-after : {F : Type 0} (state : F → FlashState) (old new : Seen F) (before : Totals) (told : List Mark) (es : List Entry) → Goes state old new es → OutlastsStops state old new → IsBoard state old before told → IsBoard state new before told
 board-after state old new before told es g stops b = record {
   opens = subst (OpensFirst []) (sym g.entries_are) (opens-joined [] old.book.entries es b.opens g.later);
@@ -133,6 +166,7 @@ board-after state old new before told es g stops b = record {
       (prefix_trans told (marks_of old.book.found old.book.entries) (marks_of old.book.found (old.book.entries ++ es)) b.shown
       (marks_after old.book.found old.book.entries es, sym (marks-joined old.book.found [] old.book.entries es))));
   sums = subst (λ (f : Found). AreSumsOf f before) (sym g.found_is) b.sums;
+  steps = steps-after state old new es g b.steps;
   safe = subst (λ (h : Counts). IsSafeSince h.moment (state new.flash) new.book) (sym g.handed_is) (safe-after state old new es g stops b.safe);
   roomy = subst (λ (h : Counts). IsRoomySince h (state new.flash) new.book) (sym g.handed_is) (roomy-after state old new es g stops b.roomy);
   later = subst (λ (h : Counts). h.moment ≤ (state new.flash).moment) (sym g.handed_is) (omega (arith, b.later, stops.stops.images.later));
@@ -143,6 +177,7 @@ board-after state old new before told es g stops b = record {
       (λ reliable.
       let was = subst (λ (x : Bool). IsTrue x) stops.stops.images.reliable reliable in
       stops.stops.images.no_fault was ∙ b.unfailing was);
+  emptied = emptied-after state old new es g stops b.emptied;
 }
 
 -- nothing changes of what the drive began with

@@ -1,5 +1,5 @@
 -- A drive with its teller, as contracts see it, and the record that it keeps.
-use Rattle.std.specs.Prelude.{◌≡◌, ℕ, ◌-◌, ◌<◌, ◌≤◌, All, Bool, false, true, IsTrue, List, [], Some, slice_get}
+use Rattle.std.specs.Prelude.{◌≡◌, ℕ, ◌-◌, ◌<◌, ◌≤◌, All, Bool, false, true, IsTrue, List, [], Some, length, slice_get}
 use Rattle.std.specs.Option.{option_map_or}
 use mathlib.Core.List.{IsPrefix}
 use Rattle.atomic_table.specs.Seated.{TableId}
@@ -10,6 +10,7 @@ use Rattle.fdp_base.specs.declared.entry.Totals.{Totals}
 use Rattle.fdp_base.specs.declared.recorded.Mark.{Mark}
 use Rattle.fdp_base.specs.Counts.{Rose}
 use Rattle.fdp_base.specs.EntryKinds.{host_of, ServesNone}
+use Rattle.fdp_base.specs.Placement.{geometry_of}
 use Rattle.fdp_workers.specs.fdp_book.Book.{BookSeen}
 use Rattle.fdp_workers.specs.fdp_core.Seen.{Seen}
 use Rattle.fdp_flash.specs.declared.cell.Cell.{Cell}
@@ -19,6 +20,7 @@ use Rattle.fdp_workers.specs.fdp_isolation.Begun.{OpenedApart}
 use Rattle.fdp_workers.specs.fdp_roominess.Run.{BeganRoomy, IsRoomyImage}
 use Rattle.fdp_workers.specs.fdp_survival.Apart.{StandsApart}
 use Rattle.fdp_workers.specs.fdp_ledger.declared.counts.Counts.{Counts}
+use Rattle.fdp_workers.specs.fdp_ledger.Emptied.{OnlyErasesEmpty}
 use Rattle.fdp_workers.specs.fdp_ledger.Told.{is_media_reply}
 use Rattle.fdp_origin.specs.Opening.{blank}
 use Rattle.fdp_rules.specs.History.{Found}
@@ -126,14 +128,26 @@ AreCharged since now es = All (λ e. IsTrue (is_media_reply e) → FailedSince s
 abbrev pub IsUnfailing : Counts → FlashState → Type 0
 IsUnfailing handed flash = IsTrue flash.reliable → flash.faults ≡ handed.faults
 
+-- each step that was made added an entry
+abbrev pub StepsAreTold : BookSeen → Type 0
+StepsAreTold b = b.spent ≤ length b.entries
+
+-- The flash is cut as configured; and over an image a data unit that is all blank was so when the drive was opened, unless an entry tells that it was erased,
+-- or that its erase failed.
+pub record EmptiedAreTold (flash : FlashState) (b : BookSeen) : Type 0 where
+  pub cut : flash.geometry ≡ geometry_of b.config
+  pub only : IsTrue flash.told → IsTrue b.found.is_image → OnlyErasesEmpty (geometry_of b.config) b.opened flash.cells b.entries
+
 -- A drive that has served nothing since it was opened, whatever it relocated: no entry serves a host, and an opening stands at the beginning alone. Whatever
 -- a stop since its flash was handed in may have left stands for its history, and is roomy where it should be; and no call of a reliable flash has failed.
 pub record HasServedNothing {F : Type 0} (state : F → FlashState) (s : Seen F) : Type 0 where
   pub opens : OpensFirst [] s.book.entries
   pub none : All ServesNone s.book.entries
+  pub steps : StepsAreTold s.book
   pub safe : IsSafeSince s.handed.moment (state s.flash) s.book
   pub roomy : IsRoomySince s.handed (state s.flash) s.book
   pub unfailing : IsUnfailing s.handed (state s.flash)
+  pub emptied : EmptiedAreTold (state s.flash) s.book
 
 -- the sums before the history are those of what it goes on from
 pub record AreSumsOf (f : Found) (before : Totals) : Type 0 where
@@ -147,8 +161,10 @@ pub record IsBoard {F : Type 0} (state : F → FlashState) (group : Seen F) (bef
   -- the teller has told a beginning of the record
   pub shown : IsPrefix told (marks_of group.book.found group.book.entries)
   pub sums : AreSumsOf group.book.found before
+  pub steps : StepsAreTold group.book
   pub safe : IsSafeSince group.handed.moment (state group.flash) group.book
   pub roomy : IsRoomySince group.handed (state group.flash) group.book
   pub later : group.handed.moment ≤ (state group.flash).moment
   pub charged : AreCharged group.handed.moment (state group.flash) group.book.entries
   pub unfailing : IsUnfailing group.handed (state group.flash)
+  pub emptied : EmptiedAreTold (state group.flash) group.book

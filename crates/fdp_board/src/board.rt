@@ -1,5 +1,5 @@
 ghost use Rattle.std.specs.Prelude.{◌≡◌, []};
-ghost use Rattle.fdp_board.specs.Board.{AreCharged, HasServedNothing, IsRoomySince, IsSafeSince, IsUnfailing};
+ghost use Rattle.fdp_board.specs.Board.{AreCharged, EmptiedAreTold, HasServedNothing, IsRoomySince, IsSafeSince, IsUnfailing, StepsAreTold};
 ghost use Rattle.fdp_gauge.specs.Passes.{told_of};
 ghost use Rattle.fdp_workers.specs.Marks.{counts_of};
 
@@ -57,6 +57,8 @@ impl<F: Flash> Board<F> {
         ensures roomy { IsRoomySince self.group.handed (F.state self.group.flash) self.group.book }
         ensures charged { AreCharged self.group.handed.moment (F.state self.group.flash) self.group.book.entries }
         ensures unfailing { IsUnfailing self.group.handed (F.state self.group.flash) }
+        ensures steps { StepsAreTold self.group.book }
+        ensures emptied { EmptiedAreTold (F.state self.group.flash) self.group.book }
     {
         let Board {
             group,
@@ -95,7 +97,7 @@ impl<F: Flash> Recorded for Board<F> {
     ghost mark = { mark_in };
 
     fn length(&self) -> u64 {
-        let _ = &self.before;
+        let _ = &self.before; // proof
         self.group.entries().len() as u64
     }
 }
@@ -112,44 +114,44 @@ impl<F: Flash> Steps for Board<F> {
     ghost spare = { λ b. b.group.book.spare };
 
     fn known(&self) {
-        let _ = &self.before;
-        let _few = self.group.entries();
-        let _bound = self.group.spent();
+        let _ = &self.before; // proof
+        let _few = self.group.entries(); // proof
+        let _bound = self.group.spent(); // proof
     }
 
     fn is_spent(&self) -> bool {
-        let _ = &self.before;
+        let _ = &self.before; // proof
         self.group.spent() == MOST_STEPS
     }
 
     fn reserve(&mut self) -> Result<(), AllocError> {
-        let _ = &self.before;
-        let _bound = self.group.spent();
+        let _ = &self.before; // proof
+        let _bound = self.group.spent(); // proof
         self.group.reserve(1)
     }
 
     fn start(&mut self, queue: u8, number: u16, command: Command, room: Room) -> Begun {
-        let _ = &self.before;
+        let _ = &self.before; // proof
         self.group.start(queue, number, command, room)
     }
 
     fn place(&mut self, ticket: Ticket) -> Placed {
-        let _ = &self.before;
+        let _ = &self.before; // proof
         self.group.place(ticket)
     }
 
     fn commit(&mut self, ticket: Ticket) -> Done {
-        let _ = &self.before;
+        let _ = &self.before; // proof
         self.group.commit(ticket)
     }
 
     fn abandon(&mut self, ticket: Ticket) {
-        let _ = &self.before;
+        let _ = &self.before; // proof
         self.group.abandon(ticket);
     }
 
     fn collect(&mut self, rg: u16) -> Advance {
-        let _ = &self.before;
+        let _ = &self.before; // proof
         self.group.collect(rg)
     }
 

@@ -82,6 +82,7 @@ impl Book {
         ensures ok { OnOk result (steps ≤ self.new.spare) }
         ensures kept { self.new ≡ record self.old { spare = self.new.spare } }
         ensures err { OnErr result (self.new ≡ self.old) }
+        ensures memory { OnErr result (self.old.spare < steps) }
     {
         self.log.reserve(steps)
     }
@@ -137,9 +138,8 @@ impl Book {
         ensures totals { result ≡ totals_of self.now.found self.now.entries }
         ensures small { AreSmall result }
     {
-        // Read, so that it is known how few entries there are.
-        let _ = self.log.entries();
-        let _ = self.log.spent();
+        let _ = self.log.entries(); // proof: there are few entries
+        let _ = self.log.spent(); // proof
         let sums = self.tables.sums;
         Totals {
             position: self.log.position(),

@@ -38,6 +38,7 @@ impl Flight {
     {
         match self.room.command().as_write() {
             Some(write) => &write.payload,
+            // A flight is that of a write.
             None => unreachable!(),
         }
     }
@@ -54,6 +55,7 @@ impl Flight {
                 pid: write.dspec,
                 pid_invalid: !self.pid_valid,
             },
+            // A flight is that of a write.
             None => unreachable!(),
         }
     }

@@ -82,7 +82,7 @@ impl Log {
         ensures entries { result.now ≡ self.now.entries }
         ensures few { length result.now ≤ MOST_STEP_ENTRIES * self.now.spent + 1 }
     {
-        let _ = &self.spent;
+        let _ = &self.spent; // proof
         self.entries.as_slice()
     }
 
@@ -128,6 +128,7 @@ impl Log {
         ensures ok { OnOk result (steps ≤ self.new.spare) }
         ensures kept { self.new ≡ record self.old { spare = self.new.spare } }
         ensures err { OnErr result (self.new ≡ self.old) }
+        ensures memory { OnErr result (self.old.spare < steps) }
     {
         if steps <= self.spare {
             return Ok(());

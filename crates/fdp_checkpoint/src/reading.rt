@@ -140,6 +140,7 @@ fn is_overlong(state: &State, len: usize, block: usize) -> bool
 {
     match end_of_blocks(state.summary.spaces.as_slice(), len) {
         Some(end) => len - end >= block,
+        // The state was read from these bytes, so its blocks end within them.
         None => unreachable!(),
     }
 }

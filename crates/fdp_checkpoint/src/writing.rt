@@ -51,6 +51,7 @@ pub fn write<F: Flash>(
     let geometry = flash.geometry();
     let count = match page_count(&geometry, summary) {
         Some(count) => count,
+        // A valid configuration has room for a checkpoint in an area.
         None => unreachable!(),
     };
     let target = Target {

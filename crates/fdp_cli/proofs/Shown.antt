@@ -1,5 +1,5 @@
 -- What a run shows.
-use Rattle.std.proofs.Common.{◌≡◌, ◌⊎◌, ℕ, ◌-◌, ◌<◌, ◌≤◌, Bool, true, get_or, IsTrue, ap, List, [], ◌∷◌, ◌++◌, length, Err, refl, sym, ◌∙◌, subst, arith, inl, inr, ⊎_elim}
+use Rattle.std.proofs.Common.{◌≡◌, ◌⊎◌, ℕ, ◌-◌, ◌<◌, ◌≤◌, Bool, false, true, get_or, IsTrue, ap, List, [], ◌∷◌, ◌++◌, length, Err, refl, sym, ◌∙◌, subst, arith, inl, inr, ⊎_elim}
 use mathlib.Core.List.{IsPrefix}
 use Rattle.std.specs.List.{list_any}
 use Rattle.std.specs.Prelude.{All, IsFalse, Result, ⊤}
@@ -11,10 +11,11 @@ use Rattle.fdp_base.specs.declared.entry.Entry.{Entry}
 use Rattle.fdp_base.specs.declared.entry.Entry.TheVariants as entries
 use Rattle.fdp_base.specs.Config.{IsValidConfig}
 use Rattle.fdp_base.specs.Counts.{Rose}
+use Rattle.fdp_base.specs.Placement.{geometry_of}
 use Rattle.fdp_drive.specs.fdp_book.Book.{BookSeen, point_in}
-use Rattle.fdp_drive.specs.fdp_core.Loading.{IsLoaded, IsNotLoaded}
-use Rattle.fdp_drive.specs.fdp_core.Seen.{HasMoments, HoldsHistory, IsLegalOver, Seen}
-use Rattle.fdp_drive.specs.fdp_board.Board.{AreCharged, HasServedNothing, IsRoomySince, IsSafeSince}
+use Rattle.fdp_drive.specs.fdp_core.Loading.{IsLoaded, IsNewDrive, IsNotLoaded, IsOpenedDrive}
+use Rattle.fdp_drive.specs.fdp_core.Seen.{HasMoments, HoldsHistory, IsLegalOver, ReadsAsEnd, Seen}
+use Rattle.fdp_drive.specs.fdp_board.Board.{AreCharged, EmptiedAreTold, HasServedNothing, IsRoomySince, IsSafeSince}
 use Rattle.fdp_drive.proofs.fdp_board.Outlasting.{AreLate}
 use Rattle.fdp_drive.specs.fdp_crews.Crews.{IsTrace}
 use Rattle.fdp_drive.specs.Session.{HoldsTraces, IsSameDrive, IsSession, KeepsOrders}
@@ -33,9 +34,11 @@ use Rattle.fdp_io.specs.Sink.{HoldsFront, SinkState}
 use Rattle.fdp_drive.specs.fdp_isolation.Begun.{OpenedApart}
 use Rattle.fdp_drive.specs.fdp_isolation.Isolated.{IsIsolatedDrive}
 use Rattle.fdp_drive.specs.fdp_survival.Apart.{ReadsIsolated, StandsApart}
+use Rattle.fdp_drive.proofs.fdp_loading.Opens.{beginning-opens}
 use Rattle.fdp_drive.proofs.fdp_survival.Images.{less-apart}
 use Rattle.fdp_drive.specs.fdp_ledger.declared.counts.Counts.{Counts}
 use Rattle.fdp_drive.specs.fdp_ledger.Counted.{CountedSince}
+use Rattle.fdp_drive.specs.fdp_ledger.Emptied.{OnlyErasesEmpty}
 use Rattle.fdp_drive.specs.fdp_ledger.Start.{start_of}
 use Rattle.fdp_drive.specs.fdp_ledger.Told.{is_media_reply}
 use Rattle.fdp_drive.specs.fdp_workers.Run.{OpensFirst}
@@ -52,13 +55,14 @@ use Rattle.fdp_printing.specs.Printing.{HoldsSome, Prints}
 use Rattle.fdp_drive.specs.fdp_recovery.declared.opened.OpenFault.{OpenFault}
 use Rattle.fdp_drive.specs.fdp_roominess.Capacity.{exceeds_capacity}
 use Rattle.fdp_drive.specs.fdp_roominess.Run.{BeganRoomy, IsRoomyImage, StaysRoomy, WearsByFailure}
+use Rattle.fdp_drive.proofs.fdp_core.Loading.{entries-begun, unimaged}
 use Rattle.fdp_drive.proofs.fdp_core.Unfailing.{unfailing-fits}
 use Rattle.fdp_rules.specs.History.{Found, point_of}
 use Rattle.fdp_rules.specs.Legal.{IsLegal}
 use Rattle.fdp_rules.specs.Queue.{KeepsQueueOrder}
 use Rattle.fdp_rules.specs.Step.{IsQueue}
 use Rattle.fdp_cli.specs.Loading.{of_opening}
-use Rattle.fdp_cli.specs.Session.{CountsSame, IsRun, StaysIsolated}
+use Rattle.fdp_cli.specs.Session.{CountsSame, IsRun, StaysIsolated, StaysOpen}
 use Rattle.fdp_cli.specs.Top.{EndsRun, PrintsText, Refuses, Shows, text_in, text_of}
 use Rattle.fdp_base.specs.EntryKinds.{ServesNone}
 
@@ -84,6 +88,8 @@ pub record HasServed {F : Type 0} (state : F → FlashState) (c : DriveConfig) (
   pub roomy : IsTrue (state new.flash).told → StaysRoomy new.handed.faults (state new.flash).faults (state new.flash).told new.book (state new.flash).cells
   pub firm : AreFirm new.book.entries new.keeper.firm
   pub stands : IsTrue (state new.flash).told → StandsForBeginning new.book.config new.book.found new.book.entries new.keeper.firm (state new.flash).cells
+  pub sure : IsTrue (state new.flash).told → new.keeper.saver.in_doubt ≡ false → ReadsAsEnd (state new.flash) new.book
+  pub doubt : new.keeper.saver.in_doubt ≡ true → Rose new.handed.faults (state new.flash).faults
 
 -- the entries of an opening complete no change
 first-late : (m : ℕ) (es : List Entry) → (es ≡ []) ⊎ (es ≡ entries.Reopened ∷ []) → AreLate m es
@@ -115,16 +121,29 @@ opened-first es (inl none) = subst (OpensFirst []) (sym none) tt
 opened-first es (inr one) = subst (OpensFirst []) (sym one) ((λ same. refl), tt)
 
 -- a drive that was opened has served nothing yet
+-- what is opened is the image that was handed in
+opened-image : {F : Type 0} (state : F → FlashState) (c : DriveConfig) (handed : F) (old : Seen F) → IsLoaded state c handed old → IsTrue (state handed).told → IsTrue old.book.found.is_image → old.book.opened ≡ (state handed).cells
+opened-image state c handed old loaded told is_image = ⊎_elim
+    (λ (x : IsNewDrive c (state handed) old.book). absurd (let no : true ≡ false = sym is_image ∙ ap (λ (f : Found). f.is_image) x.found_is ∙ unimaged c in cc))
+    (λ (x : IsOpenedDrive c (state handed) old.book). x.opened_is told)
+    loaded.began
+
+-- the opening emptied no unit
+emptied-first : {F : Type 0} (state : F → FlashState) (c : DriveConfig) (handed : F) (old : Seen F) → IsLoaded state c handed old → IsTrue (state handed).told → IsTrue old.book.found.is_image → OnlyErasesEmpty (geometry_of old.book.config) old.book.opened (state old.flash).cells old.book.entries
+emptied-first state c handed old loaded told is_image =
+    subst (λ (x : DriveConfig). OnlyErasesEmpty (geometry_of x) old.book.opened (state old.flash).cells old.book.entries) (sym loaded.config_is)
+    (subst (λ (cells : List Cell). OnlyErasesEmpty (geometry_of c) cells (state old.flash).cells old.book.entries) (sym (opened-image state c handed old loaded told is_image)) (loaded.emptied told))
+
 pub served-nothing : {F : Type 0} (state : F → FlashState) (c : DriveConfig) (handed : F) (old : Seen F) → IsLoaded state c handed old → HasServedNothing state old
 served-nothing state c handed old loaded = record {
-  opens = opened-first old.book.entries loaded.entries_are;
-  none = opened-none old.book.entries loaded.entries_are;
+  opens = opened-first old.book.entries (entries-begun state c handed old loaded);
+  none = opened-none old.book.entries (entries-begun state c handed old loaded);
   safe = λ told m image above most there.
       let since = subst (λ (h : Counts). h.moment < m) loaded.handed_is above in
       record {
         stands =
             subst (λ (x : DriveConfig). StandsForKept x old.book.found old.book.entries 0 m image) (sym loaded.config_is)
-            (kept-first c old.book.found old.book.entries m image loaded.entries_are (run.images (sym run.told ∙ told) m image since most there));
+            (kept-first c old.book.found old.book.entries m image (entries-begun state c handed old loaded) (run.images (sym run.told ∙ told) m image since most there));
         apart =
             subst (λ (x : DriveConfig). OpenedApart x old.book.found old.book.opened → StandsApart x old.book.found old.book.entries 0 image) (sym loaded.config_is)
             (λ opened. less-apart c old.book.found old.book.entries (length old.book.entries) 0 image (omega arith) ((loaded.apart opened).images.images (sym run.told ∙ told) m image since most there));
@@ -132,7 +151,9 @@ served-nothing state c handed old loaded = record {
   roomy = λ told began well m image above most there.
       subst (λ (x : DriveConfig). IsRoomyImage x image) (sym loaded.config_is)
       ((loaded.stays_roomy began).images (sym run.told ∙ told) m image (subst (λ (h : Counts). h.moment < m) loaded.handed_is above) most there);
+  steps = omega (arith, loaded.spent_is);
   unfailing = λ reliable. loaded.faults ∙ sym (ap (λ (h : Counts). h.faults) loaded.handed_is);
+  emptied = record { cut = loaded.geometry ∙ ap geometry_of (sym loaded.config_is); only = λ told is_image. emptied-first state c handed old loaded (sym run.told ∙ told) is_image };
 } where
   run : Runs (state handed) (state old.flash) (λ m image. StandsForBeginning c old.book.found old.book.entries 0 image)
   run = loaded.stops
@@ -163,6 +184,23 @@ stays-isolated state c handed old new has same safe told reads =
       images = λ m image above most there. ((safe tells m image (subst (λ (k : Counts). k.moment < m) (sym (handed-is state c handed old new has same)) above) most there).apart opened).read;
     }
 
+-- and what it leaves opens, since it stands for a beginning of its history
+stays-open : {F : Type 0} (state : F → FlashState) (c : DriveConfig) (handed : F) (old new : Seen F) → HasServed state c handed old new → IsSameDrive state old new → IsSafeSince new.handed.moment (state new.flash) new.book → StaysOpen new.book.config (state handed) (state new.flash)
+stays-open state c handed old new has same safe = record {
+  cells = λ told. beginning-opens new.book.config new.book.found new.book.entries new.keeper.firm (state new.flash).cells (has.stands told);
+  images = λ told m image above most there.
+      let kept = (safe told m image (subst (λ (k : Counts). k.moment < m) (sym (handed-is state c handed old new has same)) above) most there).stands in
+      beginning-opens new.book.config new.book.found new.book.entries 0 image kept.beginning;
+}
+
+-- each unit that was emptied since has its entry
+emptied-since : {F : Type 0} (state : F → FlashState) (c : DriveConfig) (handed : F) (old new : Seen F) → HasServed state c handed old new → IsSameDrive state old new → EmptiedAreTold (state new.flash) new.book → IsTrue (state handed).told → IsTrue new.book.found.is_image
+    → OnlyErasesEmpty (geometry_of new.book.config) (state handed).cells (state new.flash).cells new.book.entries
+emptied-since state c handed old new has same emptied told is_image =
+    let tells : IsTrue (state new.flash).told = same.told_is ∙ has.loaded.stops.told ∙ told in
+    let was : IsTrue old.book.found.is_image = ap (λ (f : Found). f.is_image) (sym same.found_is) ∙ is_image in
+    subst (λ (cells : List Cell). OnlyErasesEmpty (geometry_of new.book.config) cells (state new.flash).cells new.book.entries) (same.opened_is ∙ opened-image state c handed old has.loaded told was) (emptied.only tells is_image)
+
 -- it began with room where the image was roomy
 began-by : {F : Type 0} (state : F → FlashState) (c : DriveConfig) (handed : F) (old new : Seen F) → HasServed state c handed old new → IsSameDrive state old new → IsTrue (state handed).told → IsRoomyImage new.book.config (state handed).cells → BeganRoomy (state new.flash).told new.book
 began-by state c handed old new has same told roomy =
@@ -179,7 +217,7 @@ began-by state c handed old new has same told roomy =
 fits-by : {F : Type 0} (state : F → FlashState) (c : DriveConfig) (handed : F) (old new : Seen F) → HasServed state c handed old new → IsSameDrive state old new → IsPrefix old.book.entries new.book.entries
     → new.book.config.groups ≡ 1 → BeganRoomy (state new.flash).told new.book → (Rose new.handed.faults (state new.flash).faults → ⊥) → IsFalse (list_any exceeds_capacity new.book.entries)
 fits-by state c handed old new has same goes_on one began well =
-    unfailing-fits new.handed (state new.flash) old.book new.book has.loaded.order same.config_is same.found_is has.loaded.entries_are goes_on.0 goes_on.1 has.legal has.counted has.worn began well one
+    unfailing-fits new.handed (state new.flash) old.book new.book has.loaded.order same.config_is same.found_is (entries-begun state c handed old has.loaded) goes_on.0 goes_on.1 has.legal has.counted has.worn began well one
 
 -- the summary of a generated load counts what is the same
 counts-same : {F : Type 0} (state : F → FlashState) (c : DriveConfig) (traces : List (List Command)) (receipts : List (List Receipt)) (end : End) (handed given : F) (old new : Seen F) → length traces ≤ c.queues → HasServed state c handed old new → given ≡ new.flash → IsSession state old new traces receipts end
@@ -205,7 +243,7 @@ counts-same {F} state c traces receipts end handed given old new few has same se
       whole =
           subst (FindsWholeBlocks c) (sym served.same.found_is)
           (subst (λ (x : DriveConfig). FindsWholeBlocks x old.book.found) has.loaded.config_is
-          (orderly-whole old.book.config old.book.found old.book.entries has.loaded.order.known.orderly has.loaded.entries_are))
+          (orderly-whole old.book.config old.book.found old.book.entries has.loaded.order.known.orderly (entries-begun state c handed old has.loaded)))
 
       legal : IsLegal true c new.book.found new.book.entries
       legal =
@@ -236,6 +274,7 @@ run_by {F} state c traces receipts end handed given old new has same served =
         charged = subst (λ (k : Counts). AreCharged k.moment (state new.flash) new.book.entries) is served.charged;
         unfailing = λ reliable. served.unfailing (served.same.reliable_is ∙ has.loaded.stops.reliable ∙ reliable) ∙ ap (λ (k : Counts). k.faults) is;
         cells = has.cells;
+        emptied = emptied-since state c handed old new has served.same served.emptied;
         apart = has.apart;
         opened = opened-by state c handed old new has served.same;
         isolated = stays-isolated state c handed old new has served.same served.safe;
@@ -246,7 +285,10 @@ run_by {F} state c traces receipts end handed given old new has same served =
         fits = λ one began well. fits-by state c handed old new has served.same served.goes_on one began (subst (λ (k : Counts). Rose k.faults (state new.flash).faults → ⊥) (sym is) well);
         firm = has.firm;
         stands = has.stands;
+        sure = has.sure;
+        doubt = λ doubt. subst (λ (k : Counts). Rose k.faults (state new.flash).faults) is (has.doubt doubt);
         stops = subst (λ (k : Counts). IsSafeSince k.moment (state new.flash) new.book) is served.safe;
+        opens = stays-open state c handed old new has served.same served.safe;
       };
     }
 

@@ -8,7 +8,7 @@ mod loading;
 mod top;
 
 pub use exit::drive_process;
-pub use laws::a_second_run_goes_on;
+pub use laws::{a_second_run_goes_on, a_second_run_opens};
 pub use top::drive_top;
 
 #[cfg(test)]

@@ -103,6 +103,7 @@ pub(crate) fn copy_next<F: Flash>(
                 Step::Starved
             }
         }
+        // A live page has an owner.
         None => unreachable!(),
     }
 }

@@ -31,6 +31,7 @@ fn number_in_row(table: &Table, key: Key) -> Result<u32, ConfigFault>
             }),
             None => Err(ConfigFault::Range { key, value: 0 }),
         },
+        // It is asked of keys with a number alone.
         Shape::Truth | Shape::Configurations | Shape::Namespaces => unreachable!(),
     }
 }

@@ -1,5 +1,6 @@
 -- passed on to the crates above
 pub use Rattle.fdp_loading.proofs.fdp_durability as fdp_durability
+pub use Rattle.fdp_loading.proofs as fdp_loading
 pub use Rattle.fdp_loading.proofs.fdp_outline as fdp_outline
 pub use Rattle.fdp_loading.proofs.fdp_survival as fdp_survival
 pub mod Advancing
@@ -25,6 +26,7 @@ pub mod Places
 pub mod Placing
 pub mod Pushed
 pub mod Reading
+pub mod Sure
 pub mod Refusals
 pub mod Relocated
 pub mod Rooms

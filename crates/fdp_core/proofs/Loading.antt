@@ -1,5 +1,5 @@
 -- A group that was opened over a flash.
-use Rattle.std.proofs.Common.{◌≡◌, ℕ, Bool, true, false, List, [], ◌∷◌, Some, None, length, refl, sym, ◌∙◌, ap, subst, arith, inl, inr, ⊎_elim}
+use Rattle.std.proofs.Common.{◌≡◌, ◌⊎◌, ℕ, Bool, true, false, List, [], ◌∷◌, Some, None, length, refl, sym, ◌∙◌, ap, subst, arith, inl, inr, ⊎_elim}
 use Rattle.fdp_base.specs.declared.config.DriveConfig.{DriveConfig}
 use Rattle.fdp_base.specs.declared.config.Geometry.{Geometry}
 use Rattle.fdp_base.specs.Placement.{geometry_of}
@@ -9,10 +9,11 @@ use Rattle.fdp_flash.specs.FlashState.{FlashState}
 use Rattle.fdp_relocation.specs.fdp_keeper.Keeper.{KeeperSeen}
 use Rattle.fdp_relocation.specs.fdp_readings.Drawn.{drawn}
 use Rattle.fdp_relocation.specs.fdp_saving.Said.{ReadsAsOneOf}
+use Rattle.fdp_loading.proofs.fdp_ledger.System.{same-blank}
 use Rattle.fdp_loading.specs.fdp_recovery.Opened.{IsFresh}
 use Rattle.fdp_loading.specs.fdp_ledger.Counted.{counts_of}
 use Rattle.fdp_loading.specs.Loaded as loaded
-use Rattle.fdp_core.specs.Loading.{IsLoaded}
+use Rattle.fdp_core.specs.Loading.{IsLoaded, IsNewDrive, IsOpenedDrive, IsNotUsedUp}
 use Rattle.fdp_core.specs.Seen.{Seen}
 use Rattle.fdp_flash.specs.Runs.{Runs}
 use Rattle.fdp_flash.proofs.Runs.{runs_weakened}
@@ -21,7 +22,10 @@ use Rattle.fdp_loading.specs.fdp_isolation.Begun.{OpenedApart}
 use Rattle.fdp_loading.specs.fdp_survival.Apart.{IsStopApart, StandsApart}
 use Rattle.fdp_loading.specs.fdp_survival.Safe.{IsSafeImage}
 use Rattle.fdp_loading.specs.Refused.{IsNotLoaded}
+use Rattle.fdp_loading.specs.Opens.{LeavesOpen}
+use Rattle.fdp_loading.proofs.fdp_durability.Durable.{durable-stands}
 use Rattle.fdp_loading.proofs.Looked.{looks-none}
+use Rattle.fdp_loading.proofs.Opens.{images-open}
 use Rattle.fdp_loading.proofs.Unwritten.{reads-fresh}
 use Rattle.fdp_relocation.specs.fdp_recovery.declared.opened.OpenFault.TheVariants as faults
 use Rattle.std.specs.Prelude.{All, IsTrue}
@@ -31,7 +35,8 @@ use Rattle.fdp_base.specs.declared.entry.Entry.TheVariants as entries
 use Rattle.fdp_base.specs.EntryKinds.{wears_group}
 use Rattle.fdp_image.specs.Checkpoint.{reading_of_state}
 use Rattle.fdp_image.specs.Reading.{Reading}
-use Rattle.fdp_image.specs.Reads.{fresh_reading, reads_as}
+use Rattle.fdp_image.specs.Areas.{current_area}
+use Rattle.fdp_image.specs.Reads.{fresh_reading, is_spent, reads_as}
 use Rattle.fdp_image.specs.Roomy.{IsRoomy}
 use Rattle.fdp_loading.specs.Begun.{BeginsFound, BeginsFresh}
 use Rattle.fdp_loading.specs.fdp_isolation.Laned.{IsKnown}
@@ -142,7 +147,7 @@ pub refused-at-once : (c : DriveConfig) (flash : FlashState) → IsNotLoaded c f
 refused-at-once c flash = record { told = λ t. tt; left = record { looks = looks-none flash; faults = refl } }
 
 -- a drive as its configuration makes it has no image
-unimaged : (c : DriveConfig) → (fresh c).is_image ≡ false
+pub unimaged : (c : DriveConfig) → (fresh c).is_image ≡ false
 unfolding fresh
 unimaged c = refl
 
@@ -151,11 +156,18 @@ pub group-loaded : {F : Type 0} (state : F → FlashState) (c : DriveConfig) (fl
 group-loaded state c flash group l handed = record {
   config_is = l.stands.config_is;
   handed_is = handed;
-  entries_are = l.stands.idle.entries_are;
+  began = ⊎_elim
+      (λ (x : BeginsFresh c (state flash) group.book l.epoch). inl (record { entries_are = x.book.entries_are; found_is = x.book.found_is; fresh_is = x.told }))
+      (λ (x : BeginsFound c (state flash) group.book l.epoch).
+      inr (record { entries_are = x.book.entries_are; is_image = ap (λ (f : Found). f.is_image) x.book.found_is; opened_is = x.opened_is; unspent = λ told. unspent-found x told }))
+      l.begins.with;
+  geometry = l.stands.geometry ∙ ap geometry_of is;
+  sure = l.saved.sure;
   spare_is = l.stands.idle.spare_is;
   spent_is = l.stands.idle.spent_is;
   order = l.stands.order;
   stood = l.begins.stood;
+  emptied = λ told. record { was = λ unit low blank none. same-blank (geometry_of c) (state flash).cells (state group.flash).cells unit (l.same told) low blank };
   faults = l.faults;
   firm = l.saved.firm_is;
   stops =
@@ -163,7 +175,7 @@ group-loaded state c flash group l handed = record {
       (runs_weakened (state flash) (state group.flash) (λ m image. IsSafeImage group.book.config group.book.found group.book.opened group.book.entries 0 (length group.book.entries) image)
       (λ m image. StandsForBeginning group.book.config group.book.found group.book.entries 0 image) l.stops (λ told m image above most safe. safe.stands));
   opened = l.begins.apart;
-  roomy = began;
+  roomy = began-roomy;
   stays_roomy = left-roomy c (state flash) (state group.flash) group.book group.keeper l;
   apart =
       subst (λ (x : DriveConfig). OpenedApart x group.book.found group.book.opened → IsStopApart x group.book.found group.book.entries (length group.book.entries) (state flash) (state group.flash)) is
@@ -173,14 +185,38 @@ group-loaded state c flash group l handed = record {
             (λ m image. StandsApart group.book.config group.book.found group.book.entries (length group.book.entries) image) l.stops (λ told m image above most safe. safe.apart opened);
         cells = λ told. l.isolated told opened;
       });
+  opens =
+      subst (λ (x : DriveConfig). LeavesOpen x (state flash) (state group.flash)) is
+      (images-open group.book.config group.book.found group.book.opened group.book.entries 0 (length group.book.entries) group.keeper.firm (state flash) (state group.flash) l.stops
+      (λ told. durable-stands group.book.config group.book.found group.book.entries group.keeper.firm group.keeper.saver group.book.pages.units (state group.flash).cells (l.saved.safe.at.durable told)));
 } where
   is : group.book.config ≡ c
   is = l.stands.config_is
 
+  cut : (state flash).geometry ≡ geometry_of c
+  cut = sym l.stops.geometry ∙ l.stands.geometry ∙ ap geometry_of l.stands.config_is
+
+  -- the image that was opened is not spent
+  unspent-found : BeginsFound c (state flash) group.book l.epoch → IsTrue (state flash).told → IsNotUsedUp c (state flash).cells
+  unspent-found x told =
+      let f = x.told told in
+      record {
+        reading = reading_of_state x.state;
+        read = f.left.reads;
+        area = x.area;
+        sealed = f.left.z;
+        current = subst (λ (g : Geometry). current_area g (state flash).cells ≡ Some (x.area, f.left.z)) cut f.left.current.current;
+        unspent = subst (λ (n : ℕ). is_spent (reading_of_state x.state) n ≡ false) f.left.epoch_is f.unspent;
+      }
+
   -- a fresh drive begins with room, and so does one over a roomy image
-  began : IsTrue (state flash).told → IsRoomyImage c (state flash).cells → BeganRoomy (state flash).told group.book
-  began told roomy = ⊎_elim
+  began-roomy : IsTrue (state flash).told → IsRoomyImage c (state flash).cells → BeganRoomy (state flash).told group.book
+  began-roomy told roomy = ⊎_elim
       (λ (x : BeginsFresh c (state flash) group.book l.epoch). inl (ap (λ (f : Found). f.is_image) x.book.found_is ∙ unimaged c))
       (λ (x : BeginsFound c (state flash) group.book l.epoch).
       inr (told, subst (IsRoomyImage group.book.config) (sym (x.opened_is told)) (subst (λ (d : DriveConfig). IsRoomyImage d (state flash).cells) (sym is) roomy)))
       l.begins.with
+
+-- the history of a drive that was opened has no entry, or that of the opening
+pub entries-begun : {F : Type 0} (state : F → FlashState) (c : DriveConfig) (flash : F) (group : Seen F) → IsLoaded state c flash group → (group.book.entries ≡ []) ⊎ (group.book.entries ≡ entries.Reopened ∷ [])
+entries-begun state c flash group l = ⊎_elim (λ (x : IsNewDrive c (state flash) group.book). inl x.entries_are) (λ (x : IsOpenedDrive c (state flash) group.book). inr x.entries_are) l.began

@@ -22,6 +22,7 @@ use Rattle.fdp_loading.specs.fdp_isolation.Begun.{OpenedApart}
 use Rattle.fdp_loading.specs.fdp_survival.Apart.{IsStopApart}
 use Rattle.fdp_loading.specs.fdp_survival.Books.{Survives}
 use Rattle.fdp_loading.specs.fdp_survival.Safe.{IsSafeImage}
+use Rattle.fdp_loading.proofs.Opens.{safe-opens}
 use Rattle.fdp_loading.proofs.fdp_survival.Images.{image-grown, image-less}
 use Rattle.fdp_loading.proofs.fdp_survival.Steps.{safe-of-stops, stop-apart}
 use Rattle.fdp_base.specs.Counts.{Rose}
@@ -132,20 +133,23 @@ pub outlasts-stops : {F : Type 0} (state : F → FlashState) (old new : Seen F) 
     → All (λ e. IsFalse (is_owed (state new.flash).moment e)) es → Survives new.book old.keeper.firm (length old.book.entries) (state old.flash) (state new.flash) → IsSafeNow (state new.flash) new.book new.keeper → old.keeper.firm ≤ new.keeper.firm → LeavesRoomy state old new
     → LeavesIsolated old.book new.book (state old.flash) (state new.flash) → OutlastsStops state old new
 outlasts-stops state old new es config_is found_is opened_is entries_are firmed none run now more roomy isolated = record {
-  stops =
-      subst (λ (c : DriveConfig). IsStopSafe c old.book.found new.book.entries old.keeper.firm new.keeper.firm (state old.flash) (state new.flash)) config_is
-      (subst (λ (f : Found). IsStopSafe new.book.config f new.book.entries old.keeper.firm new.keeper.firm (state old.flash) (state new.flash)) found_is
-      (safe-of-stops old.book new.book es new.keeper.saver old.keeper.firm new.keeper.firm (length old.book.entries) (state old.flash) (state new.flash) entries_are firmed none run now.safe));
+  stops = safe;
   apart =
       subst (λ (c : DriveConfig). OpenedApart c old.book.found old.book.opened → IsStopApart c old.book.found new.book.entries (length old.book.entries) (state old.flash) (state new.flash)) config_is
       (subst (λ (f : Found). OpenedApart new.book.config f old.book.opened → IsStopApart new.book.config f new.book.entries (length old.book.entries) (state old.flash) (state new.flash)) found_is
       (subst (λ (cells : List Cell). OpenedApart new.book.config new.book.found cells → IsStopApart new.book.config new.book.found new.book.entries (length old.book.entries) (state old.flash) (state new.flash)) opened_is
       (stop-apart new.book new.keeper.saver old.keeper.firm new.keeper.firm (length old.book.entries) (state old.flash) (state new.flash) run now.safe now.isolated)));
   isolated = isolated;
+  opens = safe-opens old.book.config old.book.found new.book.entries old.keeper.firm new.keeper.firm (state old.flash) (state new.flash) safe;
   roomy = roomy;
   more = more;
   firm = now.safe.at.firm_is;
-}
+} where
+  safe : IsStopSafe old.book.config old.book.found new.book.entries old.keeper.firm new.keeper.firm (state old.flash) (state new.flash)
+  safe =
+      subst (λ (c : DriveConfig). IsStopSafe c old.book.found new.book.entries old.keeper.firm new.keeper.firm (state old.flash) (state new.flash)) config_is
+      (subst (λ (f : Found). IsStopSafe new.book.config f new.book.entries old.keeper.firm new.keeper.firm (state old.flash) (state new.flash)) found_is
+      (safe-of-stops old.book new.book es new.keeper.saver old.keeper.firm new.keeper.firm (length old.book.entries) (state old.flash) (state new.flash) entries_are firmed none run now.safe))
 
 -- a step that completes no change
 pub outlasts-all : {F : Type 0} (state : F → FlashState) (old new : Seen F) → AreFirm old.book.entries old.keeper.firm → IsSafeNow (state new.flash) new.book new.keeper → Outlasts state old new → OutlastsStops state old new

@@ -1,9 +1,8 @@
 -- The entries of a step are those of one queue: all others are silent in them.
 use Rattle.std.proofs.Common.{◌≡◌, ◌≢◌, ℕ, Bool, cond, nat_eq, List, [], ◌∷◌, ◌++◌, refl, ap, sym, ◌∙◌, arith, ne_eqb, Option, None, Some}
 use Rattle.std.specs.Prelude.{option_and_then}
-use Rattle.std.specs.List.{All, cons_option}
-use Rattle.std.specs.Option.{option_map_or}
-use Rattle.std.proofs.lemmas.List.Elements.{All-append, All-cons, All-head, All-nil, All-tail, filter_map-append}
+use Rattle.std.specs.List.{cons_option}
+use Rattle.std.proofs.lemmas.List.Elements.{All-head, All-tail, filter_map-append}
 use Rattle.fdp_base.specs.declared.command.Command.{Command}
 use Rattle.fdp_base.specs.declared.entry.Entry.{Entry}
 use Rattle.fdp_base.specs.declared.entry.Entry.TheVariants as entries
@@ -12,16 +11,13 @@ use Rattle.fdp_base.specs.declared.entry.Host.{Host}
 use Rattle.fdp_base.specs.declared.entry.Reply.{Reply}
 use Rattle.fdp_base.specs.declared.entry.Started.{Started}
 use Rattle.fdp_relocation.specs.Entries.{AreRelocationIn, IsRelocationIn}
-use Rattle.fdp_rules.specs.Queue.{completed, completed_by, starting_queue}
+use Rattle.fdp_rules.specs.Queue.{completed, completed_by, started_by, started_in}
 use Rattle.fdp_core.specs.Silence.{OthersStaySilent}
 use Rattle.fdp_relocation.proofs.Keeping.{quiet-entry}
 
-starts-one : (other : ℕ) (e : Entry) → starting_queue e ≢ other → All (λ x. starting_queue x ≢ other) (e ∷ [])
-starts-one other e one = All-cons (λ x. starting_queue x ≢ other) e [] one (All-nil (λ x. starting_queue x ≢ other))
-
 -- no entry
 pub silent-none : (queue : ℕ) → OthersStaySilent queue []
-silent-none queue other some ne = record { completes = refl; starts = All-nil (λ e. starting_queue e ≢ other) }
+silent-none queue other some ne = record { completes = refl; starts = refl }
 
 -- more entries of the queue
 pub silent-joined : (queue : ℕ) (es fs : List Entry) → OthersStaySilent queue es → OthersStaySilent queue fs → OthersStaySilent queue (es ++ fs)
@@ -30,18 +26,21 @@ silent-joined queue es fs first second other some ne =
     let q = second other some ne in
     record {
       completes = filter_map-append (completed_by other) es fs ∙ ap (λ xs. xs ++ completed other fs) p.completes ∙ q.completes;
-      starts = All-append (λ e. starting_queue e ≢ other) es fs p.starts q.starts;
+      starts = filter_map-append (started_in other) es fs ∙ ap (λ xs. xs ++ started_by other fs) p.starts ∙ q.starts;
     }
 
 -- a write is started
 pub silent-started : (queue number : ℕ) (command : Command) (rg ruh : ℕ) (valid : Bool) → OthersStaySilent queue (entries.Started (record { queue = queue; number = number; command = command; rg = rg; ruh = ruh; pid_valid = valid }) ∷ [])
-silent-started queue number command rg ruh valid other some ne = record { completes = refl; starts = starts-one other _ (λ same. ne (sym same)) }
+silent-started queue number command rg ruh valid other some ne = record {
+  completes = refl;
+  starts = ap (λ (b : Bool). cons_option (cond b (Some (number, command)) None) []) (ne_eqb queue other (λ same. ne (sym same)));
+}
 
 -- a command is completed
 pub silent-host : (queue number : ℕ) (command : Command) (reply : Reply) (moment : ℕ) → OthersStaySilent queue (entries.Host (record { queue = queue; number = number; command = command; reply = reply; moment = moment }) ∷ [])
 silent-host queue number command reply moment other some ne = record {
   completes = ap (λ (b : Bool). cons_option (cond b (Some (number, command)) None) []) (ne_eqb queue other (λ same. ne (sym same)));
-  starts = starts-one other _ (λ same. omega arith);
+  starts = refl;
 }
 
 -- a command is completed, behind other entries
@@ -50,11 +49,11 @@ silent-completed queue number command before reply moment silent = silent-joined
 
 -- a page is placed, for whichever queue
 pub silent-placed : (queue ticket index unit page : ℕ) → OthersStaySilent queue (entries.Placed (record { ticket = ticket; index = index; unit = unit; page = page }) ∷ [])
-silent-placed queue ticket index unit page other some ne = record { completes = refl; starts = starts-one other _ (λ same. omega arith) }
+silent-placed queue ticket index unit page other some ne = record { completes = refl; starts = refl }
 
 -- a handle is shut, for whichever queue
 pub silent-shut : (queue rg ruh : ℕ) → OthersStaySilent queue (entries.Shut (record { rg = rg; ruh = ruh }) ∷ [])
-silent-shut queue rg ruh other some ne = record { completes = refl; starts = starts-one other _ (λ same. omega arith) }
+silent-shut queue rg ruh other some ne = record { completes = refl; starts = refl }
 
 -- ---- relocation
 
@@ -73,5 +72,5 @@ silent-relocation queue c rg (e ∷ es) all other some ne =
     let none = (quiet-entry c rg e (All-head (IsRelocationIn c rg) e es all)).0.started in
     record {
       completes = relocation-completes other c rg (e ∷ es) all;
-      starts = All-cons (λ x. starting_queue x ≢ other) e es (λ same. omega (arith, some, sym (ap (λ (o : Option Started). option_map_or (λ (s : Started). s.queue) o 0) none) ∙ same)) rest.starts;
+      starts = ap (λ (o : Option Started). cons_option (option_and_then (λ (s : Started). cond (nat_eq s.queue other) (Some (s.number, s.command)) None) o) (started_by other es)) none ∙ rest.starts;
     }

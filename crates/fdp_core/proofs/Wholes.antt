@@ -47,7 +47,7 @@ whole-begun handed f b k block h = record { sound = sound-begun handed f b block
 
 -- a stop cannot tell whether the step had begun
 pub unbegun : {F : Type 0} (state : F → FlashState) (old new : Seen F) → OutlastsStops state (begun_seen old) new → OutlastsStops state old new
-unbegun state old new h = record { stops = h.stops; apart = h.apart; isolated = h.isolated; roomy = h.roomy; more = h.more; firm = h.firm }
+unbegun state old new h = record { stops = h.stops; apart = h.apart; isolated = h.isolated; opens = h.opens; roomy = h.roomy; more = h.more; firm = h.firm }
 
 -- ---- an entry that completes no change
 

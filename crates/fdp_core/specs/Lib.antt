@@ -3,6 +3,7 @@ pub use Rattle.fdp_loading.specs.fdp_book as fdp_book
 pub use Rattle.fdp_loading.specs.fdp_collector as fdp_collector
 pub use Rattle.fdp_loading.specs.fdp_isolation as fdp_isolation
 pub use Rattle.fdp_loading.specs.fdp_ledger as fdp_ledger
+pub use Rattle.fdp_loading.specs as fdp_loading
 pub use Rattle.fdp_loading.specs.fdp_recovery as fdp_recovery
 pub use Rattle.fdp_relocation.specs as fdp_relocation
 pub use Rattle.fdp_roominess.specs as fdp_roominess

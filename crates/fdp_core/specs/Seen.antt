@@ -1,15 +1,18 @@
 -- A group as contracts see it, and its flash beside its history.
-use Rattle.std.specs.Prelude.{◌≡◌, ◌+◌, ◌^◌, ◌<◌, IsTrue}
+use Rattle.std.specs.Prelude.{◌≡◌, ◌+◌, ◌^◌, ◌<◌, IsTrue, Some}
 use Rattle.std.specs.List.{list_any}
+use Rattle.fdp_base.specs.declared.entry.Totals.{Totals}
 use Rattle.fdp_base.specs.Placement.{geometry_of}
-use Rattle.fdp_relocation.specs.fdp_book.Book.{BookSeen, written_in}
+use Rattle.fdp_relocation.specs.fdp_book.Book.{BookSeen, point_in, written_in}
 use Rattle.fdp_flash.specs.FlashState.{FlashState}
+use Rattle.fdp_image.specs.Reads.{reads_as}
 use Rattle.fdp_relocation.specs.fdp_keeper.Keeper.{KeeperSeen}
 use Rattle.fdp_loading.specs.fdp_isolation.Laned.{IsKnown}
 use Rattle.fdp_loading.specs.fdp_ledger.declared.counts.Counts.{Counts}
 use Rattle.fdp_loading.specs.fdp_ledger.Told.{is_media_reply}
 use Rattle.fdp_relocation.specs.fdp_locations.Stored.{HoldsWritten}
 use Rattle.fdp_relocation.specs.Collected.{Stage}
+use Rattle.fdp_relocation.specs.fdp_readings.Drawn.{drawn}
 use Rattle.fdp_rules.specs.Legal.{IsLegal}
 
 pub record Seen (F : Type 0) : Type 0 where
@@ -36,6 +39,10 @@ IsLegalOver flash b = (IsTrue (list_any is_media_reply b.entries) → HasMoments
 -- where the cells are told, each page that the history wrote holds what it wrote, and behind the pages that were used each unit is blank
 abbrev pub HoldsHistory : FlashState → BookSeen → Type 0
 HoldsHistory flash b = IsTrue flash.told → HoldsWritten flash.geometry flash.cells (written_in b) b.pages.units
+
+-- the cells read as just what the history leaves, but for the sums: its setting, namespaces and events, and each block on the page where it stands
+abbrev pub ReadsAsEnd : FlashState → BookSeen → Type 0
+ReadsAsEnd flash b = (sums : Totals) × (reads_as b.config flash.cells ≡ Some (record (drawn b.config (point_in b)) { totals = sums }))
 
 -- a book in order, over a flash that is cut as configured and holds the history
 pub record Stands (flash : FlashState) (b : BookSeen) : Type 0 where

@@ -11,6 +11,7 @@ use Rattle.fdp_flash.specs.declared.cell.Cell.{Cell}
 use Rattle.fdp_flash.specs.FlashState.{FlashState}
 use Rattle.fdp_flash.specs.Runs.{Runs}
 use Rattle.fdp_image.specs.Kept.{AreFirm, IsStopSafe}
+use Rattle.fdp_loading.specs.Opens.{LeavesOpen}
 use Rattle.fdp_loading.specs.fdp_isolation.Begun.{OpenedApart}
 use Rattle.fdp_loading.specs.fdp_isolation.Isolated.{IsIsolatedDrive}
 use Rattle.fdp_loading.specs.fdp_isolation.Stays.{IsSameSetting, StaysIsolated}
@@ -40,11 +41,12 @@ LeavesIsolated b d old new = OpenedApart b.config b.found b.opened → Runs old 
 -- was completed at an earlier moment; so do the cells after the step, with those entries that are firm then. These are no fewer than
 -- before, and each completed change is among them. And data stands apart in what a stop leaves, by a beginning of the history that has the
 -- entries before the step, and in the cells after it, where the cells that were opened kept it apart; and there it is isolated by the whole history
--- at the exit of the step, too. It is roomy where the run began so, while no call failed.
+-- at the exit of the step, too. It is roomy where the run began so, while no call failed. And all of it opens: the next run takes it.
 pub record OutlastsStops {F : Type 0} (state : F → FlashState) (old new : Seen F) : Type 0 where
   pub stops : IsStopSafe old.book.config old.book.found new.book.entries old.keeper.firm new.keeper.firm (state old.flash) (state new.flash)
   pub apart : OpenedApart old.book.config old.book.found old.book.opened → IsStopApart old.book.config old.book.found new.book.entries (length old.book.entries) (state old.flash) (state new.flash)
   pub isolated : LeavesIsolated old.book new.book (state old.flash) (state new.flash)
+  pub opens : LeavesOpen old.book.config (state old.flash) (state new.flash)
   pub roomy : LeavesRoomy state old new
   pub more : old.keeper.firm ≤ new.keeper.firm
   pub firm : AreFirm new.book.entries new.keeper.firm

@@ -1,9 +1,10 @@
-ghost use Rattle.std.specs.Prelude.{◌≡◌, ◌↔◌, ◌+◌, ◌*◌, ◌≤◌, ◌<◌, IsTrue, length, not, OnOk, OnErr, IfOk};
+ghost use Rattle.std.specs.Prelude.{◌≡◌, ◌↔◌, ◌+◌, ◌*◌, ◌≤◌, ◌<◌, IsTrue, false, length, not, true, OnOk, OnErr, IfOk};
 ghost use Rattle.fdp_base.specs.Config.{IsValidConfig};
+ghost use Rattle.fdp_base.specs.Counts.{Rose};
 ghost use Rattle.fdp_relocation.specs.fdp_book.Book.{point_in, state_in};
 ghost use Rattle.fdp_relocation.specs.fdp_book.Stages.{IsFree, IsStage};
 ghost use Rattle.fdp_relocation.specs.fdp_book.Steps.{IsFlying};
-ghost use Rattle.fdp_core.specs.Seen.{HoldsHistory, IsLegalOver};
+ghost use Rattle.fdp_core.specs.Seen.{HoldsHistory, IsLegalOver, ReadsAsEnd};
 ghost use Rattle.fdp_image.specs.Kept.{AreFirm, StandsForBeginning};
 ghost use Rattle.fdp_relocation.specs.fdp_keeper.Keeper.{CanSave};
 ghost use Rattle.fdp_loading.specs.fdp_survival.Books.{IsInOrder};
@@ -84,6 +85,7 @@ impl<F: Flash> Group<F> {
         ensures ok { OnOk result (steps ≤ self.new.book.spare) }
         ensures kept { self.new ≡ record self.old { book = record self.old.book { spare = self.new.book.spare } } }
         ensures err { OnErr result (self.new ≡ self.old) }
+        ensures memory { OnErr result (self.old.book.spare < steps) }
     {
         self.book.reserve(steps)
     }
@@ -116,8 +118,10 @@ impl<F: Flash> Group<F> {
         ensures roomy { IsTrue (F.state self.now.flash).told → StaysRoomy self.now.handed.faults (F.state self.now.flash).faults (F.state self.now.flash).told self.now.book (F.state self.now.flash).cells }
         ensures firm { AreFirm self.now.book.entries self.now.keeper.firm }
         ensures stands { IsTrue (F.state self.now.flash).told → StandsForBeginning self.now.book.config self.now.book.found self.now.book.entries self.now.keeper.firm (F.state self.now.flash).cells }
+        ensures sure { IsTrue (F.state self.now.flash).told → self.now.keeper.saver.in_doubt ≡ false → ReadsAsEnd (F.state self.now.flash) self.now.book }
+        ensures doubt { self.now.keeper.saver.in_doubt ≡ true → Rose self.now.handed.faults (F.state self.now.flash).faults }
     {
-        self.book.known();
+        self.book.known(); // proof
         self.book.entries()
     }
 
@@ -150,8 +154,8 @@ impl<F: Flash> Group<F> {
         ensures least { pages_where self.now.book.pages.units rg (is_stale self.now.book.pages.units self.now.book.pages.owners) ≤ result }
         ensures most { result ≤ pages_where self.now.book.pages.units rg (λ spot. not (is_live self.now.book.pages.owners spot)) }
     {
-        self.book.known();
-        toil_is_what_can_be_won();
+        self.book.known(); // proof
+        toil_is_what_can_be_won(); // proof
         u64::from(self.book.toil(rg))
     }
 
@@ -160,7 +164,7 @@ impl<F: Flash> Group<F> {
         ensures units { AreUnitsOf self.now.book.config (state_in self.now.book) self.now.book.pages }
         ensures joined { AreJoined self.now.book.pages }
     {
-        self.book.known();
+        self.book.known(); // proof
     }
 
     /// How far the write of a ticket has come. It takes a constant time.
@@ -182,7 +186,7 @@ impl<F: Flash> Group<F> {
         requires { IsFlying self.old.book ticket }
         ensures { self.new ≡ self.old }
     {
-        let _ = &self.block;
+        let _ = &self.block; // proof
         let _queue = ticket.give_up();
     }
 
@@ -191,10 +195,9 @@ impl<F: Flash> Group<F> {
         ensures order { IsInOrder self.now.book }
         ensures can { CanSave self.now.book self.now.keeper (F.state self.now.flash) }
     {
-        self.book.known();
-        self.book.counted();
-        // Read, so that its range is known.
-        let _spent = self.book.spent();
+        self.book.known(); // proof
+        self.book.counted(); // proof
+        let _spent = self.book.spent(); // proof: its range
     }
 
     /// Gives the flash and the history back.
@@ -210,8 +213,10 @@ impl<F: Flash> Group<F> {
         ensures roomy { IsTrue (F.state self.flash).told → StaysRoomy self.handed.faults (F.state self.flash).faults (F.state self.flash).told self.book (F.state self.flash).cells }
         ensures firm { AreFirm self.book.entries self.keeper.firm }
         ensures stands { IsTrue (F.state self.flash).told → StandsForBeginning self.book.config self.book.found self.book.entries self.keeper.firm (F.state self.flash).cells }
+        ensures sure { IsTrue (F.state self.flash).told → self.keeper.saver.in_doubt ≡ false → ReadsAsEnd (F.state self.flash) self.book }
+        ensures doubt { self.keeper.saver.in_doubt ≡ true → Rose self.handed.faults (F.state self.flash).faults }
     {
-        self.book.known();
+        self.book.known(); // proof
         let Group {
             flash,
             book,

@@ -60,7 +60,7 @@ impl<F: Flash> Player<F> {
         ensures kept { self.new ≡ record self.old { group = with_spare self.old.group self.new.group.book.spare } }
         ensures err { OnErr result (self.new ≡ self.old) }
     {
-        let _ = &self.next;
+        let _ = &self.next; // proof
         if self.group.spent() < MOST_STEPS {
             self.group.reserve(1)
         } else {
@@ -120,7 +120,7 @@ impl<F: Flash> Player<F> {
         ensures nothing { (MayCollect self.old.group rg → ⊥) → (result ≡ None) × (self.new ≡ self.old) }
         ensures noted { self.new.noted ≡ self.old.noted }
     {
-        let _ = &self.next;
+        let _ = &self.next; // proof
         if rg < self.group.config().groups && has_spare(&self.group) {
             Some(self.group.collect(rg))
         } else {
@@ -132,7 +132,7 @@ impl<F: Flash> Player<F> {
     pub fn group(&self) -> &Group<F>
         ensures { result.now ≡ self.now.group }
     {
-        let _ = &self.next;
+        let _ = &self.next; // proof
         &self.group
     }
 
@@ -187,7 +187,7 @@ impl<F: Flash> Player<F> {
     fn known(&self, queue: u8) -> Option<Ticket>
         ensures { result ≡ ticket_in self.now.noted queue }
     {
-        let _ = &self.next;
+        let _ = &self.next; // proof
         match self.noted.get(usize::from(queue)) {
             Some(Some(noted)) => Some(noted.ticket(queue)),
             Some(None) | None => None,

@@ -29,8 +29,8 @@ part-left trace count low same =
     absurd (omega (arith, low, l, length-enumerate_from 0 (take count trace), length-enumerate_from 0 trace, length-take count trace))
 
 module _ {S O I : Type 0} {g : _} (origin : S → O) (run : O → Run) (entry : I → Entry) (mark : I → Mark) (lock : GroupLock S O I) where
-  some-left : (trace : List Command) (receipts : List Receipt) (s : Seat S O I g) (count : ℕ) → count < length trace → StopsAt origin run entry mark lock (so_far trace count receipts) s → Expects (run_of origin run lock) entry mark (LeavesSome (number_of s) trace) s
-  some-left trace receipts s count low b = λ items goes_on own history whole.
+  some-left : (trace : List Command) (receipts : List Receipt) (s : Seat S O I g) (count : ℕ) (command : Command) → count < length trace → StopsAt origin run entry mark lock (so_far trace count receipts) count command s → Expects (run_of origin run lock) entry mark (LeavesSome (number_of s) trace) s
+  some-left trace receipts s count command low b = λ items goes_on own history whole.
       part-left trace count low (sym (b.commands_are) ∙ sym ((b.at.has items goes_on own history).commands) ∙ whole)
 
   free : (p : Progress) (old new : Seat S O I g) (before after : Pass) (gauge : Gauge) (at : IsAt origin run entry mark lock p new) → IsFreshSeat origin lock old → KeepsPost gauge old new before after → IsFreeSeat origin lock new
@@ -49,14 +49,14 @@ module _ {S O I : Type 0} {g : _} (origin : S → O) (run : O → Run) (entry : 
   served-by gauge trace before after old w (Err stops.Turns) is fresh kept h = record {
     seat = free h.stopped.left old w.seat before w.pass gauge h.stopped.at fresh kept;
     pass = kept.pass_is;
-    serves = some-serves origin run entry mark lock trace w.receipts.items w.seat h.count h.stopped;
+    serves = some-serves origin run entry mark lock trace w.receipts.items w.seat h.count h.command h.few h.command_is h.stopped;
     whole = λ end. absurd (let bad : ends.Turns ≡ ends.Whole = sym is ∙ end in cc);
-    left = λ end. some-left trace w.receipts.items w.seat h.count h.few h.stopped;
+    left = λ end. some-left trace w.receipts.items w.seat h.count h.command h.few h.stopped;
   }
   served-by gauge trace before after old w (Err stops.NoMemory) is fresh kept h = record {
     seat = free h.stopped.left old w.seat before w.pass gauge h.stopped.at fresh kept;
     pass = kept.pass_is;
-    serves = some-serves origin run entry mark lock trace w.receipts.items w.seat h.count h.stopped;
+    serves = some-serves origin run entry mark lock trace w.receipts.items w.seat h.count h.command h.few h.command_is h.stopped;
     whole = λ end. absurd (let bad : ends.NoMemory ≡ ends.Whole = sym is ∙ end in cc);
-    left = λ end. some-left trace w.receipts.items w.seat h.count h.few h.stopped;
+    left = λ end. some-left trace w.receipts.items w.seat h.count h.command h.few h.stopped;
   }

@@ -1,6 +1,7 @@
 -- What the crews of a lock have done, read off the value that it gives back.
 use Rattle.std.proofs.Common.{◌≡◌, ◌≢◌, ◌⊎◌, ℕ, zero, suc, ◌+◌, ◌-◌, ◌<◌, ◌≤◌, Bool, true, false, cond, get_or, List, [], ◌∷◌, ◌++◌, Option, Some, None, length, refl, sym, ◌∙◌, ap, subst, arith, inl, inr, nat_eq}
-use Rattle.std.specs.Prelude.{All, filter, map, slice_index_or, ◌==◌, ◌&&◌}
+use mathlib.Core.List.{eq-nil_of_sublist-nil}
+use Rattle.std.specs.Prelude.{All, map, slice_index_or, ◌==◌, ◌&&◌}
 use Rattle.std.specs.Option.{option_map_or}
 use Rattle.std.proofs.lemmas.Bool.{cases_lt}
 use Rattle.std.proofs.lemmas.Bool.Decides.{nat_tests}
@@ -18,14 +19,14 @@ use Rattle.fdp_gauge.specs.declared.gauge.Gauge.{Gauge}
 use Rattle.fdp_lock.specs.declared.lock.GroupLock.{GroupLock}
 use Rattle.fdp_lock.specs.declared.seat.Seat.{Seat}
 use Rattle.fdp_lock.specs.Seats.{GoesOn, number_of, made_of}
-use Rattle.fdp_rules.specs.Queue.{IsSilent, starting_queue}
+use Rattle.fdp_rules.specs.Queue.{IsSilent}
 use Rattle.fdp_workers.specs.declared.ends.End.{End}
 use Rattle.fdp_workers.specs.declared.ends.End.TheVariants as ends
 use Rattle.fdp_workers.specs.declared.receipt.Receipt.{Receipt}
 use Rattle.fdp_workers.specs.Hosting.{run_of}
-use Rattle.fdp_workers.specs.Queues.{Has, Serves, ServesWhole, so_far, starts, times_started}
+use Rattle.fdp_workers.specs.Queues.{Has, Serves, ServesWhole, so_far}
 use Rattle.fdp_workers.specs.Run.{IsHistory, Run}
-use Rattle.fdp_workers.proofs.Serving.{has-serves, nothing-yet}
+use Rattle.fdp_workers.proofs.Serving.{idle-serves, nothing-yet}
 use Rattle.fdp_workers.proofs.Turning.{expects-has}
 use Rattle.fdp_crews.specs.declared.sweeper.Sweeper.{Sweeper}
 use Rattle.fdp_crews.specs.declared.worker.Worker.{Worker}
@@ -42,41 +43,10 @@ nothing-there run entry mark queue trace items none history =
     expects-has run entry mark queue (so_far trace 0 []) [] [] refl (nothing-yet run queue trace) items (nil-prefix items) none history
 
 pub nothing-served : (run : Run) (queue : ℕ) (trace : List Command) (es : List Entry) → Has run queue (so_far trace 0 []) es → Serves run queue trace [] es
-nothing-served run queue trace es h = has-serves run queue trace 0 [] (so_far trace 0 []) es refl refl h
+nothing-served run queue trace es h = idle-serves run queue trace 0 [] es h
 
-rest-none : (b : Bool) (e : Entry) (xs : List Entry) → length (cond b (e ∷ xs) xs) ≡ 0 → (b ≡ false) × (length xs ≡ 0)
-rest-none true e xs is = absurd cc
-rest-none false e xs is = (refl, is)
-
-default-queue : (o : Option Started) → o ≡ None → option_map_or (λ (s : Started). s.queue) o 0 ≡ 0
-default-queue o is = cc
-
-equal-numbers : (a b : ℕ) → a ≡ b → nat_eq a b ≡ true
-equal-numbers a b is = grind (arith, nat_tests)
-
-started-here : (queue : ℕ) (o : Option Started) (s : Started) → o ≡ Some s → option_map_or (λ (s : Started). s.queue) o 0 ≡ queue → option_map_or (λ (x : Started). x.queue == queue && x.number == s.number) o false ≡ true
-started-here queue None s is same = absurd cc
-started-here queue (Some x) s is same =
-    let one : nat_eq x.queue queue ≡ true = equal-numbers x.queue queue same in
-    let number : x.number ≡ s.number = cc in
-    let two : nat_eq x.number s.number ≡ true = equal-numbers x.number s.number number in
-    ap (λ (b : Bool). b && nat_eq x.number s.number) one ∙ two
-
-true-false : (b : Bool) → b ≡ true → b ≡ false → ⊥
-true-false b p q = cc
-
-no-start : (queue : ℕ) (es : List Entry) → queue ≢ 0 → ((number : ℕ) → times_started queue number es ≡ 0) → All (λ e. starting_queue e ≢ queue) es
-no-start queue [] low none = All-nil (λ e. starting_queue e ≢ queue)
-no-start queue (e ∷ es) low none =
-    All-cons (λ x. starting_queue x ≢ queue) e es (first (started_of e) refl)
-    (no-start queue es low (λ number. (rest-none (starts queue number e) e (filter (starts queue number) es) (none number)).1))
-  where
-    first : (o : Option Started) → started_of e ≡ o → starting_queue e ≢ queue
-    first None is = λ same. low (sym same ∙ default-queue (started_of e) is)
-    first (Some s) is = λ same. true-false (starts queue s.number e) (started-here queue (started_of e) s is same) (rest-none (starts queue s.number e) e (filter (starts queue s.number) es) (none s.number)).0
-
-pub nothing-silent : (run : Run) (queue : ℕ) (trace : List Command) (es : List Entry) → queue ≢ 0 → Has run queue (so_far trace 0 []) es → IsSilent queue es
-nothing-silent run queue trace es low h = record { completes = h.commands; starts = no-start queue es low (λ number. h.fresh number (omega arith)) }
+pub nothing-silent : (run : Run) (queue : ℕ) (trace : List Command) (es : List Entry) → Has run queue (so_far trace 0 []) es → IsSilent queue es
+nothing-silent run queue trace es h = record { completes = h.commands; starts = eq-nil_of_sublist-nil h.starts }
 
 equal-or-not : (a b : ℕ) → (a ≡ b) ⊎ (a ≢ b)
 equal-or-not a b =
@@ -206,10 +176,9 @@ module _ {S O I : Type 0} {g : _} (origin : S → O) (entries : S → List I) (r
       IsShift (run_of origin run lock) traces (map (λ w. w.receipts.items) ws) (map entry (entries value)) spent end
   shift-made traces head ws ss value hosts end spent b e = record {
     orders = λ queue has. (done queue has).serves.order;
-    once = λ queue number low. once queue number low (cases_lt (length traces) queue);
+    starts = λ queue has. (done queue has).serves.starts;
     others = λ queue high.
-        let low : queue ≢ 0 = λ zero. absurd (omega (arith, zero, high)) in
-        nothing-silent r queue [] es low (nothing-there r entry mark queue [] (entries value) (others-carry traces head ws ss value b queue high) b.history);
+        nothing-silent r queue [] es (nothing-there r entry mark queue [] (entries value) (others-carry traces head ws ss value b queue high) b.history);
     receipts_are = record {
       count = inl (length-map ws (λ w. w.receipts.items) ∙ b.sized);
       each = λ i low.
@@ -229,10 +198,6 @@ module _ {S O I : Type 0} {g : _} (origin : S → O) (entries : S → List I) (r
 
     done : (queue : ℕ) → (has : HasTrace traces queue) → HasDone r traces es queue (host-of traces head ws ss value b queue has).host.receipts.items (host-of traces head ws ss value b queue has).host.end
     done queue has = done-by traces ws value queue (λ zero. absurd (omega (arith, zero, has.least))) b.history (host-of traces head ws ss value b queue has)
-
-    once : (queue number : ℕ) → queue ≢ 0 → (length traces < queue) ⊎ (queue ≤ length traces) → times_started queue number es ≤ 1
-    once queue number low (inl high) = (nothing-there r entry mark queue [] (entries value) (others-carry traces head ws ss value b queue high) b.history).once number
-    once queue number low (inr most) = (done queue (record { least = omega (arith, low); most = most })).serves.once number
 
     has-left : end ≢ ends.Whole → HasLeft traces es
     has-left unfinished =
@@ -255,10 +220,10 @@ module _ {S O I : Type 0} {g : _} (origin : S → O) (entries : S → List I) (r
 pub shift-rest : {I : Type 0} (run : Run) (entry : I → Entry) (mark : I → Mark) (traces : List (List Command)) (items : List I) (spent : ℕ) → CarriesNone mark items → IsHistory run entry mark items → IsShift run traces [] (map entry items) spent ends.NoMemory
 shift-rest run entry mark traces items spent unmarked history = record {
   orders = λ queue has. (served queue (λ zero. absurd (omega (arith, zero, has.least)))).order;
-  once = λ queue number low. (served queue low).once number;
-  others = λ queue high. let low : queue ≢ 0 = λ zero. absurd (omega (arith, zero, high)) in nothing-silent run queue (trace_of traces queue) (map entry items) low (there queue low);
+  starts = λ queue has. (served queue (λ zero. absurd (omega (arith, zero, has.least)))).starts;
+  others = λ queue high. let low : queue ≢ 0 = λ zero. absurd (omega (arith, zero, high)) in nothing-silent run queue (trace_of traces queue) (map entry items) (there queue low);
   receipts_are = record { count = inr refl; each = λ i low. absurd (omega (arith, low)) };
-  ended = inr (record { no_receipts = refl; silent = λ queue low. nothing-silent run queue (trace_of traces queue) (map entry items) low (there queue low) });
+  ended = inr (record { no_receipts = refl; silent = λ queue low. nothing-silent run queue (trace_of traces queue) (map entry items) (there queue low) });
 } where
   there : (queue : ℕ) → queue ≢ 0 → Has run queue (so_far (trace_of traces queue) 0 []) (map entry items)
   there queue low = nothing-there run entry mark queue (trace_of traces queue) items (carrying-none mark queue items unmarked low) history

@@ -3,11 +3,11 @@ use Rattle.std.specs.Prelude.{◌≡◌, ◌≢◌, ◌⊎◌, ℕ, ◌+◌, ◌
 use Rattle.fdp_base.specs.declared.command.Command.{Command}
 use Rattle.fdp_base.specs.declared.entry.Entry.{Entry}
 use Rattle.fdp_rules.specs.History.{Found}
-use Rattle.fdp_rules.specs.Queue.{IsSilent, KeepsQueueOrder}
+use Rattle.fdp_rules.specs.Queue.{IsSilent, KeepsQueueOrder, StartsOwn}
 use Rattle.fdp_workers.specs.declared.ends.End.{End}
 use Rattle.fdp_workers.specs.declared.ends.End.TheVariants as ends
 use Rattle.fdp_workers.specs.declared.receipt.Receipt.{Receipt}
-use Rattle.fdp_workers.specs.Queues.{ServesWhole, receipts_of, times_started}
+use Rattle.fdp_workers.specs.Queues.{ServesWhole, receipts_of}
 use Rattle.fdp_workers.specs.Run.{Run}
 use Rattle.fdp_crews.specs.Crews.{LeavesSome, trace_of}
 use Rattle.fdp_base.specs.declared.limits.TheConstants.{MOST_STEPS}
@@ -39,11 +39,11 @@ EndsAs run traces receipts es spent ends.Whole = ((queue : ℕ) → HasTrace tra
 EndsAs run traces receipts es spent ends.Turns = HasLeft traces es × (spent ≡ MOST_STEPS)
 EndsAs run traces receipts es spent ends.NoMemory = HasLeft traces es ⊎ IsUnserved receipts es
 
--- A history in which crews served these traces: each queue has completed a beginning of its trace, in order, each command once, and started none
--- twice; every other queue is silent.
+-- A history in which crews served these traces: each queue has completed a beginning of its trace, in order, each command once, and each write that it let
+-- go is the command of its trace with that number; every other queue is silent.
 pub record IsShift (run : Run) (traces : List (List Command)) (receipts : List (List Receipt)) (es : List Entry) (spent : ℕ) (end : End) : Type 0 where
   pub orders : (queue : ℕ) → HasTrace traces queue → KeepsQueueOrder queue (trace_of traces queue) es
-  pub once : (queue number : ℕ) → queue ≢ 0 → times_started queue number es ≤ 1
+  pub starts : (queue : ℕ) → HasTrace traces queue → StartsOwn queue (trace_of traces queue) es
   pub others : (queue : ℕ) → length traces < queue → IsSilent queue es
   pub receipts_are : AreReceipts run.found traces receipts es
   pub ended : EndsAs run traces receipts es spent end

@@ -1,5 +1,5 @@
 //! Hosts and collectors give back their seats and passes.
-ghost use Rattle.std.specs.Prelude.{◌≡◌, ◌≢◌, ◌+◌, ◌≤◌, ◌++◌, All, length, map, vec_capacity};
+ghost use Rattle.std.specs.Prelude.{◌≡◌, ◌≢◌, ◌⊎◌, ◌+◌, ◌≤◌, ◌++◌, All, length, map, vec_capacity};
 ghost use Rattle.fdp_crews.specs.Leaving.{IsSomeNotWhole};
 ghost use Rattle.fdp_workers.specs.declared.ends.End.TheVariants as ends;
 
@@ -50,6 +50,7 @@ pub fn dismiss_hosts<V: Recorded>(
 fn both(one: End, other: End) -> End
     ensures whole { result ≡ ends.Whole → (one ≡ ends.Whole) × (other ≡ ends.Whole) }
     ensures first { result ≢ ends.Whole → other ≡ ends.Whole → one ≢ ends.Whole }
+    ensures memory { result ≡ ends.NoMemory → (one ≡ ends.NoMemory) ⊎ (other ≡ ends.NoMemory) }
 {
     match (one, other) {
         (End::Whole, End::Whole) => End::Whole,

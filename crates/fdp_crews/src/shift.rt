@@ -1,4 +1,4 @@
-ghost use Rattle.std.specs.Prelude.{◌≡◌, ◌≢◌, ◌+◌, ◌≤◌, ◌∷◌, [], All, List, length, map, vec_capacity};
+ghost use Rattle.std.specs.Prelude.{◌≡◌, ◌≢◌, ◌⊎◌, ◌+◌, ◌≤◌, ◌∷◌, [], All, List, length, map, vec_capacity};
 ghost use mathlib.Core.List.{IsPrefix};
 ghost use Rattle.fdp_base.specs.declared.command.Command.{Command};
 ghost use Rattle.fdp_base.specs.Config.{IsValidConfig};
@@ -86,7 +86,7 @@ fn rest<V: Steps>(alloc: Global, value: V, pass: Pass, mut passes: Vec<Pass>) ->
     ensures shift { (traces : List (List Command)) → IsShift (V.run (V.origin value)) traces (map (λ r. r.items) result.receipts.items) (map V.entry (V.entries value)) (V.spent value) result.end }
     ensures passes { result.passes.items ≡ pass ∷ [] }
 {
-    value.known();
+    value.known(); // proof
     passes.push_reserved(pass);
     Shift {
         value,
@@ -145,7 +145,7 @@ fn serve_on<V: Steps + Send, G: Gate + Sync, R: Threads + Wait + Sync>(
     let end = dismiss_hosts(workers, &mut seats, &mut passes, &mut receipts);
     dismiss_collectors(sweepers, &mut seats, &mut passes);
     let value = lock.close(seats);
-    value.known();
+    value.known(); // proof
     let end = end_of(&value, end);
     Shift {
         value,
@@ -160,6 +160,7 @@ fn end_of<V: Steps>(value: &V, hosts: End) -> End
     ensures whole { result ≡ ends.Whole → hosts ≡ ends.Whole }
     ensures left { result ≢ ends.Whole → hosts ≢ ends.Whole }
     ensures spent { result ≡ ends.Turns → V.spent value.now ≡ MOST_STEPS }
+    ensures memory { result ≡ ends.NoMemory → (hosts ≡ ends.NoMemory) ⊎ (V.spent value.now ≢ MOST_STEPS) }
 {
     match hosts {
         End::Whole => End::Whole,

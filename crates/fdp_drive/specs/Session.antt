@@ -4,18 +4,17 @@ use mathlib.Core.List.{IsPrefix}
 use Rattle.fdp_base.specs.declared.command.Command.{Command}
 use Rattle.fdp_base.specs.declared.config.DriveConfig.{DriveConfig}
 use Rattle.fdp_base.specs.declared.entry.Entry.{Entry}
-use Rattle.fdp_board.specs.Board.{AreCharged, IsRoomySince, IsSafeSince, IsUnfailing}
+use Rattle.fdp_board.specs.Board.{AreCharged, EmptiedAreTold, IsRoomySince, IsSafeSince, IsUnfailing, StepsAreTold}
 use Rattle.fdp_crews.specs.fdp_book.Book.{BookSeen}
 use Rattle.fdp_crews.specs.fdp_core.Seen.{Seen}
 use Rattle.fdp_crews.specs.Crews.{trace_of}
 use Rattle.fdp_crews.specs.Shifts.{AreReceipts, IsUnserved}
 use Rattle.fdp_flash.specs.FlashState.{FlashState}
-use Rattle.fdp_rules.specs.Queue.{HoldsWhole, IsSilent, KeepsQueueOrder}
+use Rattle.fdp_rules.specs.Queue.{HoldsWhole, IsSilent, KeepsQueueOrder, StartsOwn}
 use Rattle.fdp_rules.specs.Step.{IsQueue}
 use Rattle.fdp_crews.specs.fdp_workers.declared.ends.End.{End}
 use Rattle.fdp_crews.specs.fdp_workers.declared.ends.End.TheVariants as ends
 use Rattle.fdp_crews.specs.fdp_workers.declared.receipt.Receipt.{Receipt}
-use Rattle.fdp_crews.specs.fdp_workers.Queues.{times_started}
 use Rattle.fdp_base.specs.declared.limits.TheConstants.{MOST_STEPS}
 
 -- ---- what each queue gets
@@ -32,9 +31,9 @@ HoldsTraces c traces es = (queue : ℕ) → IsQueue c queue → HoldsWhole queue
 abbrev pub OnlyThese : List (List Command) → List Entry → Type 0
 OnlyThese traces es = (queue : ℕ) → length traces < queue → IsSilent queue es
 
--- no queue started a command twice
-abbrev pub StartsOnce : List Entry → Type 0
-StartsOnce es = (queue number : ℕ) → queue ≢ 0 → times_started queue number es ≤ 1
+-- each write that a queue let go is the command of its trace with that number, in the order of the trace, so none twice
+abbrev pub StartsTheirs : DriveConfig → List (List Command) → List Entry → Type 0
+StartsTheirs c traces es = (queue : ℕ) → IsQueue c queue → StartsOwn queue (trace_of traces queue) es
 
 -- a queue has not completed its whole trace
 pub record HasLeft (c : DriveConfig) (traces : List (List Command)) (es : List Entry) : Type 0 where
@@ -63,12 +62,13 @@ pub record IsSameDrive {F : Type 0} (state : F → FlashState) (old new : Seen F
 -- Entries were added to the history, in which each queue was served its trace to this end, whatever the order of the steps of hosts and collectors. The
 -- receipts of a trace are the completions of its queue. Whatever a stop since the flash was handed in may have left stands for a beginning of the history
 -- with each change that was completed at an earlier moment, and data stands apart there where the cells that were opened kept it apart, and it is roomy
--- where the run began with room and no call failed; each media error has the moment of a call that failed since.
+-- where the run began with room and no call failed; each media error has the moment of a call that failed since. Each step that was made added an entry, and
+-- each data unit that was emptied has one.
 pub record IsSession {F : Type 0} (state : F → FlashState) (old new : Seen F) (traces : List (List Command)) (receipts : List (List Receipt)) (end : End) : Type 0 where
   pub same : IsSameDrive state old new
   pub goes_on : IsPrefix old.book.entries new.book.entries
   pub orders : KeepsOrders new.book.config traces new.book.entries
-  pub once : StartsOnce new.book.entries
+  pub starts : StartsTheirs new.book.config traces new.book.entries
   pub others : OnlyThese traces new.book.entries
   pub receipts_are : AreReceipts new.book.found traces receipts new.book.entries
   pub ended : EndsAs new.book traces receipts end
@@ -76,3 +76,5 @@ pub record IsSession {F : Type 0} (state : F → FlashState) (old new : Seen F) 
   pub roomy : IsRoomySince new.handed (state new.flash) new.book
   pub charged : AreCharged new.handed.moment (state new.flash) new.book.entries
   pub unfailing : IsUnfailing new.handed (state new.flash)
+  pub steps : StepsAreTold new.book
+  pub emptied : EmptiedAreTold (state new.flash) new.book

@@ -16,6 +16,7 @@ use Rattle.fdp_readings.specs.Drawn.{drawn}
 use Rattle.fdp_readings.specs.Named.{KeepsNamed}
 use Rattle.fdp_readings.proofs.Drawing.{block-drawn, drawn-says, drawn-valid}
 use Rattle.fdp_readings.proofs.Keeping.{says-kept, system-named, valid-kept}
+use Rattle.fdp_readings.proofs.Ways.{drawn-ways, ways-kept}
 use Rattle.fdp_rules.specs.History.{Found, point_of}
 use Rattle.fdp_rules.specs.Point.{Point}
 use Rattle.fdp_saving.specs.Said.{ReadsAsOneOf}
@@ -31,6 +32,7 @@ says-grown c f es more least cells r h = record {
   beginning = record { split = ap (λ (xs : List Entry). xs ++ more) h.beginning.split ∙ append_assoc h.kept h.lost more };
   enough = h.enough;
   valid = h.valid;
+  ways = h.ways;
   says = h.says;
 }
 
@@ -50,6 +52,7 @@ says-less c f es most least cells r fewer h = record {
   beginning = h.beginning;
   enough = omega (arith, fewer, h.enough);
   valid = h.valid;
+  ways = h.ways;
   says = h.says;
 }
 
@@ -75,7 +78,7 @@ says-stands c f es least cells r read h = record {
   lost = h.lost;
   beginning = h.beginning;
   enough = h.enough;
-  stands = record { reading = r; read = read; valid = h.valid; says = h.says };
+  stands = record { reading = r; read = read; valid = h.valid; ways = h.ways; says = h.says };
 }
 
 -- what the history draws says all of it
@@ -86,6 +89,7 @@ says-all c f es t cells can = record {
   beginning = record { split = sym (append-nil es) };
   enough = omega arith;
   valid = drawn-valid c (point_of c f es) cells can.orderly can.standing can.holds can.listed;
+  ways = drawn-ways c (point_of c f es) cells can.standing can.holds can.ways;
   says = drawn-says c f es cells can.orderly can.standing can.holds;
 }
 
@@ -98,6 +102,7 @@ says-in c f es least old new r keeps h = record {
   beginning = h.beginning;
   enough = h.enough;
   valid = valid-kept c r old new keeps h.valid;
+  ways = ways-kept c r old new keeps h.ways;
   says = says-kept c r old new keeps f h.kept h.says;
 }
 
@@ -124,6 +129,7 @@ can-in c p t old new same can =
             ruh_is = held.ruh_is;
             generation_is = held.generation_is;
           };
+      ways = can.ways;
       used = can.used;
     }
 

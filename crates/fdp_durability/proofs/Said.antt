@@ -1,20 +1,23 @@
 -- What a saving leaves, by what the areas say: over cells alone.
-use Rattle.std.proofs.Common.{◌≡◌, ℕ, ◌+◌, ◌≤◌, Bool, true, false, List, [], ◌∷◌, ◌++◌, length, refl, sym, ◌∙◌, ap, subst, arith, length-append}
+use Rattle.std.proofs.Common.{◌≡◌, ℕ, ◌+◌, ◌≤◌, Bool, true, false, IsTrue, List, [], ◌∷◌, ◌++◌, length, refl, sym, ◌∙◌, ap, subst, arith, length-append}
 use Rattle.std.specs.Prelude.{All}
 use Rattle.std.proofs.lemmas.List.Elements.{All-cons, All-nil}
 use Rattle.fdp_base.specs.declared.config.DriveConfig.{DriveConfig}
 use Rattle.fdp_base.specs.declared.entry.Entry.{Entry}
 use Rattle.fdp_durability.specs.Beginnings.{CanBeSaved}
-use Rattle.fdp_durability.specs.Durable.{IsDurable}
+use Rattle.fdp_durability.specs.Durable.{IsDurable, SaysDrawn}
 use Rattle.fdp_durability.specs.Saved.{firm_renewed, firm_with, with_saved}
 use Rattle.fdp_durability.proofs.Beginnings.{Tells, firm-most, tells-all, tells-grown, tells-in, tells-less, among}
 use Rattle.fdp_flash.specs.declared.answer.Wrote.{Wrote}
 use Rattle.fdp_flash.specs.declared.answer.Wrote.TheVariants as wrote
 use Rattle.fdp_flash.specs.declared.cell.Cell.{Cell}
 use Rattle.fdp_image.specs.Applied.{applied}
+use Rattle.fdp_base.specs.declared.entry.Totals.{Totals}
 use Rattle.fdp_image.specs.Checkpoint.{reading_of_state}
+use Rattle.fdp_image.specs.Fits.{fits}
 use Rattle.fdp_image.specs.Reading.{Reading}
 use Rattle.fdp_image.specs.Saving.{SameDataPages}
+use Rattle.fdp_image.proofs.Fitting.{fits-forget}
 use Rattle.fdp_saving.specs.fdp_journal.JournalState.{JournalState}
 use Rattle.fdp_readings.specs.Changes.{Saves}
 use Rattle.fdp_readings.specs.Drawn.{drawn}
@@ -115,6 +118,15 @@ module _ (c : DriveConfig) (f : Found) (es : List Entry) (firm : ℕ) (s : Journ
       durable-of c f es firm now t new h.own h.own saver says tells tells (λ again. h.sure (sure refl))
   renewal-durable true now new wrote.Failed sure is same saver says = failed-durable now new same saver (ap (λ (k : JournalState). k.in_doubt) is) says
   renewal-durable false now new wrote.Failed sure is same saver says = failed-durable now new same saver (ap (λ (k : JournalState). k.in_doubt) is) says
+
+-- ---- a change that fits
+
+-- a change that fits what the history draws fits that upon which it is saved
+pub base-fits : (c : DriveConfig) (p : Point) (s : JournalState) (own : Reading) (given : State) (x : Change × Totals) → reading_of_state given ≡ drawn c p → SaysDrawn c p s own → IsTrue (fits c (drawn c p) x) → IsTrue (fits c (base_of (needs_checkpoint s) own given) x)
+base-fits c p s own given x drive sure fit = of_base (needs_checkpoint s) (λ none. sure_of s none) where
+  of_base : (wanted : Bool) → (wanted ≡ false → s.in_doubt ≡ false) → IsTrue (fits c (base_of wanted own given) x)
+  of_base true none = subst (λ (r : Reading). IsTrue (fits c r x)) (sym drive) fit
+  of_base false none = subst (λ (r : Reading). IsTrue (fits c r x)) (sym (sure (none refl))) (subst IsTrue (sym (fits-forget c (drawn c p) own.totals x)) fit)
 
 -- ---- an entry
 

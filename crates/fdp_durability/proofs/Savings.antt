@@ -4,7 +4,7 @@ use Rattle.std.specs.Prelude.{All, IsFalse}
 use Rattle.fdp_base.specs.declared.config.DriveConfig.{DriveConfig}
 use Rattle.fdp_base.specs.declared.entry.Entry.{Entry}
 use Rattle.fdp_durability.specs.Beginnings.{CanBeSaved}
-use Rattle.fdp_durability.specs.Durable.{IsDurable}
+use Rattle.fdp_durability.specs.Durable.{IsDurable, SaysDrawn}
 use Rattle.fdp_durability.specs.Saved.{SavesDrive, SavesEntry, SettlesDrive, firm_renewed, firm_with, with_saved}
 use Rattle.fdp_durability.proofs.Beginnings.{image-stands, stands-grown, stands-less}
 use Rattle.fdp_durability.proofs.Durable.{durable-stands}
@@ -76,23 +76,23 @@ module _ (c : DriveConfig) (f : Found) (es : List Entry) (e : Entry) (firm : ℕ
       (elim old.told as (λ b. old.told ≡ b → Holds (StandsForBeginning c f (with_saved es e answer) firm) old new) [
         | true ↦ λ told.
             (let h = durable told in
-            stands-over c f (with_saved es e answer) firm old new may_read h.own h.tried (saved.stops h.own h.tried (λ again. h.say))
+            stands-over c f (with_saved es e answer) firm old new may_read h.own h.tried (saved.stops h.own h.tried (λ again. h.say) (λ again. h.sure))
             (λ again image reads.
             image-stands c f (with_saved es e answer) firm t old.cells image (may_read h.own h.tried)
             (saving-tells c f es e firm s t old.cells saved.given saved.change saved.drive saved.saves h (can told) (can_then told) answer) reads))
         | false ↦ λ untold.
             (let r = drawn c (point_of c f es) in
             let never : IsTrue old.told → ⊥ = λ told. (let bad : false ≡ true = sym untold ∙ told in absurd cc) in
-            stands-over c f (with_saved es e answer) firm old new may_read r r (saved.stops r r (λ told. absurd (never told))) (λ told image reads. absurd (never told)))
+            stands-over c f (with_saved es e answer) firm old new may_read r r (saved.stops r r (λ told. absurd (never told)) (λ told. absurd (never told))) (λ told image reads. absurd (never told)))
       ]) refl
 
   -- and then all of it is durable, firm with the entry where it is done
   pub saving-done : IsTrue old.told → IsDurable c f (with_saved es e answer) (firm_with es e firm answer) now t new.cells
   saving-done told =
       let h = durable told in
-      let same = ((saved.stops h.own h.tried (λ again. h.say)).cells told).data_pages_same in
+      let same = ((saved.stops h.own h.tried (λ again. h.say) (λ again. h.sure)).cells told).data_pages_same in
       saving-durable c f es e firm s t old.cells saved.given saved.change saved.drive saved.saves h (can told) (can_then told) now new.cells answer saved.saver_is same (saved.stands told)
-      (saved.said h.own h.tried told h.say)
+      (saved.said h.own h.tried told h.say h.sure)
 
 -- ---- the drive is saved whole
 
@@ -103,8 +103,8 @@ record Renews (c : DriveConfig) (f : Found) (es : List Entry) (wanted : Bool) (s
   sure : wanted ≡ false → s.in_doubt ≡ false
   saver_is : now ≡ after_renewal wanted s given.summary answer
   stands : IsTrue old.told → IsSaverIn new.cells now
-  stops : (own tried : Reading) → (IsTrue old.told → AreasSay c s old.cells own tried) → Holds (ReadsAsOneOf c old.cells (within_renewal wanted own tried given)) old new
-  said : (own tried : Reading) → IsTrue old.told → AreasSay c s old.cells own tried → SayAfterRenewal c now new.cells own tried given (base_of wanted own given) answer
+  stops : (own tried : Reading) → (IsTrue old.told → AreasSay c s old.cells own tried) → (IsTrue old.told → SaysDrawn c (point_of c f es) s own) → Holds (ReadsAsOneOf c old.cells (within_renewal wanted own tried given)) old new
+  said : (own tried : Reading) → IsTrue old.told → AreasSay c s old.cells own tried → SaysDrawn c (point_of c f es) s own → SayAfterRenewal c now new.cells own tried given (base_of wanted own given) answer
 
 module _ (c : DriveConfig) (f : Found) (es : List Entry) (firm : ℕ) (wanted : Bool) (s now : JournalState) (t : UnitTable) (old new : FlashState) (answer : Wrote) (saved : Renews c f es wanted s now old new answer)
     (durable : IsTrue old.told → IsDurable c f es firm s t old.cells) (can : IsTrue old.told → CanBeSaved c (point_of c f es) t old.cells) where
@@ -116,20 +116,20 @@ module _ (c : DriveConfig) (f : Found) (es : List Entry) (firm : ℕ) (wanted : 
       (elim old.told as (λ b. old.told ≡ b → Holds (StandsForBeginning c f es firm) old new) [
         | true ↦ λ told.
             (let h = durable told in
-            stands-over c f es firm old new may_renew h.own h.tried (saved.stops h.own h.tried (λ again. h.say))
+            stands-over c f es firm old new may_renew h.own h.tried (saved.stops h.own h.tried (λ again. h.say) (λ again. h.sure))
             (λ again image reads.
             image-stands c f es firm t old.cells image (may_renew h.own h.tried) (renewal-tells c f es firm s t old.cells saved.given saved.drive h (can told) wanted) reads))
         | false ↦ λ untold.
             (let r = drawn c (point_of c f es) in
             let never : IsTrue old.told → ⊥ = λ told. (let bad : false ≡ true = sym untold ∙ told in absurd cc) in
-            stands-over c f es firm old new may_renew r r (saved.stops r r (λ told. absurd (never told))) (λ told image reads. absurd (never told)))
+            stands-over c f es firm old new may_renew r r (saved.stops r r (λ told. absurd (never told)) (λ told. absurd (never told))) (λ told image reads. absurd (never told)))
       ]) refl
 
   renewal-done : IsTrue old.told → IsDurable c f es (firm_renewed wanted es firm answer) now t new.cells
   renewal-done told =
       let h = durable told in
-      let same = ((saved.stops h.own h.tried (λ again. h.say)).cells told).data_pages_same in
-      renewal-durable c f es firm s t old.cells saved.given saved.drive h (can told) wanted now new.cells answer saved.sure saved.saver_is same (saved.stands told) (saved.said h.own h.tried told h.say)
+      let same = ((saved.stops h.own h.tried (λ again. h.say) (λ again. h.sure)).cells told).data_pages_same in
+      renewal-durable c f es firm s t old.cells saved.given saved.drive h (can told) wanted now new.cells answer saved.sure saved.saver_is same (saved.stands told) (saved.said h.own h.tried told h.say h.sure)
 
 -- a saving without a record is a checkpoint that failed
 by-unsaved : (c : DriveConfig) (f : Found) (es : List Entry) (e : Entry) (s now : JournalState) (old new : FlashState) (moment : ℕ) → SavesEntry c f es e s now old new (answers.Unsaved moment) → Renews c f es true s now old new wrote.Failed
@@ -151,8 +151,8 @@ by-checkpoint c f es s now old new wrote.Done p = record {
   sure = λ wrong. absurd cc;
   saver_is = p.saver_is;
   stands = p.stands;
-  stops = p.stops;
-  said = p.said;
+  stops = λ own tried say sure. p.stops own tried say;
+  said = λ own tried told say sure. p.said own tried told say;
 }
 by-checkpoint c f es s now old new wrote.Failed p = record {
   given = p.given;
@@ -160,8 +160,8 @@ by-checkpoint c f es s now old new wrote.Failed p = record {
   sure = λ wrong. absurd cc;
   saver_is = p.saver_is;
   stands = p.stands;
-  stops = p.stops;
-  said = p.said;
+  stops = λ own tried say sure. p.stops own tried say;
+  said = λ own tried told say sure. p.said own tried told say;
 }
 
 by-doubt : (c : DriveConfig) (f : Found) (es : List Entry) (s now : JournalState) (old new : FlashState) (answer : Wrote) → SettlesDrive c f es s now old new answer → Renews c f es s.in_doubt s now old new answer
@@ -171,8 +171,8 @@ by-doubt c f es s now old new answer p = record {
   sure = λ sure. sure;
   saver_is = p.saver_is;
   stands = p.stands;
-  stops = p.stops;
-  said = p.said;
+  stops = λ own tried say sure. p.stops own tried say;
+  said = λ own tried told say sure. p.said own tried told say;
 }
 
 module _ (c : DriveConfig) (f : Found) (es : List Entry) (firm : ℕ) (s now : JournalState) (t : UnitTable) (old new : FlashState) (answer : Wrote)

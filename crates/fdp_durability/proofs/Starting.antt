@@ -22,6 +22,7 @@ says-none c f more cells h = record {
   beginning = record { split = refl };
   enough = omega arith;
   valid = h.valid;
+  ways = h.ways;
   says = h.says;
 }
 

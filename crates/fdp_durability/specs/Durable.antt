@@ -10,10 +10,15 @@ use Rattle.fdp_saving.specs.fdp_journal.JournalState.{JournalState}
 use Rattle.fdp_readings.specs.Drawn.{drawn}
 use Rattle.fdp_readings.specs.Named.{NamesNone}
 use Rattle.fdp_rules.specs.History.{Found, point_of}
+use Rattle.fdp_rules.specs.Point.{Point}
 use Rattle.fdp_saving.specs.Said.{AreasSay}
 use Rattle.fdp_saving.specs.Saver.{IsSaverIn}
 use Rattle.fdp_units.specs.UnitTable.{UnitTable, unit_at}
 use Rattle.fdp_durability.specs.Beginnings.{NamesUsed, SaysBeginning}
+
+-- while nothing is in doubt the area of a saver says just what a point draws, but for the sums
+abbrev pub SaysDrawn : DriveConfig → Point → JournalState → Reading → Type 0
+SaysDrawn c p s own = s.in_doubt ≡ false → own ≡ record (drawn c p) { totals = own.totals }
 
 -- What the system areas say of a history, of which so many entries are firm: the area of the saver one beginning, and the other, where it is
 -- current, another; and while nothing is in doubt just what the history draws, but for the sums.
@@ -26,7 +31,7 @@ pub record IsDurable (c : DriveConfig) (f : Found) (es : List Entry) (firm : ℕ
   pub tried_says : SaysBeginning c f es firm cells tried
   pub own_used : NamesUsed c t own
   pub tried_used : NamesUsed c t tried
-  pub sure : s.in_doubt ≡ false → own ≡ record (drawn c (point_of c f es)) { totals = own.totals }
+  pub sure : SaysDrawn c (point_of c f es) s own
 
 -- each page of data that was used is as it was
 abbrev pub KeepsUsed : DriveConfig → UnitTable → List Cell → List Cell → Type 0

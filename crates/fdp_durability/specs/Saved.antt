@@ -2,6 +2,7 @@
 use Rattle.std.specs.Prelude.{◌≡◌, ℕ, Bool, false, IsTrue, List, [], ◌∷◌, ◌++◌, length, if◌then◌else◌}
 use Rattle.fdp_base.specs.declared.config.DriveConfig.{DriveConfig}
 use Rattle.fdp_base.specs.declared.entry.Entry.{Entry}
+use Rattle.fdp_durability.specs.Durable.{SaysDrawn}
 use Rattle.fdp_flash.specs.declared.answer.Wrote.{Wrote}
 use Rattle.fdp_flash.specs.declared.answer.Wrote.TheVariants as wrote
 use Rattle.fdp_flash.specs.FlashState.{FlashState}
@@ -48,9 +49,9 @@ pub record SavesEntry (c : DriveConfig) (f : Found) (es : List Entry) (e : Entry
   pub saves : Saves c (point_of c f es) change e
   pub saver_is : now ≡ after_saving s given.summary answer
   pub stands : IsTrue old.told → IsSaverIn new.cells now
-  pub stops : (own tried : Reading) → (IsTrue old.told → AreasSay c s old.cells own tried)
+  pub stops : (own tried : Reading) → (IsTrue old.told → AreasSay c s old.cells own tried) → (IsTrue old.told → SaysDrawn c (point_of c f es) s own)
       → Holds (ReadsAsOneOf c old.cells (within_saved c (needs_checkpoint s) own tried given (change, totals_with (point_of c f es).totals e) answer)) old new
-  pub said : (own tried : Reading) → IsTrue old.told → AreasSay c s old.cells own tried
+  pub said : (own tried : Reading) → IsTrue old.told → AreasSay c s old.cells own tried → SaysDrawn c (point_of c f es) s own
       → SayAfterSaving c now new.cells own tried given (base_of (needs_checkpoint s) own given) (change, totals_with (point_of c f es).totals e) answer
   pub calls : MakesSystemCalls old new (AreCallsOfSaving s given.summary answer)
   pub ends : EndsSaving old new answer

@@ -1,15 +1,17 @@
 -- The bits of a mask by the kinds of event.
-use Rattle.std.proofs.Common.{◌≡◌, ◌≢◌, ℕ, zero, suc, ◌-◌, ◌^◌, ◌<◌, Bool, true, false, List, length, set, get_or, refl, ap, sym, ◌∙◌, arith, min, max, replicate, ⊎_elim}
+use Rattle.std.proofs.Common.{◌≡◌, ◌≢◌, ℕ, zero, suc, ◌-◌, ◌^◌, ◌<◌, ◌≤◌, Bool, true, false, List, length, set, get_or, refl, ap, sym, ◌∙◌, arith, min, max, replicate, ⊎_elim}
 use Rattle.std.proofs.lemmas.List.{get_or-set_other, get_or-set_same}
-use Rattle.std.specs.Prelude.{◌==◌, ◌&&◌, ◌||◌, if◌then◌else◌, nat_lt}
+use Rattle.std.specs.Prelude.{◌⊎◌, ◌==◌, ◌&&◌, ◌||◌, if◌then◌else◌, nat_lt}
 use Rattle.std.proofs.lemmas.Bool.{lt-ltb}
 use Rattle.std.proofs.lemmas.Bool.Decides.{eqb_tells, nat_tests}
 use Rattle.fdp_image.specs.Checkpoint.{reports_in}
 use Rattle.std.specs.Int.{bit_at, bit_not, w8}
 use Rattle.std.specs.Int.Bits.{bit_and, bit_or}
+use Rattle.std.proofs.lemmas.Nat.{and_le_l, or_lt}
 use Rattle.std.proofs.lemmas.Nat.Bits.{bit_at-lt, bit_at_and, bit_at_not, bit_at_or}
 use Rattle.fdp_base.specs.declared.event.EventKind.{EventKind}
 use Rattle.fdp_base.specs.declared.event.EventKind.TheVariants as kinds
+use Rattle.fdp_image.specs.BadFields.{AreKnownMasks}
 use Rattle.fdp_image.specs.Bits.{has_bit}
 use Rattle.fdp_image.specs.CheckpointRows.{has_kind}
 use Rattle.fdp_events.specs.Kinds.{kind_bit}
@@ -100,3 +102,28 @@ and_false false = refl
 -- masks of zeros keep no kind
 pub reports_none : (n k : ℕ) (kind : EventKind) → reports_in (replicate n 0) k kind ≡ false
 reports_none n k kind = ap (λ m. nat_lt k 16 && has_kind m kind) (zeros_read n k) ∙ ap (λ (b : Bool). nat_lt k 16 && b) (no_kind kind) ∙ and_false (nat_lt k 16)
+
+-- ---- masks without a bit that is that of no kind
+
+pub known_with : (old more : ℕ) → old < 64 → more < 64 → bit_or old more < 64
+known_with old more few few_too = or_lt 6 old more few few_too
+
+pub known_without : (old other : ℕ) → old < 64 → bit_and old other < 64
+known_without old other few = omega (arith, and_le_l old other, few)
+
+-- another mask for a handle that there is
+pub known_set : (count : ℕ) (masks : List ℕ) (ruh x : ℕ) → ruh < length masks → ruh < count → x < 64 → AreKnownMasks count masks → AreKnownMasks count (set masks ruh x)
+known_set count masks ruh x there below few h = record { kinds = λ k. of_place k (eqb_tells k ruh); absent = behind } where
+  of_place : (k : ℕ) → ((k == ruh ≡ true) × (k ≡ ruh)) ⊎ ((k == ruh ≡ false) × (k ≢ ruh)) → get_or (set masks ruh x) k 0 < 64
+  of_place k = ⊎_elim
+      (λ (e : (k == ruh ≡ true) × (k ≡ ruh)).
+      let new : get_or (set masks ruh x) k 0 ≡ x = ap (λ n. get_or (set masks ruh x) n 0) e.1 ∙ get_or-set_same masks ruh x 0 there in
+      omega (arith, new, few))
+      (λ (e : (k == ruh ≡ false) × (k ≢ ruh)). omega (arith, get_or-set_other masks ruh k x 0 e.1, h.kinds k))
+
+  behind : (k : ℕ) → count ≤ k → get_or (set masks ruh x) k 0 ≡ 0
+  behind k past = let other : k ≢ ruh = omega (arith, past, below) in get_or-set_other masks ruh k x 0 other ∙ h.absent k past
+
+-- masks of zeros
+pub known_none : (n count : ℕ) → AreKnownMasks count (replicate n 0)
+known_none n count = record { kinds = λ k. omega (arith, zeros_read n k); absent = λ k past. zeros_read n k }

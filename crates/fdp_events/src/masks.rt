@@ -2,6 +2,7 @@
 
 ghost use Rattle.std.specs.Prelude.{◌≡◌, ℕ, ◌<◌, ◌==◌, ◌&&◌, Bool, false, if◌then◌else◌};
 ghost use Rattle.fdp_base.specs.declared.event.EventKind.{EventKind as Kind};
+ghost use Rattle.fdp_image.specs.BadFields.{AreKnownMasks};
 ghost use Rattle.fdp_image.specs.Checkpoint.{reports_in};
 ghost use Rattle.fdp_image.specs.CheckpointRows.{has_kind};
 ghost use Rattle.fdp_events.specs.Kinds.{kind_bit};
@@ -38,9 +39,10 @@ pub fn reports(masks: &[u8; 16], ruh: u8, kind: EventKind) -> bool
 }
 
 /// A mask with the kinds of another set, or without them.
-#[tactic(auto, using(crate::proofs::MaskBits::kinds_with, crate::proofs::MaskBits::kinds_without))]
+#[tactic(auto, using(crate::proofs::MaskBits::kinds_with, crate::proofs::MaskBits::kinds_without, crate::proofs::MaskBits::known_with, crate::proofs::MaskBits::known_without))]
 fn with_kinds(old: u8, kinds: u8, on: bool) -> u8
-    ensures { (kind : Kind) → has_kind result kind ≡ (if has_kind kinds kind then on else has_kind old kind) }
+    ensures kinds { (kind : Kind) → has_kind result kind ≡ (if has_kind kinds kind then on else has_kind old kind) }
+    ensures known { old < 64 → kinds < 64 → result < 64 }
 {
     if on { old | kinds } else { old & !kinds }
 }
@@ -48,7 +50,8 @@ fn with_kinds(old: u8, kinds: u8, on: bool) -> u8
 /// The kinds of a mask are kept for a handle, or no longer.
 pub fn set_reports(masks: &mut [u8; 16], ruh: u8, on: bool, kinds: u8)
     requires { ruh < 16 }
-    ensures { (k : ℕ) (kind : Kind) → reports_in masks.new k kind ≡ (if k == ruh && has_kind kinds kind then on else reports_in masks.old k kind) }
+    ensures kinds { (k : ℕ) (kind : Kind) → reports_in masks.new k kind ≡ (if k == ruh && has_kind kinds kind then on else reports_in masks.old k kind) }
+    ensures known { (count : ℕ) → AreKnownMasks count masks.old → ruh < count → kinds < 64 → AreKnownMasks count masks.new }
 {
     let at = ruh as usize;
     masks[at] = with_kinds(masks[at], kinds, on);
@@ -57,7 +60,8 @@ pub fn set_reports(masks: &mut [u8; 16], ruh: u8, on: bool, kinds: u8)
 /// No kind is kept for a handle.
 #[tactic(auto, using(crate::proofs::MaskBits::reports_none))]
 pub fn no_reports() -> [u8; 16]
-    ensures { (k : ℕ) (kind : Kind) → reports_in result k kind ≡ false }
+    ensures none { (k : ℕ) (kind : Kind) → reports_in result k kind ≡ false }
+    ensures known { (count : ℕ) → AreKnownMasks count result }
 {
     [0; 16]
 }

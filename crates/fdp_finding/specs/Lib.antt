@@ -2,5 +2,6 @@ pub mod Asked
 pub mod CommandLine
 pub mod Configured
 pub mod Faults
+pub mod Limits
 pub mod Traced
 pub mod Wanted

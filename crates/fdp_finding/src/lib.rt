@@ -5,11 +5,13 @@ mod asked;
 mod command_line;
 mod fault;
 mod image;
+mod laws;
 mod no_trace;
 mod reading;
 
 pub use asked::{Form, MOST_TRACES};
 pub use fault::{Fault, push_fault};
 pub use image::ImageFault;
+pub use laws::limits_are_those_of_the_documents;
 pub use no_trace::NoTrace;
 pub use reading::{Wanted, find};

@@ -20,7 +20,7 @@ use Rattle.fdp_image.specs.Outline.{state_with}
 use Rattle.fdp_image.specs.Reading.{Reading}
 use Rattle.fdp_image.specs.Reads.{fresh_reading, is_blank, is_spent, reads_as, said_by_current}
 use Rattle.fdp_image.specs.StandsFor.{IsFoundIn, Says}
-use Rattle.fdp_image.specs.Valid.{IsValid, state_in}
+use Rattle.fdp_image.specs.Valid.{GoOneWay, IsValid, state_in}
 use Rattle.fdp_opening.specs.fdp_recovery.Opened.{CanGoOn}
 use Rattle.fdp_rules.specs.Events.{kept_from}
 use Rattle.fdp_rules.specs.History.{controller_events_of, events_of, first_state, fresh, host_events_of, point_of, state_of, totals_of}
@@ -85,10 +85,14 @@ fresh-reads : (c : DriveConfig) (cells : List Cell) → current_area (geometry_o
 unfolding reads_as said_by_current
 fresh-reads c cells none blank = ap (said_by_current c cells) none ∙ ap (λ (b : Bool). if b then Some (fresh_reading c) else None) blank
 
+fresh-ways : (c : DriveConfig) (cells : List Cell) → GoOneWay c cells (fresh_reading c)
+unfolding fresh_reading
+fresh-ways c cells nsid lba page other_nsid other_lba other x y at there unit read-x read-y apart = absurd cc
+
 pub fresh-found : (c : DriveConfig) (cells : List Cell) → IsValidConfig c → current_area (geometry_of c) cells ≡ None → IsTrue (list_all is_blank (take (data_pages (geometry_of c)) cells)) → IsFoundIn c cells (fresh c)
 unfolding fresh
 fresh-found c cells config none blank = record {
-  stands = record { reading = fresh_reading c; read = fresh-reads c cells none blank; valid = fresh-valid c cells config; says = fresh-says c cells };
+  stands = record { reading = fresh_reading c; read = fresh-reads c cells none blank; valid = fresh-valid c cells config; ways = fresh-ways c cells; says = fresh-says c cells };
   spots = All-nil _;
   is_image = sym (ap (λ (o : Option (ℕ × Sealed)). is_some o) none);
 }

@@ -18,7 +18,7 @@ use Rattle.fdp_image.specs.Outline.{state_with}
 use Rattle.fdp_image.specs.Reading.{Reading}
 use Rattle.fdp_image.specs.Reads.{reads_as}
 use Rattle.fdp_image.specs.StandsFor.{IsFoundIn, StandsFor}
-use Rattle.fdp_image.specs.Valid.{IsValid, state_in}
+use Rattle.fdp_image.specs.Valid.{GoOneWay, IsValid, state_in}
 use Rattle.fdp_rules.specs.Events.{kept_from, latest}
 use Rattle.fdp_rules.specs.History.{controller_events_of, events_of, first_state, host_events_of, state_of, totals_of}
 use Rattle.fdp_rules.specs.PlainState.{Namespace, lasting}
@@ -54,12 +54,13 @@ latest-found xs few = sym (ap latest (append-nil xs) ∙ all-latest xs few)
 plus-none : (n : ℕ) → n ≡ n + 0
 plus-none n = omega arith
 
-pub stands-found : (c : DriveConfig) (cells : List Cell) (r : Reading) → reads_as c cells ≡ Some r → IsValid c cells r → CanBegin r → StandsFor c (found_in c cells r) cells []
+pub stands-found : (c : DriveConfig) (cells : List Cell) (r : Reading) → reads_as c cells ≡ Some r → IsValid c cells r → GoOneWay c cells r → CanBegin r → StandsFor c (found_in c cells r) cells []
 unfolding state_of totals_of events_of host_events_of controller_events_of kept_from
-stands-found c cells r read valid can = record {
+stands-found c cells r read valid ways can = record {
   reading = r;
   read = read;
   valid = valid;
+  ways = ways;
   says = record {
     shows = record {
       lasting_part = ap lasting (sym (state-found c cells r valid can));
@@ -75,10 +76,10 @@ stands-found c cells r read valid can = record {
   };
 }
 
-pub image-found : (c : DriveConfig) (cells : List Cell) (r : Reading) → reads_as c cells ≡ Some r → IsValid c cells r → CanBegin r → IsTrue (is_some (current_area (geometry_of c) cells)) → IsFoundIn c cells (found_in c cells r)
+pub image-found : (c : DriveConfig) (cells : List Cell) (r : Reading) → reads_as c cells ≡ Some r → IsValid c cells r → GoOneWay c cells r → CanBegin r → IsTrue (is_some (current_area (geometry_of c) cells)) → IsFoundIn c cells (found_in c cells r)
 unfolding stands-found
-image-found c cells r read valid can sealed = record {
-  stands = stands-found c cells r read valid can;
+image-found c cells r read valid ways can sealed = record {
+  stands = stands-found c cells r read valid ways can;
   spots = blocks-stand c cells r;
   is_image = sym sealed;
 }

@@ -11,7 +11,7 @@ ghost use Rattle.fdp_image.specs.Checkpoint.{reading_of_state};
 ghost use Rattle.fdp_image.specs.Reading.{Reading};
 ghost use Rattle.fdp_image.specs.Reads.{is_blank, reads_as};
 ghost use Rattle.fdp_image.specs.StandsFor.{IsFoundIn, StandsFor};
-ghost use Rattle.fdp_image.specs.Valid.{IsValid, state_in};
+ghost use Rattle.fdp_image.specs.Valid.{GoOneWay, IsValid, state_in};
 ghost use Rattle.fdp_opening.specs.fdp_recovery.Opened.{CanGoOn};
 ghost use Rattle.fdp_rules.specs.History.{first_state, fresh};
 ghost use Rattle.fdp_snapshot.specs.declared.state.State.{State};
@@ -25,8 +25,8 @@ pub fn loaded_states_can_begin()
 /// yet.
 pub fn images_are_found()
     ensures state { (c : DriveConfig) (cells : List Cell) (r : Reading) → IsValid c cells r → CanBegin r → first_state c (found_in c cells r) ≡ state_in c cells r }
-    ensures stands { (c : DriveConfig) (cells : List Cell) (r : Reading) → reads_as c cells ≡ Some r → IsValid c cells r → CanBegin r → StandsFor c (found_in c cells r) cells [] }
-    ensures found { (c : DriveConfig) (cells : List Cell) (r : Reading) → reads_as c cells ≡ Some r → IsValid c cells r → CanBegin r → IsTrue (is_some (current_area (geometry_of c) cells)) → IsFoundIn c cells (found_in c cells r) }
+    ensures stands { (c : DriveConfig) (cells : List Cell) (r : Reading) → reads_as c cells ≡ Some r → IsValid c cells r → GoOneWay c cells r → CanBegin r → StandsFor c (found_in c cells r) cells [] }
+    ensures found { (c : DriveConfig) (cells : List Cell) (r : Reading) → reads_as c cells ≡ Some r → IsValid c cells r → GoOneWay c cells r → CanBegin r → IsTrue (is_some (current_area (geometry_of c) cells)) → IsFoundIn c cells (found_in c cells r) }
 {}
 
 /// The drive as its configuration makes it is found where no area is sealed and the data pages are blank.

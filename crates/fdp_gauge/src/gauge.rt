@@ -88,7 +88,7 @@ impl Gauge {
         ensures of_gauge { IsTellerOf self.now teller.new }
         ensures told { told_of teller.new ≡ J.list }
     {
-        let _ = value;
+        let _ = value; // proof
         let words = [
             snapshot.length,
             snapshot.host_blocks,

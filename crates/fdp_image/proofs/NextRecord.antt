@@ -1,6 +1,6 @@
 -- What the programming of the next page of the journal may leave of what an image reads as.
 use Rattle.std.proofs.Common.{◌≡◌, ℕ, zero, suc, ◌+◌, ◌<◌, ◌≤◌, ◌⊎◌, Bool, true, false, List, [], ◌∷◌, ◌++◌, length, set, drop, take, Option, Some, None, refl, sym, ap, subst, ◌∙◌, arith, inl, inr, ⊎_elim}
-use Rattle.std.specs.Prelude.{fold, if◌then◌else◌, map, nat_lt, option_map, slice_get}
+use Rattle.std.specs.Prelude.{IsTrue, fold, if◌then◌else◌, map, nat_lt, option_map, slice_get}
 use Rattle.std.proofs.lemmas.Bool.{cases_Bool}
 use Rattle.std.proofs.lemmas.List.{drop-set-add, drop-set-lt, length-append, length-drop, length-set, length-take-le, take-set-le}
 use Rattle.std.proofs.lemmas.Slice.Eq.{bytes_eq-Decides}
@@ -24,9 +24,11 @@ use Rattle.fdp_records.specs.Spares.{system_spare}
 use Rattle.fdp_image.specs.Applied.{applied}
 use Rattle.fdp_image.specs.Areas.{Sealed, area_of, area_unit, current_area, data_pages, later_of, page_bytes, sealed_in}
 use Rattle.fdp_image.specs.Checkpoint.{said_by_checkpoint}
+use Rattle.fdp_image.specs.Fits.{fits}
 use Rattle.fdp_image.specs.Reading.{Reading}
-use Rattle.fdp_image.specs.Reads.{all_of, changes_in, extent, is_checkpoint_of, next_page, reads_as, said_by_area, said_by_current}
+use Rattle.fdp_image.specs.Reads.{all_of, changes_in, extent, is_checkpoint_of, is_sound_checkpoint, next_page, reads_as, said_by_area, said_by_current}
 use Rattle.fdp_image.specs.Saving.{AreBlankFrom, CanGoOn, IsCurrent, IsNextRecord, IsSavedIn, ReadsWithOrWithout}
+use Rattle.fdp_image.proofs.Fitting.{all_fit-push, said_by-made, said_by-parts}
 use Rattle.fdp_image.proofs.Journaling.{journal_grows, journal_stays, slice_get-set_other}
 
 -- ---- the areas
@@ -168,25 +170,25 @@ first_of s = said_by_checkpoint (concat s.checkpoint)
 abbrev with_page : Sealed → List ℕ → Sealed
 with_page s bytes = record s { journal = s.journal ++ bytes ∷ [] }
 
--- an area says with a record more what it said with that change
-said_with : (c : DriveConfig) (s : Sealed) (r : Reading) (bytes : List ℕ) (x : Change × Totals) → said_by_area c s ≡ Some r → decoded bytes ≡ Some x
+-- an area says with a record more, which fits what it said, that with the change
+said_with : (c : DriveConfig) (s : Sealed) (r : Reading) (bytes : List ℕ) (x : Change × Totals) → said_by_area c s ≡ Some r → IsTrue (fits c r x) → decoded bytes ≡ Some x
     → said_by_area c (with_page s bytes) ≡ Some (applied c r x)
-unfolding said_by_area is_checkpoint_of changes_in
-said_with c s r bytes x said told = of_test (is_checkpoint_of c s) refl where
-  of_changes : (o : Option (List (Change × Totals))) → changes_in s.journal ≡ o → option_map (fold (applied c) (first_of s)) o ≡ Some r → option_map (fold (applied c) (first_of s)) (changes_in (s.journal ++ bytes ∷ [])) ≡ Some (applied c r x)
-  of_changes None is e = absurd cc
-  of_changes (Some xs) is e =
-      let one : decoded bytes ∷ [] ≡ Some x ∷ [] = ap (λ (o : Option (Change × Totals)). o ∷ []) told in
-      let all : all_of (map decoded (s.journal ++ bytes ∷ [])) ≡ Some (xs ++ x ∷ []) =
-      ap all_of (map-push s.journal bytes ∙ ap (λ (os : List (Option (Change × Totals))). map decoded s.journal ++ os) one) ∙ all-push (map decoded s.journal) xs x is in
-      let last : fold (applied c) (first_of s) xs ≡ r = cc in
-      ap (option_map (fold (applied c) (first_of s))) all ∙ ap Some (fold-push (applied c) (first_of s) xs x ∙ ap (λ (a : Reading). applied c a x) last)
-
-  of_test : (b : Bool) → is_checkpoint_of c s ≡ b → said_by_area c (with_page s bytes) ≡ Some (applied c r x)
-  of_test false is = let bad : None ≡ Some r = sym (ap (λ (b : Bool). if b then option_map (fold (applied c) (first_of s)) (changes_in s.journal) else None) is) ∙ said in absurd cc
-  of_test true is =
-      let inner : option_map (fold (applied c) (first_of s)) (changes_in s.journal) ≡ Some r = sym (ap (λ (b : Bool). if b then option_map (fold (applied c) (first_of s)) (changes_in s.journal) else None) is) ∙ said in
-      ap (λ (b : Bool). if b then option_map (fold (applied c) (first_of s)) (changes_in (s.journal ++ bytes ∷ [])) else None) is ∙ of_changes (changes_in s.journal) refl inner
+unfolding changes_in is_sound_checkpoint is_checkpoint_of
+said_with c s r bytes x said fit told =
+    let h = said_by-parts c s r said in
+    let first = first_of s in
+    let one : decoded bytes ∷ [] ≡ Some x ∷ [] = ap (λ (o : Option (Change × Totals)). o ∷ []) told in
+    let all : changes_in (s.journal ++ bytes ∷ []) ≡ Some (h.changes ++ x ∷ []) =
+    ap all_of (map-push s.journal bytes ∙ ap (λ (os : List (Option (Change × Totals))). map decoded s.journal ++ os) one) ∙ all-push (map decoded s.journal) h.changes x h.told in
+    said_by-made c (with_page s bytes) (applied c r x) (record {
+      sound = h.sound;
+      changes = h.changes ++ x ∷ [];
+      told = all;
+      after = record {
+        fit = all_fit-push fits c first h.changes x h.after.fit (subst (λ (a : Reading). IsTrue (fits c a x)) (sym h.after.said) fit);
+        said = fold-push (applied c) first h.changes x ∙ ap (λ (a : Reading). applied c a x) h.after.said;
+      };
+    })
 
 -- ---- the image
 
@@ -262,9 +264,9 @@ read_by c cells number s current = ap (said_by_current c cells) current
 
 -- a program of the page behind the journal leaves an image that reads as before, or with the change
 pub next_record_reads : (c : DriveConfig) (cells : List Cell) (r : Reading) (at : Spot) (spare bytes : List ℕ) (x : Change × Totals) (image : List Cell)
-    → length cells ≡ all_pages (geometry_of c) → reads_as c cells ≡ Some r → IsNextRecord c cells at spare bytes x → ProgramMayLeave (geometry_of c) cells at spare bytes image
+    → length cells ≡ all_pages (geometry_of c) → reads_as c cells ≡ Some r → IsTrue (fits c r x) → IsNextRecord c cells at spare bytes x → ProgramMayLeave (geometry_of c) cells at spare bytes image
     → ReadsWithOrWithout c cells r x image
-next_record_reads c cells r at spare bytes x image size read next left =
+next_record_reads c cells r at spare bytes x image size read fit next left =
     let g = geometry_of c in
     let s = next.area in
     let number = next.number in
@@ -282,7 +284,7 @@ next_record_reads c cells r at spare bytes x image size read next left =
     ap (page_bytes Journal (length s.journal) s.stamp) (whole ∙ ap (λ (sp : List ℕ). Whole sp bytes) next.spare_is) ∙ whole_page (length s.journal) s.stamp bytes in
     ap (reads_as c) place ∙ read_by c (set cells (first_page g (area_unit g number) + next_page s) left.cell) number (with_page s bytes)
     (area_read g cells number s (with_page s bytes) left.cell next.current room refl (λ sealed. journal_grows (area_of g number cells) s left.cell bytes sealed long next.blank page))
-    ∙ said_with c s r bytes x said next.told in
+    ∙ said_with c s r bytes x said fit next.told in
     record {
       reads = elim left.page [
         | inl blank ↦ inl (same (no_page (length s.journal) s.stamp left.cell (inl blank)))
@@ -344,9 +346,9 @@ slice_get-set_above (c ∷ cs) (suc k) (suc j) cell lt = slice_get-set_above cs 
 
 -- a program that is done saves the change, and the journal can go on
 pub next_record_saved : (c : DriveConfig) (cells : List Cell) (r : Reading) (at : Spot) (spare bytes : List ℕ) (x : Change × Totals) (image : List Cell)
-    → length cells ≡ all_pages (geometry_of c) → reads_as c cells ≡ Some r → (next : IsNextRecord c cells at spare bytes x) → IsProgrammed (geometry_of c) cells at spare bytes image
+    → length cells ≡ all_pages (geometry_of c) → reads_as c cells ≡ Some r → IsTrue (fits c r x) → (next : IsNextRecord c cells at spare bytes x) → IsProgrammed (geometry_of c) cells at spare bytes image
     → IsSavedIn c r next.number next.area bytes x image
-next_record_saved c cells r at spare bytes x image size read next done =
+next_record_saved c cells r at spare bytes x image size read fit next done =
     let g = geometry_of c in
     let s = next.area in
     let number = next.number in
@@ -363,7 +365,7 @@ next_record_saved c cells r at spare bytes x image size read next done =
     area_read g cells number s (with_page s bytes) cell next.current room refl (λ sealed. journal_grows (area_of g number cells) s cell bytes sealed long next.blank page) in
     let area : area_of g number new ≡ set (area_of g number cells) (next_page s) cell = area_set g number (next_page s) cells cell in
     record {
-      reads = ap (reads_as c) place ∙ read_by c new number (with_page s bytes) current ∙ said_with c s r bytes x said next.told;
+      reads = ap (reads_as c) place ∙ read_by c new number (with_page s bytes) current ∙ said_with c s r bytes x said fit next.told;
       current = ap (current_area g) place ∙ current;
       blank = λ k lo hi.
           let same : area_of g number image ≡ set (area_of g number cells) (next_page s) cell = ap (area_of g number) place ∙ area in

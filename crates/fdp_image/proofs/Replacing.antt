@@ -19,11 +19,14 @@ use Rattle.fdp_snapshot.specs.Checkpoint.{checkpoint_size, is_checkpoint}
 use Rattle.fdp_snapshot.specs.Reading.{keys_in, state_in, summary_in}
 use Rattle.fdp_image.specs.Applied.{applied}
 use Rattle.fdp_image.specs.Areas.{Sealed, area_of, area_unit, current_area, data_pages, later_of, sealed_in}
+use Rattle.fdp_image.specs.BadFields.{bad_field}
 use Rattle.fdp_image.specs.Checkpoint.{reading_of_state, said_by_checkpoint}
 use Rattle.fdp_image.specs.CheckpointFields.{same_keys}
+use Rattle.fdp_image.specs.Fits.{all_fit}
 use Rattle.fdp_image.specs.Reading.{Reading}
 use Rattle.fdp_image.specs.Reads.{all_of, changes_in, fresh_reading, is_blank, is_checkpoint_of, reads_as, said_by_area, said_by_current}
-use Rattle.fdp_image.specs.Replacing.{IsCheckpointOf, IsNewlySealed, IsReplacedIn, IsSameBeside, IsShortened, MayBeReplaced, MayBeWritten, NamesSizes}
+use Rattle.fdp_image.specs.Replacing.{IsCheckpointOf, IsNewlySealed, IsReplacedIn, IsSameBeside, IsShortened, IsSavedBy, MayBeReplaced, MayBeWritten}
+use Rattle.fdp_image.proofs.Fitting.{said_by-made, sound-made}
 use Rattle.fdp_image.proofs.Journaling.{slice_get-drop}
 use Rattle.fdp_image.proofs.NextRecord.{read_by}
 
@@ -262,22 +265,30 @@ keys_same : (s : State) (bytes : List ℕ) → s ≡ state_in bytes → keys_in 
 unfolding state_in summary_in
 keys_same s bytes told = sym (ap (λ (x : State). x.summary.keys) told)
 
+summary_same : (s : State) (bytes : List ℕ) → s ≡ state_in bytes → summary_in bytes ≡ s.summary
+unfolding state_in
+summary_same s bytes told = sym (ap (λ (x : State). x.summary) told)
+
 -- a new checkpoint without a journal says its state
-pub says_state : (c : DriveConfig) (z : Sealed) (s : State) → IsCheckpointOf z.stamp.version c.block (concat z.checkpoint) s → z.journal ≡ [] → NamesSizes c s → said_by_area c z ≡ Some (reading_of_state s)
-unfolding said_by_area is_checkpoint_of changes_in all_of said_by_checkpoint
-says_state c z s h none sizes =
+pub says_state : (c : DriveConfig) (z : Sealed) (s : State) → IsCheckpointOf z.stamp.version c.block (concat z.checkpoint) s → z.journal ≡ [] → IsSavedBy c s → said_by_area c z ≡ Some (reading_of_state s)
+unfolding is_checkpoint_of changes_in all_of all_fit said_by_checkpoint
+says_state c z s h none saved =
     let bytes = concat z.checkpoint in
     let filled : nat_lt (length bytes) (checkpoint_size (summary_in bytes) + c.block) ≡ true = less (length bytes) (checkpoint_size (summary_in bytes) + c.block) h.filled in
-    let keys : list_all (λ (b : Bool). b) (same_keys c (keys_in bytes)) ≡ true = ap (λ (k : Keys). list_all (λ (b : Bool). b) (same_keys c k)) (keys_same s bytes h.state) ∙ sizes in
+    let keys : list_all (λ (b : Bool). b) (same_keys c (keys_in bytes)) ≡ true = ap (λ (k : Keys). list_all (λ (b : Bool). b) (same_keys c k)) (keys_same s bytes h.state) ∙ saved.sizes in
     let test : is_checkpoint_of c z ≡ true =
     both (is_checkpoint z.stamp.version bytes) (list_all (λ (b : Bool). b) (same_keys c (keys_in bytes))) (nat_lt (length bytes) (checkpoint_size (summary_in bytes) + c.block)) h.whole keys filled in
-    ap (λ (b : Bool). if b then option_map (fold (applied c) (reading_of_state (state_in bytes))) (changes_in z.journal) else None) test
-    ∙ ap (λ (j : List (List ℕ)). option_map (fold (applied c) (reading_of_state (state_in bytes))) (changes_in j)) none
-    ∙ ap (λ (x : State). Some (reading_of_state x)) (sym h.state)
+    let fields : bad_field c (summary_in bytes) ≡ None = ap (bad_field c) (summary_same s bytes h.state) ∙ saved.fields in
+    said_by-made c z (reading_of_state s) (record {
+      sound = sound-made c z (record { whole = test; fields = fields });
+      changes = [];
+      told = ap changes_in none;
+      after = record { fit = refl; said = ap reading_of_state (sym h.state) };
+    })
 
 -- what writing a checkpoint may leave reads as before, or as its state
 pub replaced_reads : (g : Geometry) (area epoch : ℕ) (s : State) (old new : List Cell) → area ≤ 1 → IsSameBeside g area old new → IsReplacedIn g.block epoch s (area_of g area old) (area_of g area new)
-    → (c : DriveConfig) (r : Reading) → geometry_of c ≡ g → NamesSizes c s → MayBeReplaced g old area epoch → reads_as c old ≡ Some r → (reads_as c new ≡ Some r) ⊎ (reads_as c new ≡ Some (reading_of_state s))
+    → (c : DriveConfig) (r : Reading) → geometry_of c ≡ g → IsSavedBy c s → MayBeReplaced g old area epoch → reads_as c old ≡ Some r → (reads_as c new ≡ Some r) ⊎ (reads_as c new ≡ Some (reading_of_state s))
 replaced_reads g area epoch s old new two beside replaced c r same sizes other read = elim (changed g area epoch s old new two beside replaced other).cases [
   | inl kept ↦ (
       let there : current_area (geometry_of c) new ≡ current_area (geometry_of c) old = subst (λ (h : Geometry). current_area h new ≡ current_area h old) (sym same) kept in

@@ -1,5 +1,5 @@
 -- What an image reads as: the checkpoint of its current area with the changes of its journal.
-use Rattle.std.specs.Prelude.{ℕ, suc, ◌+◌, ◌^◌, Bool, true, false, ◌&&◌, ◌||◌, List, [], ◌∷◌, length, map, take, nat_lt, nat_le, Option, Some, None, if◌then◌else◌, fold, option_map}
+use Rattle.std.specs.Prelude.{ℕ, suc, ◌+◌, ◌^◌, Bool, true, false, not, ◌&&◌, ◌||◌, List, [], ◌∷◌, length, map, take, nat_lt, nat_le, Option, Some, None, is_some, if◌then◌else◌, fold, option_map}
 use Rattle.std.specs.List.{list_all, list_any, concat}
 use Rattle.std.specs.Option.{option_and_then}
 use Rattle.fdp_base.specs.declared.config.DriveConfig.{DriveConfig}
@@ -14,10 +14,12 @@ use Rattle.fdp_rules.specs.History.{first_state, fresh}
 use Rattle.fdp_rules.specs.PlainState.{PlainState}
 use Rattle.fdp_image.specs.Applied.{applied}
 use Rattle.fdp_image.specs.Areas.{Sealed, current_area, data_pages}
+use Rattle.fdp_image.specs.BadFields.{bad_field}
 use Rattle.fdp_image.specs.Checkpoint.{said_by_checkpoint}
 use Rattle.fdp_snapshot.specs.Checkpoint.{checkpoint_size, is_checkpoint}
 use Rattle.fdp_snapshot.specs.Reading.{keys_in, summary_in}
 use Rattle.fdp_image.specs.CheckpointFields.{same_keys}
+use Rattle.fdp_image.specs.Fits.{all_fit, fits}
 use Rattle.fdp_image.specs.Reading.{Reading}
 
 -- how many pages of the journal the record of a change takes
@@ -52,11 +54,19 @@ is_checkpoint_of c area =
     is_checkpoint area.stamp.version bytes && list_all (λ same. same) (same_keys c (keys_in bytes))
     && nat_lt (length bytes) (checkpoint_size (summary_in bytes) + c.block)
 
--- what a sealed area says: its checkpoint with the changes of its journal
+-- and says of each field what a drive of the configuration saves there
+unfoldable pub is_sound_checkpoint : DriveConfig → Sealed → Bool
+is_sound_checkpoint c area = is_checkpoint_of c area && not (is_some (bad_field c (summary_in (concat area.checkpoint))))
+
+-- what is said with some changes more, where each fits what is said before it
+unfoldable pub said_after : DriveConfig → Reading → List (Change × Totals) → Option Reading
+said_after c r changes = if all_fit fits c r changes then Some (fold (applied c) r changes) else None
+
+-- what a sealed area says: its checkpoint with the changes of its journal, where all of it is what a drive of the configuration saves
 unfoldable pub said_by_area : DriveConfig → Sealed → Option Reading
 said_by_area c area =
-    if is_checkpoint_of c area
-    then option_map (fold (applied c) (said_by_checkpoint (concat area.checkpoint))) (changes_in area.journal)
+    if is_sound_checkpoint c area
+    then option_and_then (said_after c (said_by_checkpoint (concat area.checkpoint))) (changes_in area.journal)
     else None
 
 -- a page is blank

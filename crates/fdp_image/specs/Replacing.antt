@@ -14,6 +14,7 @@ use Rattle.fdp_snapshot.specs.declared.state.Summary.{Summary}
 use Rattle.fdp_snapshot.specs.Checkpoint.{checkpoint_size, is_checkpoint}
 use Rattle.fdp_snapshot.specs.Reading.{state_in, summary_in}
 use Rattle.fdp_image.specs.Areas.{Sealed, area_of, area_unit, current_area, sealed_in}
+use Rattle.fdp_image.specs.BadFields.{bad_field}
 use Rattle.fdp_image.specs.Checkpoint.{reading_of_state}
 use Rattle.fdp_image.specs.CheckpointFields.{same_keys}
 use Rattle.fdp_image.specs.Reading.{Reading}
@@ -77,10 +78,15 @@ MayBeReplaced g cells area epoch = (number : ℕ) (current : Sealed) → current
 abbrev pub NamesSizes : DriveConfig → State → Type 0
 NamesSizes c s = IsTrue (list_all (λ same. same) (same_keys c s.summary.keys))
 
+-- the state is one that a drive of the configuration saves: it names the sizes of the drive, and each field is one that the drive may have
+pub record IsSavedBy (c : DriveConfig) (s : State) : Type 0 where
+  pub sizes : NamesSizes c s
+  pub fields : bad_field c s.summary ≡ None
+
 -- What writing a checkpoint may leave: the pages beside the area are as they were, the area is not sealed, as it was or sealed anew, and
 -- where it was not the current one, an image reads as the cells did, or as the state.
 pub record MayBeWritten (g : Geometry) (area epoch : ℕ) (s : State) (old new : List Cell) : Type 0 where
   pub beside : IsSameBeside g area old new
   pub replaced : IsReplacedIn g.block epoch s (area_of g area old) (area_of g area new)
-  pub reads : (c : DriveConfig) (r : Reading) → geometry_of c ≡ g → NamesSizes c s → MayBeReplaced g old area epoch → reads_as c old ≡ Some r
+  pub reads : (c : DriveConfig) (r : Reading) → geometry_of c ≡ g → IsSavedBy c s → MayBeReplaced g old area epoch → reads_as c old ≡ Some r
       → (reads_as c new ≡ Some r) ⊎ (reads_as c new ≡ Some (reading_of_state s))

@@ -34,13 +34,13 @@ pub fn images_are_read()
 /// unreadable; so does a checkpoint page that is torn, where no other area is sealed and the data pages are not blank.
 pub fn bad_pages_are_left()
     ensures torn { option_map (λ (r : Reading). r.totals.position) (reads_as config torn_journal) ≡ Some 0 }
-    ensures bad { option_map (λ (r : Reading). r.totals.position) (reads_as config (slice_set cells 44 (system_page Journal 0 (zeros 512)))) ≡ None }
-    ensures checkpoint { option_map (λ (r : Reading). r.totals.position) (reads_as config (slice_set cells 40 Torn)) ≡ None }
+    ensures bad { option_map (λ (r : Reading). r.totals.position) (reads_as config (slice_set cells 48 (system_page Journal 0 (zeros 512)))) ≡ None }
+    ensures checkpoint { option_map (λ (r : Reading). r.totals.position) (reads_as config (slice_set cells 44 Torn)) ≡ None }
 {}
 
 /// A blank flash reads as the fresh drive.
 pub fn blank_flash_is_fresh()
-    ensures { reads_as config (replicate 88 Blank) ≡ Some (fresh_reading config) }
+    ensures { reads_as config (replicate 92 Blank) ≡ Some (fresh_reading config) }
 {}
 
 /// A move puts each block on its new page, and gives its event where that kind is kept for the handle.

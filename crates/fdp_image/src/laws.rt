@@ -1,4 +1,4 @@
-ghost use Rattle.std.specs.Prelude.{◌≡◌, ◌⊎◌, ℕ, ◌<◌, ◌≤◌, ◌++◌, ◌∷◌, [], List, Some, None, length, slice_set};
+ghost use Rattle.std.specs.Prelude.{◌≡◌, ◌⊎◌, ℕ, ◌<◌, ◌≤◌, ◌++◌, ◌∷◌, [], IsTrue, List, Some, None, length, slice_set};
 ghost use Rattle.fdp_base.specs.declared.config.DriveConfig.{DriveConfig};
 ghost use Rattle.fdp_flash.specs.declared.cell.Cell.{Cell};
 ghost use Rattle.fdp_base.specs.declared.entry.Spot.{Spot};
@@ -12,8 +12,9 @@ ghost use Rattle.fdp_rules.specs.History.{fresh};
 ghost use Rattle.fdp_base.specs.declared.config.Geometry.{Geometry};
 ghost use Rattle.fdp_image.specs.Areas.{Sealed, area_of, page_bytes, sealed_in};
 ghost use Rattle.fdp_image.specs.Checkpoint.{reading_of_state};
-ghost use Rattle.fdp_image.specs.Replacing.{IsReplacedIn, IsSameBeside, IsShortened, IsWiped, MayBeReplaced, NamesSizes};
+ghost use Rattle.fdp_image.specs.Replacing.{IsReplacedIn, IsSameBeside, IsShortened, IsWiped, IsSavedBy, MayBeReplaced};
 ghost use Rattle.fdp_snapshot.specs.declared.state.State.{State};
+ghost use Rattle.fdp_image.specs.Fits.{fits};
 ghost use Rattle.fdp_image.specs.Reads.{fresh_reading, next_page, reads_as};
 ghost use Rattle.fdp_image.specs.Reading.{Reading};
 ghost use Rattle.fdp_image.specs.Saving.{AreBlankFrom, IsNextRecord, IsSavedIn, ReadsWithOrWithout};
@@ -31,15 +32,15 @@ pub fn journal_grows_by_its_next_page()
     ensures left { (cells : List Cell) (s : Sealed) (cell : Cell) → sealed_in cells ≡ Some s → next_page s < length cells → page_bytes Journal (length s.journal) s.stamp cell ≡ None → sealed_in (slice_set cells (next_page s) cell) ≡ Some s }
 {}
 
-/// Saving a change: whatever a stop or a fault leaves of the program of its record behind the journal, the image reads as it did, or
+/// Saving a change that fits what the image says: whatever a stop or a fault leaves of the program of its record behind the journal, the image reads as it did, or
 /// as that with the change, and its data pages are as they were.
 pub fn saving_leaves_the_image_with_or_without_the_change()
-    ensures { (c : DriveConfig) (cells : List Cell) (r : Reading) (at : Spot) (spare bytes : List ℕ) (x : Change × Totals) (image : List Cell) → length cells ≡ all_pages (geometry_of c) → reads_as c cells ≡ Some r → IsNextRecord c cells at spare bytes x → ProgramMayLeave (geometry_of c) cells at spare bytes image → ReadsWithOrWithout c cells r x image }
+    ensures { (c : DriveConfig) (cells : List Cell) (r : Reading) (at : Spot) (spare bytes : List ℕ) (x : Change × Totals) (image : List Cell) → length cells ≡ all_pages (geometry_of c) → reads_as c cells ≡ Some r → IsTrue (fits c r x) → IsNextRecord c cells at spare bytes x → ProgramMayLeave (geometry_of c) cells at spare bytes image → ReadsWithOrWithout c cells r x image }
 {}
 
-/// Once the program of its record is done, a change is saved, and the journal can go on behind it.
+/// Once the program of its record is done, a change that fits is saved, and the journal can go on behind it.
 pub fn a_record_that_is_done_is_saved()
-    ensures { (c : DriveConfig) (cells : List Cell) (r : Reading) (at : Spot) (spare bytes : List ℕ) (x : Change × Totals) (image : List Cell) → length cells ≡ all_pages (geometry_of c) → reads_as c cells ≡ Some r → (next : IsNextRecord c cells at spare bytes x) → IsProgrammed (geometry_of c) cells at spare bytes image → IsSavedIn c r next.number next.area bytes x image }
+    ensures { (c : DriveConfig) (cells : List Cell) (r : Reading) (at : Spot) (spare bytes : List ℕ) (x : Change × Totals) (image : List Cell) → length cells ≡ all_pages (geometry_of c) → reads_as c cells ≡ Some r → IsTrue (fits c r x) → (next : IsNextRecord c cells at spare bytes x) → IsProgrammed (geometry_of c) cells at spare bytes image → IsSavedIn c r next.number next.area bytes x image }
 {}
 
 /// An area some of whose pages were wiped, as an erase that stops may leave it, is not sealed, or has the checkpoint pages and the seal
@@ -49,7 +50,7 @@ pub fn an_erase_leaves_a_beginning()
 {}
 
 /// Whatever becomes of an area that is not the current one, which has a lower epoch: while it is not sealed, or as it was but for the end
-/// of its journal, the image reads as before; once it is sealed with a state that names the drive's sizes, it reads as that state.
+/// of its journal, the image reads as before; once it is sealed with a state that a drive of the configuration saves, it reads as that state.
 pub fn another_area_leaves_the_reading_or_gives_its_state()
-    ensures { (g : Geometry) (area epoch : ℕ) (s : State) (old new : List Cell) → area ≤ 1 → IsSameBeside g area old new → IsReplacedIn g.block epoch s (area_of g area old) (area_of g area new) → (c : DriveConfig) (r : Reading) → geometry_of c ≡ g → NamesSizes c s → MayBeReplaced g old area epoch → reads_as c old ≡ Some r → (reads_as c new ≡ Some r) ⊎ (reads_as c new ≡ Some (reading_of_state s)) }
+    ensures { (g : Geometry) (area epoch : ℕ) (s : State) (old new : List Cell) → area ≤ 1 → IsSameBeside g area old new → IsReplacedIn g.block epoch s (area_of g area old) (area_of g area new) → (c : DriveConfig) (r : Reading) → geometry_of c ≡ g → IsSavedBy c s → MayBeReplaced g old area epoch → reads_as c old ≡ Some r → (reads_as c new ≡ Some r) ⊎ (reads_as c new ≡ Some (reading_of_state s)) }
 {}

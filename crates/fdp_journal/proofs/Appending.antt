@@ -95,19 +95,19 @@ may_be_appended j cells at bytes x image p place told left = record {
   current =
       let there = subst (λ (spare : List ℕ). ProgramMayLeave j.geometry cells at spare bytes image) (sym p.spare) left in
       subst (IsCurrent j.geometry image j.area) p.stamp (next_page_current j.geometry cells j.area p.area at bytes image p.size p.goes_on p.room p.place there);
-  reads = λ c r same read.
+  reads = λ c r same read fit.
       let q : IsPlaceIn (geometry_of c) cells j at = subst (λ (g : Geometry). IsPlaceIn g cells j at) (sym same) p in
       let may : ProgramMayLeave (geometry_of c) cells at (spare_of j) bytes image = subst (λ (g : Geometry). ProgramMayLeave g cells at (spare_of j) bytes image) (sym same) left in
-      next_record_reads c cells r at (spare_of j) bytes x image q.size read (next_record c cells j at bytes x q told) may;
+      next_record_reads c cells r at (spare_of j) bytes x image q.size read fit (next_record c cells j at bytes x q told) may;
 }
 
 -- once it is done the cells read with the change
 pub is_appended : (j : JournalState) (cells : List Cell) (at : Spot) (bytes : List ℕ) (x : Change × Totals) (new : List Cell) → IsPlaceIn j.geometry cells j at
     → decoded bytes ≡ Some x → IsProgrammed j.geometry cells at (spare_of j) bytes new → IsAppended cells j x new
-is_appended j cells at bytes x new p told done c r same read =
+is_appended j cells at bytes x new p told done c r same read fit =
     let q : IsPlaceIn (geometry_of c) cells j at = subst (λ (g : Geometry). IsPlaceIn g cells j at) (sym same) p in
     let is : IsProgrammed (geometry_of c) cells at (spare_of j) bytes new = subst (λ (g : Geometry). IsProgrammed g cells at (spare_of j) bytes new) (sym same) done in
-    (next_record_saved c cells r at (spare_of j) bytes x new q.size read (next_record c cells j at bytes x q told) is).reads
+    (next_record_saved c cells r at (spare_of j) bytes x new q.size read fit (next_record c cells j at bytes x q told) is).reads
 
 -- and the journal can go on
 pub journal_in : (j : JournalState) (cells : List Cell) (at : Spot) (bytes : List ℕ) (new : List Cell) → (h : IsJournalIn cells j) → length cells ≡ all_pages j.geometry

@@ -16,6 +16,7 @@ use Rattle.fdp_records.specs.declared.change.Change.{Change}
 use Rattle.fdp_image.specs.Applied.{applied}
 use Rattle.fdp_image.specs.Areas.{Sealed, area_unit}
 use Rattle.fdp_flash.specs.Failing.{FailsLast}
+use Rattle.fdp_image.specs.Fits.{fits}
 use Rattle.fdp_image.specs.Reading.{Reading}
 use Rattle.fdp_image.specs.Reads.{reads_as}
 use Rattle.fdp_image.specs.Saving.{CanGoOn, IsCurrent, ReadsWithOrWithout}
@@ -43,16 +44,16 @@ abbrev pub record_call : JournalState → Call
 record_call j = program_of (spot_in j.geometry j.area (next_in j))
 
 -- Cells that an append of a change may leave: each page but the next of the journal is as it was, so all data pages and the whole
--- other area are; the journal's area is still the current one; and whatever the cells read as, they read so, or so with the change.
+-- other area are; the journal's area is still the current one; and whatever the cells read as, where the change fits that, they read so, or so with the change.
 pub record MayBeAppended (old : List Cell) (j : JournalState) (x : Change × Totals) (new : List Cell) : Type 0 where
   pub others : (page : ℕ) → page ≢ next_of j → slice_get new page ≡ slice_get old page
   pub current : IsCurrent j.geometry new j.area j.stamp
-  pub reads : (c : DriveConfig) (r : Reading) → geometry_of c ≡ j.geometry → reads_as c old ≡ Some r → ReadsWithOrWithout c old r x new
+  pub reads : (c : DriveConfig) (r : Reading) → geometry_of c ≡ j.geometry → reads_as c old ≡ Some r → IsTrue (fits c r x) → ReadsWithOrWithout c old r x new
 
--- a change is appended: whatever the cells read as, they read so with the change
+-- a change is appended: whatever the cells read as, where the change fits that, they read so with the change
 abbrev pub IsAppended : List Cell → JournalState → Change × Totals → List Cell → Type 0
 IsAppended old j x new =
-    (c : DriveConfig) (r : Reading) → geometry_of c ≡ j.geometry → reads_as c old ≡ Some r → reads_as c new ≡ Some (applied c r x)
+    (c : DriveConfig) (r : Reading) → geometry_of c ≡ j.geometry → reads_as c old ≡ Some r → IsTrue (fits c r x) → reads_as c new ≡ Some (applied c r x)
 
 -- the journal with a record more
 abbrev pub with_record : JournalState → JournalState

@@ -1,5 +1,5 @@
 -- What is known of a command that may take effect.
-use Rattle.std.proofs.Common.{◌≡◌, ℕ, zero, suc, ◌<◌, ◌≤◌, Bool, true, false, cond, List, [], ◌∷◌, length, Option, Some, None, refl, ap, sym, subst, arith}
+use Rattle.std.proofs.Common.{◌≡◌, ℕ, zero, suc, ◌<◌, ◌≤◌, false, List, [], ◌∷◌, length, Option, Some, None, refl, sym, subst, arith}
 use Rattle.std.specs.Prelude.{All, is_none, nat_le, unwrap_or, slice_get, slice_index}
 use Rattle.std.proofs.lemmas.Bool.{leb-false, ltb-false, or_parts}
 use Rattle.std.proofs.lemmas.List.Elements.{All-cons, All-head, All-nil, All-tail}
@@ -10,38 +10,20 @@ use Rattle.fdp_base.specs.declared.command.Dealloc.{Dealloc}
 use Rattle.fdp_base.specs.declared.command.Delete.{Delete}
 use Rattle.fdp_base.specs.declared.command.HandleUpdate.{HandleUpdate}
 use Rattle.fdp_base.specs.declared.config.DriveConfig.{DriveConfig}
-use Rattle.fdp_base.specs.declared.status.Status.{Status}
 use Rattle.fdp_base.specs.Config.{IsValidConfig}
 use Rattle.fdp_base.specs.Geometry.{IsWithin}
 use Rattle.fdp_book.specs.Book.{BookSeen}
 use Rattle.fdp_book.specs.Commanded.{MayTakeEffect}
 use Rattle.fdp_history.specs.OrderlyState.{IsOrderlyState}
 use Rattle.fdp_history.proofs.Bounds.{handles-in_force}
-use Rattle.fdp_history.proofs.Checks.{IsAcceptedCreate, accepted-create}
+use Rattle.fdp_history.proofs.Checks.{IsAcceptedCreate, accepted-create, passes}
 use Rattle.fdp_history.proofs.Spaces.{free-is}
 use Rattle.fdp_keeper.specs.Commands.{CanBeSaved}
 use Rattle.fdp_rules.specs.Effect.{chosen_handles, lowest_free}
 use Rattle.fdp_rules.specs.PlainState.{Namespace, PlainState}
 use Rattle.fdp_rules.specs.Point.{Point}
-use Rattle.fdp_rules.specs.Refusal.{Check, checks_of, first_that_holds, refusal_of}
+use Rattle.fdp_rules.specs.Refusal.{checks_of, refusal_of}
 use Rattle.fdp_rules.specs.Room.{handles_in_force}
-
--- none of these checks holds
-abbrev NoneHolds : List Check → Type 0
-NoneHolds [] = Unit {0}
-NoneHolds (x ∷ xs) = (x.holds ≡ false) × NoneHolds xs
-
-passes-one : (b : Bool) (status : Status) (rest : Option Status) → cond b (Some status) rest ≡ None → (b ≡ false) × (rest ≡ None)
-passes-one true status rest e = absurd cc
-passes-one false status rest e = (refl, e)
-
-passes-all : (xs : List Check) → first_that_holds xs ≡ None → NoneHolds xs
-passes-all [] e = tt
-passes-all (x ∷ xs) e = let one = passes-one x.holds x.status (first_that_holds xs) e in (one.0, passes-all xs one.1)
-
-passes : (c : DriveConfig) (p : Point) (command : Command) → refusal_of c p command ≡ None → NoneHolds (checks_of c p command)
-unfolding refusal_of
-passes c p command e = passes-all (checks_of c p command) e
 
 -- a deallocation has at most sixteen ranges
 pub few-ranges : (c : DriveConfig) (p : Point) (d : Dealloc) → refusal_of c p (commands.Dealloc d) ≡ None → length d.ranges ≤ 16

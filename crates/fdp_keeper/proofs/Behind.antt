@@ -28,9 +28,10 @@ use Rattle.fdp_outline.specs.Events.{with_events}
 use Rattle.fdp_outline.specs.Outline.{IsOutlineOf}
 use Rattle.fdp_outline.proofs.Applying.{namespaces-said, outline-updated}
 use Rattle.fdp_outline.proofs.Keeping.{events-more, none-more}
-use Rattle.fdp_durability.specs.fdp_readings.Changes.{Saves, completed}
+use Rattle.fdp_durability.specs.fdp_readings.Changes.{FitsDrawn, Saves, completed}
 use Rattle.fdp_durability.specs.fdp_readings.Drawn.{drawn}
 use Rattle.fdp_durability.proofs.fdp_readings.Commanding.{create-saved, dealloc-saved, delete-saved, kinds-saved, placement-saved, update-saved, zero-saved}
+use Rattle.fdp_durability.proofs.fdp_readings.Fitting.{create-fits, dealloc-fits, delete-fits, kinds-fit, placement-fits, update-fits, zero-fits}
 use Rattle.fdp_records.specs.declared.change.Change.{Change}
 use Rattle.fdp_records.specs.declared.change.Change.TheVariants as changes
 use Rattle.fdp_rules.specs.Effect.{chosen_handles, lowest_free}
@@ -64,6 +65,23 @@ change-saves c p queue number command reply moment change orderly applied saved 
       create = λ create is. subst (λ (x : Change). Saves c p x (completed queue number (commands.Create create) reply moment)) (sym is) (create-saved c p queue number create reply moment orderly applied);
     })
     command saved other
+
+-- ---- it fits what is drawn
+
+pub change-fits : (c : DriveConfig) (p : Point) (command : Command) (change : Change) (e : Entry) → IsValidConfig c → IsOrderly c p → refusal_of c p command ≡ None → IsTrue (is_saved command) → IsFalse (is_write command)
+    → IsChangeOf c p.state command change → FitsDrawn c p change e
+change-fits c p command change e valid orderly accepted saved other =
+    by-saved (λ x. refusal_of c p x ≡ None → IsChangeOf c p.state x change → FitsDrawn c p change e)
+    (record {
+      zero = λ z none is. subst (λ (x : Change). FitsDrawn c p x e) (sym is) (zero-fits c p orderly e z none);
+      dealloc = λ d gone none is. subst (λ (x : Change). FitsDrawn c p x e) (sym is) (dealloc-fits c p orderly e d none);
+      delete = λ d none is. subst (λ (x : Change). FitsDrawn c p x e) (sym is) (delete-fits c p orderly e d none);
+      update = λ u none is. subst (λ (x : Change). FitsDrawn c p x e) (sym is.change_is) (update-fits c p orderly e u is.closed none);
+      set_fdp = λ set none is. subst (λ (x : Change). FitsDrawn c p x e) (sym is) (placement-fits c p orderly e set (p.state.generation + 1) none);
+      set_events = λ set none is. subst (λ (x : Change). FitsDrawn c p x e) (sym is.change_is) (kinds-fit c p orderly e set.nsid set.handle is.mask set.enable valid is.known);
+      create = λ create none is. subst (λ (x : Change). FitsDrawn c p x e) (sym is) (create-fits c p create (create.given && nat_lt 0 (length create.list)) e valid orderly none);
+    })
+    command saved other accepted
 
 -- ---- it can be kept
 

@@ -13,13 +13,16 @@ use Rattle.fdp_history.specs.Orderly.{IsOrderly}
 use Rattle.fdp_history.proofs.Bounds.{handles-in_force}
 use Rattle.fdp_image.specs.Areas.{data_pages}
 use Rattle.fdp_image.specs.Checkpoint.{page_in_lists, reading_of_state}
-use Rattle.fdp_image.specs.Replacing.{NamesSizes, pages_for}
+use Rattle.fdp_image.specs.Replacing.{IsSavedBy, pages_for}
+use Rattle.fdp_image.specs.Valid.{IsGoodNamespace}
 use Rattle.fdp_map.specs.PageLists.{size_at}
 use Rattle.fdp_outline.specs.Outline.{IsOutlineOf, IsWritable}
 use Rattle.fdp_outline.specs.Pages.{ArePagesOf}
 use Rattle.fdp_outline.proofs.Paging.{outline-blocks, outline-state}
+use Rattle.fdp_outline.proofs.Saved.{outline-saved}
 use Rattle.fdp_outline.proofs.Saying.{says-reading}
 use Rattle.fdp_durability.specs.fdp_readings.Drawn.{drawn}
+use Rattle.fdp_rules.specs.PlainState.{Namespace}
 use Rattle.fdp_rules.specs.Point.{Point}
 use Rattle.fdp_rules.specs.Room.{handles_in_force, namespace_ids, size_of}
 use Rattle.fdp_durability.proofs.fdp_saving.Room.{checkpoint_room}
@@ -58,19 +61,29 @@ room-left c p s valid orderly listed h w =
     let most : full_budget c (handles_in_force c p.state) ≤ most_blocks c = budgets-fall c (handles_in_force c p.state) (handles-in_force c p.state valid orderly.state).0 in
     checkpoint_room c s valid (omega (arith, blocks, few, most))
 
--- what is given to a saver: a state that a checkpoint has room for, which says what is drawn and names the sizes of the drive
+-- the namespaces of an orderly point are such as a drive may have
+namespaces-drawn : (c : DriveConfig) (p : Point) → IsOrderly c p → IsListed c p.state → (nsid : ℕ) (x : Namespace) → p.state.namespaces nsid ≡ Some x → IsGoodNamespace (handles_in_force c p.state) p.totals.position x
+namespaces-drawn c p orderly listed nsid x there =
+    let good = orderly.state.namespaces nsid x there in
+    record {
+      some_blocks = omega (arith, good.size);
+      list = record { number = good.number; known = good.handles; distinct = listed.handles nsid x there };
+      born = omega (arith, good.birth, orderly.positions);
+    }
+
+-- what is given to a saver: a state that a checkpoint has room for, which says what is drawn, and is one that the drive saves
 pub record IsGiven (c : DriveConfig) (p : Point) (s : Summary) (lists : List (List (Option ℕ))) : Type 0 where
   pub state : IsState (with_pages s lists)
   pub room : pages_for c.block s + 17 ≤ area_pages (geometry_of c)
   pub drive : reading_of_state (with_pages s lists) ≡ drawn c p
-  pub sizes : NamesSizes c (with_pages s lists)
+  pub saved : IsSavedBy c (with_pages s lists)
 
 pub given : (c : DriveConfig) (p : Point) (s : Summary) (lists : List (List (Option ℕ))) → IsValidConfig c → IsOrderly c p → IsListed c p.state → IsOutlineOf c (drawn c p) s → s.totals ≡ p.totals → IsWritable s → ArePagesOf (drawn c p) lists → IsGiven c p s lists
 given c p s lists valid orderly listed h totals w pages = record {
   state = outline-state c (drawn c p) s lists h w pages;
   room = room-left c p s valid orderly listed h w;
   drive = says-reading c (drawn c p) s lists h totals pages.pages;
-  sizes = h.sizes;
+  saved = outline-saved c (drawn c p) s lists h w totals orderly.state.index (namespaces-drawn c p orderly listed) listed.room;
 }
 
 pub room-for-record : (c : DriveConfig) (g : Geometry) (s : Summary) → g ≡ geometry_of c → pages_for c.block s + 17 ≤ area_pages (geometry_of c) → suc (pages_for g.block s) < area_pages g

@@ -1,14 +1,15 @@
 -- A record can name the copies of blocks of a pass.
 use Rattle.std.proofs.lemmas.Bool.Decides.{eqb_tells}
-use Rattle.std.proofs.Common.{◌≡◌, ◌≢◌, ⊎_elim, ℕ, ◌+◌, ◌*◌, ◌/◌, ◌<◌, ◌≤◌, Bool, true, false, List, [], ◌∷◌, length, map, filter, flat_map, Option, Some, None, refl, ap, sym, ◌∙◌, subst, arith, get_or}
-use Rattle.std.specs.Prelude.{All, Contains, ◌==◌, is_some}
+use Rattle.std.proofs.Common.{◌≡◌, ◌≢◌, ⊎_elim, ℕ, ◌+◌, ◌*◌, ◌/◌, ◌<◌, ◌≤◌, Bool, true, false, List, [], ◌∷◌, ◌++◌, length, map, filter, flat_map, Option, Some, None, refl, ap, sym, ◌∙◌, subst, arith, get_or}
+use Rattle.std.specs.Prelude.{All, Contains, IfSome, ◌==◌, is_some}
 use Rattle.std.specs.Option.{option_map_or}
 use Rattle.std.proofs.Math.Nat.{mul-le-mul_right}
-use Rattle.std.proofs.lemmas.List.Elements.{All-filter, filter-append}
+use Rattle.std.proofs.lemmas.List.Elements.{All-cons, All-contains, All-filter, All-head, All-map, All-nil, All-tail, All-weaker, filter-append}
 use Rattle.std.proofs.lemmas.Option.{slice_get-get_or}
 use Rattle.fdp_base.specs.declared.config.DriveConfig.{DriveConfig}
 use Rattle.fdp_base.specs.declared.entry.BlockName.{BlockName}
 use Rattle.fdp_base.specs.declared.entry.Copied.{Copied}
+use Rattle.fdp_base.specs.declared.entry.Entry.{Entry}
 use Rattle.fdp_base.specs.declared.entry.Entry.TheVariants as entries
 use Rattle.fdp_base.specs.declared.entry.Spot.{Spot}
 use Rattle.fdp_base.specs.declared.entry.Totals.{Totals}
@@ -17,7 +18,8 @@ use Rattle.fdp_base.specs.Config.{IsValidConfig}
 use Rattle.fdp_base.specs.Numbers.{numbers_below}
 use Rattle.fdp_history.specs.Orderly.{IsOrderly}
 use Rattle.fdp_history.specs.Standing.{IsStanding}
-use Rattle.fdp_keeper.specs.Moves.{CanBeNamed, IsMoveOf, moved_by_owner, moved_of}
+use Rattle.fdp_image.specs.Bits.{pages_of_set}
+use Rattle.fdp_keeper.specs.Moves.{AreNewPages, AreOldPages, CanBeNamed, IsMoveOf, IsTargetOf, moved_by_owner, moved_of}
 use Rattle.fdp_keeper.proofs.Moved.{ascending-old, filter-new, filter-old, handles-named, names-listed}
 use Rattle.fdp_durability.specs.fdp_locations.Located.{AreLed, next_in}
 use Rattle.fdp_durability.specs.fdp_locations.Written.{Written}
@@ -32,15 +34,19 @@ use Rattle.fdp_passes.specs.Due.{copies_in}
 use Rattle.fdp_passes.specs.GroupPasses.{Pass}
 use Rattle.fdp_pointers.specs.Facts.{Page}
 use Rattle.fdp_pointers.specs.Pointers.{Behind}
-use Rattle.fdp_durability.specs.fdp_readings.Changes.{MoveBlocks, NamesCopies, Saves, copies_of_blocks, known_handle}
+use Rattle.fdp_durability.specs.fdp_readings.Changes.{ArePagesOfUnit, FitsDrawn, MoveBlocks, NamesCopies, Saves, copies_of_blocks, known_handle}
+use Rattle.fdp_durability.proofs.fdp_readings.Fitting.{move-fits}
 use Rattle.fdp_durability.proofs.fdp_readings.Moving.{drawn-moved}
 use Rattle.fdp_durability.proofs.fdp_readings.Passing.{copies-inside, copies-placed, pass-moves}
 use Rattle.fdp_records.specs.declared.change.Change.{Change}
+use Rattle.fdp_records.specs.declared.change.UnitPages.{UnitPages}
+use Rattle.fdp_records.specs.Records.{target_or_none}
 use Rattle.fdp_rules.specs.Events.{events_of_entry, is_of_handle, reallocated}
 use Rattle.fdp_rules.specs.Next.{totals_with}
 use Rattle.fdp_rules.specs.Point.{Point}
 use Rattle.fdp_rules.specs.Room.{handles_in_force}
 use Rattle.fdp_rules.specs.Sites.{moved_blocks}
+use Rattle.fdp_rules.specs.Step.{IsDataUnit, IsPage}
 use Rattle.fdp_durability.specs.fdp_trails.Moves.{name_at, names_of}
 use Rattle.fdp_durability.proofs.fdp_trails.Listing.{pass-listed}
 use Rattle.fdp_units.specs.UnitTable.{Cut, IsGroup, cut_of}
@@ -97,6 +103,13 @@ known-ruhs owners (x ∷ xs) = ap (λ (n : ℕ). n ∷ map (λ (y : MovedBlock).
   one None = refl
   one (Some y) = refl
 
+-- the victim of the pass that is moved
+victim-is : (t : PageTables) (rg : ℕ) (pass : Pass) (ruhs : List ℕ) (change : Change) → AreJoined t → IsGroup t.units rg → (passes_at t rg).pass ≡ Some pass
+    → (move : IsMoveOf (copies_of_blocks (owner_at t.owners) pass.copies) ruhs change) → move.victim.unit ≡ pass.victim
+victim-is t rg pass ruhs change joined group is move =
+    let h = (joined.groups rg group).copied pass is in
+    move.unit pass.victim (filter-old (λ (x : Copied). is_some (name_at (owner_at t.owners) x.from)) pass.victim 0 pass.copies (ascending-old pass.victim 0 pass.copies (λ k a e. (h.lie a (place-contains pass.copies k a e)).victim) (λ a e. omega arith) h.ascend))
+
 pub move-saved : (c : DriveConfig) (p : Point) (written : Spot → Option Written) (at : Behind Page) (t : PageTables) (rg : ℕ) (pass : Pass) (change : Change) → IsOrderly c p → IsStanding c p → AreLed c p written at t → rg < c.groups → cut_of t.units ≡ record { unit_pages = c.unit_pages; group_units = c.units; groups = c.groups } → AreJoined t → IsGroup t.units rg → (passes_at t rg).pass ≡ Some pass → (pass.copies ≡ [] → ⊥)
     → CanBeNamed (copies_of_blocks (owner_at t.owners) pass.copies) → IsMoveOf (copies_of_blocks (owner_at t.owners) pass.copies) (map (λ (x : MovedBlock). x.ruh) (map (moved_of (owner_at t.owners)) (copies_of_blocks (owner_at t.owners) pass.copies))) change
     → Saves c p change (entries.Moved (record { rg = rg; blocks = moved_blocks p rg }))
@@ -104,8 +117,7 @@ move-saved c p written at t rg pass change orderly standing led low cut joined g
     let owners = owner_at t.owners in
     let copies : List Copied = copies_of_blocks owners pass.copies in
     let same : copies_in (passes_at t rg) ≡ pass.copies = copies-are t rg pass is in
-    let h = (joined.groups rg group).copied pass is in
-    let victim : move.victim.unit ≡ pass.victim = move.unit pass.victim (filter-old (λ (x : Copied). is_some (name_at owners x.from)) pass.victim 0 pass.copies (ascending-old pass.victim 0 pass.copies (λ k a e. (h.lie a (place-contains pass.copies k a e)).victim) (λ a e. omega arith) h.ascend)) in
+    let victim = victim-is t rg pass (map (λ (x : MovedBlock). x.ruh) (map (moved_of owners) copies)) change joined group is move in
     let stands = (joined.groups rg group).ready.victim pass is in
     let moves = subst (λ (xs : List Copied). MoveBlocks p rg (copies_of_blocks owners xs)) same (pass-moves c p rg (next_in t.units) at owners (passes_at t rg) orderly led.table led.owned (led.passes rg low) (λ none. some (sym same ∙ none))) in
     let named : NamesCopies c p rg copies (λ (x : Copied). known_handle owners x.from) move.victim move.first move.second (map (λ (x : MovedBlock). x.ruh) (map (moved_of owners) copies)) = record {
@@ -118,6 +130,72 @@ move-saved c p written at t rg pass change orderly standing led low cut joined g
     } in
     subst (λ (x : Change). Saves c p x (entries.Moved (record { rg = rg; blocks = moved_blocks p rg }))) (sym move.change_is)
     (drawn-moved c p rg copies (λ (x : Copied). known_handle owners x.from) move.victim move.first move.second (map (λ (x : MovedBlock). x.ruh) (map (moved_of owners) copies)) orderly standing moves named)
+
+-- ---- the change of the move fits what is drawn
+
+all-left : (P : ℕ → Type 0) (xs ys : List ℕ) → All P (xs ++ ys) → All P xs
+all-left P [] ys h = All-nil P
+all-left P (x ∷ xs) ys h = All-cons P x xs (All-head P x (xs ++ ys) h) (all-left P xs ys (All-tail P x (xs ++ ys) h))
+
+all-right : (P : ℕ → Type 0) (xs ys : List ℕ) → All P (xs ++ ys) → All P ys
+all-right P [] ys h = h
+all-right P (x ∷ xs) ys h = all-right P xs ys (All-tail P x (xs ++ ys) h)
+
+-- the numbers of pages in units without a page are the pages
+same-pages : (unit : ℕ) (pages : List ℕ) → map (λ page. unit * 0 + page) pages ≡ pages
+same-pages unit [] = refl
+same-pages unit (page ∷ pages) = let same : unit * 0 + page ≡ page = omega arith in λ i. same i ∷ same-pages unit pages i
+
+-- a copy between pages of data units
+record IsBetweenPages (c : DriveConfig) (x : Copied) : Type 0 where
+  from_page : x.from.page < c.unit_pages
+  to : IsPage c x.to
+
+between-pages : (c : DriveConfig) (t : PageTables) (rg : ℕ) (pass : Pass) → cut_of t.units ≡ record { unit_pages = c.unit_pages; group_units = c.units; groups = c.groups } → AreJoined t → IsGroup t.units rg → (passes_at t rg).pass ≡ Some pass
+    → All (IsBetweenPages c) (copies_of_blocks (owner_at t.owners) pass.copies)
+between-pages c t rg pass cut joined group is =
+    let h = (joined.groups rg group).copied pass is in
+    let size : t.units.unit_pages ≡ c.unit_pages = ap (λ (k : Cut). k.unit_pages) cut in
+    let units : length t.units.groups * t.units.group_units ≡ c.groups * c.units = ap (λ (k : Cut). k.groups * k.group_units) cut in
+    All-filter (λ (x : Copied). is_some (name_at (owner_at t.owners) x.from)) (IsBetweenPages c) pass.copies (each-copy (IsBetweenPages c) pass.copies (λ x within.
+    let lie = h.lie x within in
+    record { from_page = omega (arith, lie.from_page, size); to = (omega (arith, lie.is_unit, units), omega (arith, lie.used, lie.within, size)) }))
+
+module _ (c : DriveConfig) (copies : List Copied) (between : All (IsBetweenPages c) copies) where
+  old-pages : (victim : UnitPages) → IsDataUnit c victim.unit → AreOldPages victim copies → ArePagesOfUnit c victim
+  old-pages victim unit old =
+      let pages : map (λ (x : Copied). x.from.unit * 0 + x.from.page) copies ≡ pages_of_set victim.pages = sym (old.numbers (record c { unit_pages = 0 })) ∙ same-pages victim.unit (pages_of_set victim.pages) in
+      record {
+        unit = unit;
+        pages = subst (All (λ page. page < c.unit_pages)) pages (All-map (λ page. page < c.unit_pages) (λ (x : Copied). x.from.unit * 0 + x.from.page) copies
+            (All-weaker (IsBetweenPages c) (λ (x : Copied). x.from.unit * 0 + x.from.page < c.unit_pages) (λ x h. omega (arith, h.from_page)) copies between));
+      }
+
+  new-pages : (first : UnitPages) (second : Option UnitPages) → AreNewPages first second copies → All (λ page. page < c.unit_pages) (pages_of_set first.pages ++ pages_of_set (target_or_none second).pages)
+  new-pages first second new =
+      let pages : map (λ (x : Copied). x.to.unit * 0 + x.to.page) copies ≡ pages_of_set first.pages ++ pages_of_set (target_or_none second).pages =
+      sym (new.numbers (record c { unit_pages = 0 })) ∙ (λ i. same-pages first.unit (pages_of_set first.pages) i ++ same-pages (target_or_none second).unit (pages_of_set (target_or_none second).pages) i) in
+      subst (All (λ page. page < c.unit_pages)) pages (All-map (λ page. page < c.unit_pages) (λ (x : Copied). x.to.unit * 0 + x.to.page) copies
+      (All-weaker (IsBetweenPages c) (λ (x : Copied). x.to.unit * 0 + x.to.page < c.unit_pages) (λ x h. omega (arith, h.to.1)) copies between))
+
+  target-pages : (pages : UnitPages) → IsTargetOf copies pages → All (λ page. page < c.unit_pages) (pages_of_set pages.pages) → ArePagesOfUnit c pages
+  target-pages pages target low = record { unit = subst (IsDataUnit c) target.unit_is (All-contains (IsBetweenPages c) copies target.copy between target.among).to.0; pages = low }
+
+  second-pages : (second : Option UnitPages) → IfSome second (IsTargetOf copies) → All (λ page. page < c.unit_pages) (pages_of_set (target_or_none second).pages) → IfSome second (ArePagesOfUnit c)
+  second-pages None target low = tt
+  second-pages (Some pages) target low = target-pages pages target low
+
+pub move-named-fits : (c : DriveConfig) (p : Point) (t : PageTables) (rg : ℕ) (pass : Pass) (ruhs : List ℕ) (change : Change) (e : Entry) → IsOrderly c p → cut_of t.units ≡ record { unit_pages = c.unit_pages; group_units = c.units; groups = c.groups } → AreJoined t → IsGroup t.units rg → (passes_at t rg).pass ≡ Some pass
+    → IsMoveOf (copies_of_blocks (owner_at t.owners) pass.copies) ruhs change → FitsDrawn c p change e
+move-named-fits c p t rg pass ruhs change e orderly cut joined group is move =
+    let copies : List Copied = copies_of_blocks (owner_at t.owners) pass.copies in
+    let between = between-pages c t rg pass cut joined group is in
+    let units : length t.units.groups * t.units.group_units ≡ c.groups * c.units = ap (λ (k : Cut). k.groups * k.group_units) cut in
+    let unit : IsDataUnit c move.victim.unit = omega (arith, victim-is t rg pass ruhs change joined group is move, ((joined.groups rg group).ready.victim pass is).is_unit, units) in
+    let low = new-pages c copies between move.first move.second move.new in
+    let first : ArePagesOfUnit c move.first = target-pages c copies between move.first move.new.first_target (all-left (λ page. page < c.unit_pages) (pages_of_set move.first.pages) (pages_of_set (target_or_none move.second).pages) low) in
+    let second = second-pages c copies between move.second move.new.second_target (all-right (λ page. page < c.unit_pages) (pages_of_set move.first.pages) (pages_of_set (target_or_none move.second).pages) low) in
+    subst (λ (x : Change). FitsDrawn c p x e) (sym move.change_is) (move-fits c p move.victim move.first move.second ruhs e orderly (old-pages c copies between move.victim unit move.old) first second)
 
 -- ---- the blocks that are moved
 

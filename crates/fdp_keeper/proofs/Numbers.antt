@@ -1,9 +1,9 @@
 -- The numbers of pages that lie in order.
-use Rattle.std.proofs.Common.{◌≡◌, ℕ, zero, suc, ◌+◌, ◌*◌, ◌<◌, ◌≤◌, Bool, true, false, not, List, [], ◌∷◌, ◌++◌, length, map, take, drop, replicate, Option, Some, None, refl, ap, sym, ◌∙◌, subst, arith, get_or, ne_eqb, length-append, ◌/◌, ◌%◌, eq-eqb}
-use Rattle.std.specs.Prelude.{◌==◌, ◌&&◌, count_ones, nat_le, slice_get, sum_by}
+use Rattle.std.proofs.Common.{◌≡◌, ℕ, zero, suc, ◌+◌, ◌*◌, ◌<◌, ◌≤◌, Bool, true, false, List, [], ◌∷◌, ◌++◌, length, map, take, drop, replicate, Option, Some, None, refl, ap, sym, ◌∙◌, subst, arith, get_or, length-append, ◌/◌, ◌%◌, eq-eqb}
+use Rattle.std.specs.Prelude.{◌==◌, ◌&&◌, Contains, IfSome, count_ones, nat_le, slice_get, sum_by}
 use Rattle.std.proofs.lemmas.Bool.{le-leb}
-use mathlib.Core.List.{append-nil}
-use Rattle.std.proofs.lemmas.List.{length-map, map-append, take-append-drop, take_all}
+use Rattle.std.proofs.lemmas.List.{length-map, length-take, map-append, take-append-drop, take_all}
+use Rattle.std.proofs.lemmas.List.Elements.{All-contains, All-contains_itself, All-drop}
 use Rattle.std.proofs.lemmas.List.Sums.{sum_by-cons}
 use Rattle.std.proofs.lemmas.Nat.{ones_le_self}
 use Rattle.std.proofs.lemmas.Nat.Bits.{bit_at-zero}
@@ -12,12 +12,13 @@ use Rattle.fdp_base.specs.declared.entry.Copied.{Copied}
 use Rattle.fdp_image.specs.Bits.{has_bit, is_bit_set, pages_of_set}
 use Rattle.fdp_image.specs.Changed.{page_numbers}
 use Rattle.fdp_durability.specs.fdp_pages.Joined.{LieInOrder}
+use Rattle.fdp_durability.proofs.fdp_pages.Places.{place-contains}
 use Rattle.fdp_records.specs.declared.change.Change.TheVariants as changes
 use Rattle.fdp_records.specs.declared.page_set.PageSet.{PageSet}
 use Rattle.fdp_records.specs.declared.change.UnitPages.{UnitPages}
 use Rattle.fdp_records.specs.Limits.{is_within_limits, pages_in, second_pages}
 use Rattle.fdp_records.specs.Records.{target_or_none}
-use Rattle.fdp_keeper.specs.Moves.{AreInRuns, AreNewIn, AreNewPages, AreOldPages, AreSecondPages, HasPages, IsSetOf, LieInSome, OldInOrder, new_numbers, old_numbers}
+use Rattle.fdp_keeper.specs.Moves.{AreNewIn, AreNewPages, AreOldPages, AreSecondPages, HasPages, IsSetOf, IsTargetOf, OldInOrder, new_numbers, old_numbers}
 use Rattle.fdp_keeper.proofs.PageSets.{none-pass}
 
 -- ---- the empty set
@@ -84,35 +85,26 @@ new-named unit s xs h set = record {
 pub new-taken : (unit n : ℕ) (s : PageSet) (xs : List Copied) → n ≡ length xs → LieInOrder unit 0 xs → IsSetOf s (map (λ (x : Copied). x.to.page) (take n xs)) → AreNewIn (record { unit = unit; pages = s }) xs
 new-taken unit n s xs all h set = new-named unit s xs h (subst (λ (ys : List Copied). IsSetOf s (map (λ (x : Copied). x.to.page) ys)) (take_all n xs (omega (arith, all))) set)
 
--- the unit of the first copy is that in which all lie
-pub run-of-first : (xs : List Copied) (x : Copied) → slice_get xs 0 ≡ Some x → LieInSome xs → LieInOrder x.to.unit 0 xs
-run-of-first [] x is h = absurd (none x is) where
-  none : (y : Copied) → None ≡ Some y → ⊥
-  none y e = cc
-run-of-first (y ∷ ys) x is h = subst (λ (u : ℕ). LieInOrder u 0 (y ∷ ys)) (sym (sym (ap (λ (z : Copied). z.to.unit) (one is)) ∙ h.lie.0)) h.lie where
-  one : Some y ≡ Some x → y ≡ x
-  one e = cc
-
 pub none-left : (xs : List Copied) → slice_get xs 0 ≡ None → AreSecondPages None xs
 none-left [] is = record {
   numbers = λ c. ap (map (λ (page : ℕ). 0xffff_ffff * c.unit_pages + page)) empty-has.pages_are;
   count = refl;
   named = refl;
+  target = tt;
 }
 none-left (x ∷ xs) is = absurd (some x is) where
   some : (y : Copied) → Some y ≡ None → ⊥
   some y e = cc
 
-pub second-run : (pages : UnitPages) (xs : List Copied) → AreNewIn pages xs → pages.unit < 0xffff_ffff → AreSecondPages (Some pages) xs
-second-run pages xs h low = record {
-  numbers = h.numbers;
-  count = h.count;
-  named = ap not (ne_eqb pages.unit 0xffff_ffff (λ (e : pages.unit ≡ 0xffff_ffff). omega (arith, low, e)));
-}
+-- what is left of the copies are some of them
+target-behind : (n : ℕ) (xs : List Copied) (second : Option UnitPages) → IfSome second (IsTargetOf (drop n xs)) → IfSome second (IsTargetOf xs)
+target-behind n xs None h = tt
+target-behind n xs (Some pages) h = record { copy = h.copy; among = All-contains (Contains xs) (drop n xs) h.copy (All-drop (Contains xs) n xs (All-contains_itself xs)) h.among; unit_is = h.unit_is; some = h.some }
 
 -- both together
-pub both-runs : (unit n : ℕ) (s : PageSet) (second : Option UnitPages) (xs : List Copied) → LieInOrder unit 0 (take n xs) → IsSetOf s (map (λ (x : Copied). x.to.page) (take n xs)) → AreSecondPages second (drop n xs) → AreNewPages (record { unit = unit; pages = s }) second xs
-both-runs unit n s second xs h set rest =
+pub both-runs : (unit n : ℕ) (s : PageSet) (second : Option UnitPages) (xs : List Copied) (x : Copied) → slice_get xs 0 ≡ Some x → x.to.unit ≡ unit → 0 < n → LieInOrder unit 0 (take n xs) → IsSetOf s (map (λ (x : Copied). x.to.page) (take n xs)) → AreSecondPages second (drop n xs) → AreNewPages (record { unit = unit; pages = s }) second xs
+both-runs unit n s second xs x is here some h set rest =
+    let within : Contains xs x = place-contains xs 0 x is in
     let first : AreNewIn (record { unit = unit; pages = s }) (take n xs) = new-named unit s (take n xs) h set in
     record {
       numbers = λ c.
@@ -122,31 +114,9 @@ both-runs unit n s second xs h set rest =
           ∙ ap (new_numbers c) (take-append-drop n xs);
       count = omega (arith, first.count, rest.count, length-append (take n xs) (drop n xs), ap length (take-append-drop n xs));
       named = rest.named;
+      first_target = record { copy = x; among = within; unit_is = here; some = omega (arith, first.count, length-take n xs, some, within.1) };
+      second_target = target-behind n xs second rest.target;
     }
-
--- runs whose first has the unit of the first copy
-pub record RunsFrom (unit : ℕ) (xs : List Copied) : Type 0 where
-  pub first : List Copied
-  pub last : List Copied
-  pub other : ℕ
-  pub split : xs ≡ first ++ last
-  pub first_lie : LieInOrder unit 0 first
-  pub last_lie : LieInOrder other 0 last
-
-pub runs-from : (xs : List Copied) (d : Copied) → 0 < length xs → AreInRuns xs → RunsFrom (get_or xs 0 d).to.unit xs
-runs-from xs d some h = cases h.first refl h.first_lie where
-  head-unit : (unit first : ℕ) (zs : List Copied) → LieInOrder unit first zs → 0 < length zs → (get_or zs 0 d).to.unit ≡ unit
-  head-unit unit first [] lie low = absurd (omega (arith, low))
-  head-unit unit first (z ∷ zs) lie low = lie.0
-
-  cases : (first : List Copied) → h.first ≡ first → LieInOrder h.first_unit 0 first → RunsFrom (get_or xs 0 d).to.unit xs
-  cases [] e lie =
-      let all : xs ≡ h.last = h.split ∙ ap (λ (ys : List Copied). ys ++ h.last) e in
-      let whole : LieInOrder h.last_unit 0 xs = subst (LieInOrder h.last_unit 0) (sym all) h.last_lie in
-      record { first = xs; last = []; other = 0; split = sym (append-nil xs); first_lie = subst (λ (u : ℕ). LieInOrder u 0 xs) (sym (head-unit h.last_unit 0 xs whole some)) whole; last_lie = tt }
-  cases (y ∷ ys) e lie =
-      let all : xs ≡ y ∷ (ys ++ h.last) = h.split ∙ ap (λ (zs : List Copied). zs ++ h.last) e in
-      record { first = y ∷ ys; last = h.last; other = h.last_unit; split = all; first_lie = subst (λ (u : ℕ). LieInOrder u 0 (y ∷ ys)) (sym (ap (λ (zs : List Copied). (get_or zs 0 d).to.unit) all ∙ lie.0)) lie; last_lie = h.last_lie }
 
 -- ---- limits
 

@@ -43,10 +43,11 @@ pub record IsUpdateOf (c : DriveConfig) (s : PlainState) (u : HandleUpdate) (cha
   pub tells : TellsClosed c s u.nsid closed 0 s.references u.pids
   pub change_is : change ≡ changes.Update u.nsid closed u.pids
 
--- the change is that of a setting of events: its mask has the kinds of the types
+-- the change is that of a setting of events: its mask has the kinds of the types, and no bit but those of kinds
 pub record IsSettingOfEvents (s : PlainState) (x : SetEvents) (change : Change) : Type 0 where
   pub mask : ℕ
   pub kinds : (kind : EventKind) → has_kind mask kind ≡ list_any (λ code. code == kind_code kind) x.types
+  pub known : mask < 64
   pub change_is : change ≡ changes.SetEvents (slice_index (handles_of s x.nsid) x.handle) x.enable mask
 
 -- the change that saves a command which takes effect in a state

@@ -6,7 +6,7 @@ use Rattle.fdp_records.specs.declared.change.Change.{Change}
 use Rattle.fdp_records.specs.declared.change.Change.TheVariants as changes
 use Rattle.fdp_records.specs.declared.change.UnitPages.{UnitPages}
 use Rattle.fdp_records.specs.Records.{target_or_none}
-use Rattle.std.specs.Prelude.{◌≡◌, ℕ, ◌+◌, ◌*◌, ◌<◌, ◌≤◌, ◌++◌, All, IsTrue, map, false, List, [], ◌∷◌, None, Option, Some, length}
+use Rattle.std.specs.Prelude.{◌≡◌, ℕ, ◌+◌, ◌*◌, ◌<◌, ◌≤◌, ◌++◌, All, Contains, IfSome, IsTrue, map, false, List, [], ◌∷◌, None, Option, Some, length}
 use Rattle.fdp_base.specs.declared.entry.Copied.{Copied}
 use Rattle.fdp_base.specs.declared.entry.Spot.{Spot}
 use Rattle.fdp_outline.specs.declared.moved_block.MovedBlock.{MovedBlock}
@@ -67,17 +67,27 @@ pub record AreOldPages (pages : UnitPages) (copies : List Copied) : Type 0 where
   pub numbers : (c : DriveConfig) → page_numbers c pages ≡ old_numbers c copies
   pub count : pages_in pages.pages ≡ length copies
 
--- pages of one target, or of two, are the new pages of copies; the second is one that there may be
+-- pages of a unit to which one of these copies goes, one at least
+pub record IsTargetOf (copies : List Copied) (pages : UnitPages) : Type 0 where
+  pub copy : Copied
+  pub among : Contains copies copy
+  pub unit_is : copy.to.unit ≡ pages.unit
+  pub some : 0 < pages_in pages.pages
+
+-- pages of one target, or of two, are the new pages of copies; each gets one at least, and the second is one that there may be
 pub record AreNewPages (first : UnitPages) (second : Option UnitPages) (copies : List Copied) : Type 0 where
   pub numbers : (c : DriveConfig) → page_numbers c first ++ page_numbers c (target_or_none second) ≡ new_numbers c copies
   pub count : pages_in first.pages + second_pages second ≡ length copies
   pub named : IsTrue (names_unit second)
+  pub first_target : IsTargetOf copies first
+  pub second_target : IfSome second (IsTargetOf copies)
 
--- pages of a second target, or none, are the new pages of copies
+-- pages of a second target, one at least, or none are the new pages of copies
 pub record AreSecondPages (second : Option UnitPages) (copies : List Copied) : Type 0 where
   pub numbers : (c : DriveConfig) → page_numbers c (target_or_none second) ≡ new_numbers c copies
   pub count : second_pages second ≡ length copies
   pub named : IsTrue (names_unit second)
+  pub target : IfSome second (IsTargetOf copies)
 
 -- pages of one unit are the new pages of copies
 pub record AreNewIn (pages : UnitPages) (copies : List Copied) : Type 0 where

@@ -31,9 +31,9 @@ pub fn save_command<F: Flash>(
     ensures saves { (queue number : ℕ) (reply : Reply) (moment : ℕ) → IsTrue reply.applied → KeepsWrite book.now (completed queue number command.now reply moment) saver.old saver.new outline.new (F.state flash.old) (F.state flash.new) result }
     ensures lists { AreWhole lists.new }
 {
-    book.known();
-    book.counted();
-    book.numbered();
+    book.known(); // proof
+    book.counted(); // proof
+    book.numbered(); // proof
     let totals = book.totals();
     outline.set_totals(totals);
     let change = change_of(lists, book, outline.summary().generation, command);

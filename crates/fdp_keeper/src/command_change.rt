@@ -38,6 +38,7 @@ pub fn change_of(lists: &mut ChangeLists, book: &Book, generation: u32, command:
         Command::Delete(delete) => Change::Delete { nsid: delete.nsid },
         Command::SetFdp(set) => set_change(generation, set),
         Command::SetEvents(set) => events_change(book, set),
+        // A write has a saving of its own, and the others are not saved.
         Command::Write(_) => unreachable!(),
         Command::Read(_) => unreachable!(),
         Command::Flush(_) => unreachable!(),

@@ -22,7 +22,7 @@ pub fn created_change(lists: &mut ChangeLists, book: &Book, create: &Create) -> 
     ensures limits { IsTrue (is_within_limits result) }
     ensures lent { AreLent lists.new result }
 {
-    book.known();
+    book.known(); // proof
     let asked = create.list.as_slice();
     let list = take_handles(lists, asked);
     Change::Create {

@@ -13,7 +13,7 @@ ghost use Rattle.fdp_rules.specs.Next.{next};
 ghost use Rattle.fdp_rules.specs.PlainState.{Going};
 ghost use Rattle.fdp_rules.specs.Point.{Point};
 ghost use Rattle.fdp_rules.specs.Sites.{moved_blocks};
-ghost use Rattle.fdp_rules.specs.Step.{MaySucceed};
+ghost use Rattle.fdp_rules.specs.Step.{IsHandle, MaySucceed};
 ghost use Rattle.fdp_durability.specs.fdp_readings.Drawn.{drawn};
 ghost use Rattle.fdp_base.specs.declared.entry.Entry.TheVariants as entries;
 ghost use Rattle.fdp_base.specs.Config.{IsValidConfig};
@@ -223,7 +223,8 @@ impl Keeper {
 
     /// Saves that a handle was left without a unit in a group, which is so whatever the answer.
     pub fn save_shut<F: Flash>(&mut self, flash: &mut F, book: &Book, rg: u16, ruh: u8) -> Saved
-        requires { CanSave book.now self.old (F.state flash.old) }
+        requires can { CanSave book.now self.old (F.state flash.old) }
+        requires handle { IsHandle book.now.config (point_in book.now) rg ruh }
         ensures { KeepsMade book.now (entries.Shut (record { rg = rg; ruh = ruh })) self.old self.new (F.state flash.old) (F.state flash.new) result }
     {
         let saved = save_shut(&mut self.saver, &mut self.outline, flash, book, rg, ruh);

@@ -1,12 +1,13 @@
 //! What the outline of a drive keeps of the change of a command.
 
-ghost use Rattle.std.specs.Prelude.{◌≡◌, ◌+◌, ◌<◌, ◌≤◌, flat_map, length};
+ghost use Rattle.std.specs.Prelude.{◌≡◌, ◌+◌, ◌<◌, ◌≤◌, IsTrue, flat_map, length};
 ghost use Rattle.std.specs.List.{enumerate_from};
 ghost use Rattle.fdp_base.specs.declared.entry.Totals.{Totals};
 ghost use Rattle.fdp_book.specs.Book.{point_in, state_in};
 ghost use Rattle.fdp_image.specs.Applied.{applied};
 ghost use Rattle.fdp_image.specs.Bits.{has_bit};
 ghost use Rattle.fdp_image.specs.ChangeEvents.{closed_event};
+ghost use Rattle.fdp_image.specs.Fits.{fits};
 ghost use Rattle.fdp_keeper.specs.Commands.{CanBeKept, IsOutlineBehind};
 ghost use Rattle.fdp_outline.specs.Events.{with_events};
 ghost use Rattle.fdp_outline.specs.Outline.{IsOutlineOf};
@@ -23,7 +24,7 @@ use fdp_records::Change;
 pub fn keep_saved(outline: &mut Outline, book: &Book, change: &Change, position: u64, saved: Saved)
     requires kept { CanBeKept outline.old change.now }
     requires position { 0 < position }
-    ensures { (totals : Totals) → totals.position ≡ position → IsOutlineOf book.now.config (drawn book.now.config (point_in book.now)) outline.old → IsOutlineBehind book.now.config (drawn book.now.config (point_in book.now)) (change.now, totals) outline.old outline.new saved }
+    ensures { (totals : Totals) → totals.position ≡ position → IsTrue (fits book.now.config (drawn book.now.config (point_in book.now)) (change.now, totals)) → IsOutlineOf book.now.config (drawn book.now.config (point_in book.now)) outline.old → IsOutlineBehind book.now.config (drawn book.now.config (point_in book.now)) (change.now, totals) outline.old outline.new saved }
 {
     match saved {
         Saved::Done => keep_change(outline, book, change, position),
@@ -36,9 +37,9 @@ pub fn keep_saved(outline: &mut Outline, book: &Book, change: &Change, position:
 fn keep_change(outline: &mut Outline, book: &Book, change: &Change, position: u64)
     requires kept { CanBeKept outline.old change.now }
     requires position { 0 < position }
-    ensures { (totals : Totals) → totals.position ≡ position → IsOutlineOf book.now.config (drawn book.now.config (point_in book.now)) outline.old → IsOutlineOf book.now.config (applied book.now.config (drawn book.now.config (point_in book.now)) (change.now, totals)) outline.new }
+    ensures { (totals : Totals) → totals.position ≡ position → IsTrue (fits book.now.config (drawn book.now.config (point_in book.now)) (change.now, totals)) → IsOutlineOf book.now.config (drawn book.now.config (point_in book.now)) outline.old → IsOutlineOf book.now.config (applied book.now.config (drawn book.now.config (point_in book.now)) (change.now, totals)) outline.new }
 {
-    outline.known();
+    outline.known(); // proof
     match change {
         Change::Clear { .. } => {}
         Change::Update { nsid, closed, pids } => {
@@ -57,6 +58,7 @@ fn keep_change(outline: &mut Outline, book: &Book, change: &Change, position: u6
             generation,
         } => outline.keep_setting(*enabled, *index, *generation),
         Change::SetEvents { ruh, on, mask } => outline.keep_kinds(*ruh, *on, *mask),
+        // These have savings of their own.
         Change::Write { .. } => unreachable!(),
         Change::Moved { .. } => unreachable!(),
         Change::Shut { .. } => unreachable!(),
@@ -76,7 +78,7 @@ fn keep_closed(
     requires { place + length pids.now ≤ 64 }
     ensures { (s : PlainState) → s.position + 1 ≡ position → s.namespaces ≡ (state_in book.now).namespaces → outline.new ≡ with_events outline.old (flat_map (closed_event book.now.config s nsid closed) (enumerate_from place pids.now)) }
 {
-    outline.known();
+    outline.known(); // proof
     if let Some((pid, rest)) = pids.split_first() {
         keep_if_closed(outline, book, position, nsid, closed, place, *pid);
         keep_closed(outline, book, position, nsid, closed, place + 1, rest);
@@ -96,7 +98,7 @@ fn keep_if_closed(
     requires { place < 64 }
     ensures { (s : PlainState) → s.position + 1 ≡ position → s.namespaces ≡ (state_in book.now).namespaces → outline.new ≡ with_events outline.old (closed_event book.now.config s nsid closed (place, pid)) }
 {
-    outline.known();
+    outline.known(); // proof
     if !is_set(closed, place) {
         return;
     }

@@ -25,7 +25,7 @@ pub fn list_copies(pages: &Pages, rg: u16, copies: &mut Vec<Copied>, blocks: &mu
     ensures capacity_too { vec_capacity blocks.new ≡ vec_capacity blocks.old }
     ensures few { length copies.new.items ≤ 256 }
 {
-    pages.joined();
+    pages.joined(); // proof
     copies.clear();
     blocks.clear();
     for copy in pages.copies(rg) {

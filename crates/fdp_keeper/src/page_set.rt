@@ -1,7 +1,7 @@
 //! Pages of a unit as bits.
 
 ghost use Rattle.std.specs.Prelude.{◌≡◌, ◌+◌, ◌≤◌, ◌<◌, ◌++◌, ◌∷◌, []};
-ghost use Rattle.std.specs.Prelude.{All, List, drop, length, map, take, ℕ};
+ghost use Rattle.std.specs.Prelude.{All, List, Some, drop, length, map, slice_get, take, ℕ};
 ghost use Rattle.fdp_base.specs.declared.entry.Copied.{Copied as Copy};
 ghost use Rattle.fdp_keeper.specs.Moves.{HasPages, IsSetOf, LieInSome, OldInOrder};
 ghost use Rattle.fdp_durability.specs.fdp_pages.Joined.{LieInOrder};
@@ -38,6 +38,7 @@ pub fn put_new(set: &mut PageSet, unit: u32, next: u32, copies: &[Copied]) -> us
     ensures within { result ≤ length copies.now }
     ensures set { (pages : List ℕ) → HasPages set.old pages next → IsSetOf set.new (pages ++ map (λ (x : Copy). x.to.page) (take result copies.now)) }
     ensures order { LieInOrder unit next (take result copies.now) }
+    ensures some { (x : Copy) → slice_get copies.now 0 ≡ Some x → x.to.unit ≡ unit → next ≤ x.to.page → 0 < result }
     ensures all { LieInOrder unit next copies.now → result ≡ length copies.now }
     ensures rest { (first last : List Copy) (other : ℕ) → copies.now ≡ first ++ last → LieInOrder unit next first → LieInOrder other 0 last → LieInSome (drop result copies.now) }
 {

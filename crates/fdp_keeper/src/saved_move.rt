@@ -40,8 +40,8 @@ pub fn save_move<F: Flash>(
     ensures room { 256 ≤ vec_capacity copies.new }
     ensures room_too { 256 ≤ vec_capacity blocks.new }
 {
-    book.known();
-    book.counted();
+    book.known(); // proof
+    book.counted(); // proof
     list_copies(book.pages(), rg, copies, blocks);
     if copies.as_slice().is_empty() {
         return None;

@@ -5,7 +5,7 @@ ghost use Rattle.fdp_base.specs.declared.entry.Entry.{Entry};
 ghost use Rattle.fdp_book.specs.Book.{point_in};
 ghost use Rattle.fdp_durability.specs.Saved.{SavesDrive, SavesEntry, SettlesDrive};
 ghost use Rattle.fdp_keeper.specs.Keeper.{CanGive};
-ghost use Rattle.fdp_durability.specs.fdp_readings.Changes.{Saves};
+ghost use Rattle.fdp_durability.specs.fdp_readings.Changes.{FitsDrawn, Saves};
 ghost use Rattle.fdp_records.specs.Limits.{is_within_limits};
 ghost use Rattle.fdp_rules.specs.Next.{totals_with};
 
@@ -27,10 +27,10 @@ pub fn save<F: Flash>(
 ) -> Saved
     requires limits { IsTrue (is_within_limits change.now) }
     requires given { CanGive book.now saver.old outline.now (F.state flash.old) }
-    ensures saves { (e : Entry) → Saves book.now.config (point_in book.now) change.now e → totals.now ≡ totals_with (point_in book.now).totals e → SavesEntry book.now.config book.now.found book.now.entries e saver.old saver.new (F.state flash.old) (F.state flash.new) result }
+    ensures saves { (e : Entry) → Saves book.now.config (point_in book.now) change.now e → FitsDrawn book.now.config (point_in book.now) change.now e → totals.now ≡ totals_with (point_in book.now).totals e → SavesEntry book.now.config book.now.found book.now.entries e saver.old saver.new (F.state flash.old) (F.state flash.new) result }
     ensures geometry { saver.new.geometry ≡ saver.old.geometry }
 {
-    book.known();
+    book.known(); // proof
     saver.save(flash, change, totals, outline.summary(), book.page_lists())
 }
 
@@ -45,7 +45,7 @@ pub fn checkpoint<F: Flash>(
     ensures saves { SavesDrive book.now.config book.now.found book.now.entries saver.old saver.new (F.state flash.old) (F.state flash.new) result }
     ensures geometry { saver.new.geometry ≡ saver.old.geometry }
 {
-    book.known();
+    book.known(); // proof
     saver.checkpoint(flash, outline.summary(), book.page_lists())
 }
 
@@ -55,6 +55,6 @@ pub fn settle<F: Flash>(saver: &mut Saver, outline: &Outline, flash: &mut F, boo
     ensures saves { SettlesDrive book.now.config book.now.found book.now.entries saver.old saver.new (F.state flash.old) (F.state flash.new) result }
     ensures geometry { saver.new.geometry ≡ saver.old.geometry }
 {
-    book.known();
+    book.known(); // proof
     saver.settle(flash, outline.summary(), book.page_lists())
 }

@@ -1,5 +1,7 @@
 ghost use Rattle.fdp_base.specs.declared.entry.Entry.TheVariants as entries;
+ghost use Rattle.fdp_book.specs.Book.{point_in};
 ghost use Rattle.fdp_keeper.specs.Keeper.{CanKeep, KeepsParts};
+ghost use Rattle.fdp_rules.specs.Step.{IsHandle};
 
 use crate::saving::save;
 use fdp_base::Totals;
@@ -18,11 +20,12 @@ pub fn save_shut<F: Flash>(
     rg: u16,
     ruh: u8,
 ) -> Saved
-    requires { CanKeep book.now saver.old outline.old (F.state flash.old) }
+    requires can { CanKeep book.now saver.old outline.old (F.state flash.old) }
+    requires handle { IsHandle book.now.config (point_in book.now) rg ruh }
     ensures { KeepsParts book.now (entries.Shut (record { rg = rg; ruh = ruh })) saver.old saver.new outline.new (F.state flash.old) (F.state flash.new) result }
 {
-    book.known();
-    book.counted();
+    book.known(); // proof
+    book.counted(); // proof
     let totals = book.totals();
     outline.set_totals(totals);
     let change = Change::Shut { rg, ruh };

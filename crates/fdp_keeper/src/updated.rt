@@ -68,7 +68,7 @@ fn close(book: &Book, nsid: u32, marks: &mut [bool; 256], pid: u16) -> bool
     ensures closes { (references : References) → AreMarked book.now.config (state_in book.now) marks.old references → result ≡ closes_unit book.now.config (state_in book.now) nsid references pid }
     ensures marks { (references : References) → AreMarked book.now.config (state_in book.now) marks.old references → AreMarked book.now.config (state_in book.now) marks.new (updated_by book.now.config (state_in book.now) nsid references pid) }
 {
-    book.known();
+    book.known(); // proof
     match named_by(book, nsid, pid) {
         Some(named) => {
             let partly = is_partly_written(book, named.rg, named.ruh);
@@ -97,7 +97,7 @@ fn is_partly_written(book: &Book, rg: u16, ruh: u8) -> bool
     requires handle { ruh < 16 }
     ensures { result ≡ is_partly_written book.now.config ((state_in book.now).references rg ruh) }
 {
-    book.known();
+    book.known(); // proof
     let left = book.pages().handles().left(rg, ruh);
     is_partly(left, book.config().unit_pages)
 }

@@ -44,8 +44,8 @@ pub fn save_write<F: Flash>(
     ensures saves { (g : Going) (w : Write) (reply : Reply) (moment : ℕ) → IsTicketOf (state_in book.now) ticket.now g → g.command ≡ commands.Write w → IsTrue reply.applied → KeepsWrite book.now (completed ticket.now.queue ticket.now.number (commands.Write w) reply moment) saver.old saver.new outline.new (F.state flash.old) (F.state flash.new) result }
     ensures lists { AreOfEachLength 64 numbers.new.items }
 {
-    book.known();
-    book.counted();
+    book.known(); // proof
+    book.counted(); // proof
     let totals = book.totals();
     outline.set_totals(totals);
     let change = write_change(numbers, book, ticket);
@@ -69,7 +69,7 @@ fn write_change(numbers: &mut Vec<Sequence<u32>>, book: &Book, ticket: &Ticket) 
     ensures limits { IsTrue (is_within_limits result) }
     ensures taken { IsTaken 64 numbers.new.items (length (numbers_in result)) }
 {
-    book.known();
+    book.known(); // proof
     let pages = book.pages_of_write(ticket);
     let names = book.names_of_write(ticket);
     let list = numbers_of(take(numbers, pages.len(), 64), book.config(), pages);
@@ -143,7 +143,7 @@ fn keep_event(outline: &mut Outline, book: &Book, ticket: &Ticket, position: u64
     requires { IsFlying book.now ticket.now }
     ensures { (g : Going) (w : Write) → IsTicketOf (state_in book.now) ticket.now g → g.command ≡ commands.Write w → (state_in book.now).position + 1 ≡ position → outline.new ≡ with_events outline.old (write_events (state_in book.now) w.nsid w.dspec (Some g)) }
 {
-    outline.known();
+    outline.known(); // proof
     let names = book.names_of_write(ticket);
     if !names.pid_invalid {
         return;

@@ -48,6 +48,7 @@ use Rattle.fdp_loading.specs.Begun.{BeginsFound, BeginsFresh}
 use Rattle.fdp_loading.specs.Loaded.{IsIdle, IsLoaded, IsPrepared, ReadsAsBegun, StandsBegun}
 use Rattle.fdp_loading.specs.Made.{IsBegun, KeepsNone, SavesFirst}
 use Rattle.fdp_loading.specs.Refused.{IsNotLoaded}
+use Rattle.fdp_loading.proofs.Opens.{images-open}
 use Rattle.fdp_loading.proofs.Blank.{blank-unit_from}
 use Rattle.fdp_loading.proofs.Drawing.{media-none, media-reopened}
 use Rattle.fdp_loading.proofs.Looked.{IsAlike, alike-looks}
@@ -326,7 +327,21 @@ module _ (old mid new : FlashState) (b : BookSeen) (k : KeeperSeen) (looks : Onl
         durable-stands-apart b.config b.found b.entries now.firm now.saver b.pages.units new.cells (safe.at.durable t) (safe.apart t opened) (isolated-new now wrote.Done keeps formed t opened);
   }
 
-  -- or it failed
+  -- or it failed: the cells stand for what the history begins with, and keep data apart
+  unsaved-safe : (now : KeeperSeen) → KeepsDrive b k now mid new wrote.Failed → IsWellFormed old → IsTrue new.told → IsSafeImage b.config b.found b.opened b.entries 0 (length b.entries) new.cells
+  unsaved-safe now keeps formed t =
+      let m = told-back now wrote.Failed keeps t in
+      let durable =
+      checkpoint-done b.config b.found b.entries 0 k.saver now.saver b.pages.units mid new wrote.Failed p.durable
+      (can-here mid b k begun.epoch p) keeps.saves m in
+      record {
+        stands = durable-stands b.config b.found b.entries 0 now.saver b.pages.units new.cells durable;
+        apart = λ opened.
+            durable-stands-apart b.config b.found b.entries 0 now.saver b.pages.units new.cells durable
+            (said-begun b k.saver now.saver 0 mid new wrote.Failed p.order p.can.geometry p.stored (isolated-mid formed) p.can.keeper.geometry p.durable p.said keeps.saves t opened)
+            (isolated-new now wrote.Failed keeps formed t opened);
+      }
+
   unsaved-here : IsWellFormed old → KeepsNone b k mid new → IsNotLoaded b.config old new (faults.FlashFault new.moment)
   unsaved-here formed none =
       let keeps = none.keeps in
@@ -341,18 +356,10 @@ module _ (old mid new : FlashState) (b : BookSeen) (k : KeeperSeen) (looks : Onl
             same = same-old none.keeper wrote.Failed keeps;
             programs = programs-same none.keeper wrote.Failed keeps;
             stops = survives none.keeper wrote.Failed keeps formed;
-            cells = λ t.
-                let m = told-back none.keeper wrote.Failed keeps t in
-                let durable =
-                checkpoint-done b.config b.found b.entries 0 k.saver none.keeper.saver b.pages.units mid new wrote.Failed p.durable
-                (can-here mid b k begun.epoch p) keeps.saves m in
-                record {
-                  stands = durable-stands b.config b.found b.entries 0 none.keeper.saver b.pages.units new.cells durable;
-                  apart = λ opened.
-                      durable-stands-apart b.config b.found b.entries 0 none.keeper.saver b.pages.units new.cells durable
-                      (said-begun b k.saver none.keeper.saver 0 mid new wrote.Failed p.order p.can.geometry p.stored (isolated-mid formed) p.can.keeper.geometry p.durable p.said keeps.saves t opened)
-                      (isolated-new none.keeper wrote.Failed keeps formed t opened);
-                };
+            cells = unsaved-safe none.keeper keeps formed;
+            opens =
+                images-open b.config b.found b.opened b.entries 0 (length b.entries) 0 old new (survives none.keeper wrote.Failed keeps formed)
+                (λ told. (unsaved-safe none.keeper keeps formed told).stands);
           });
         };
       }

@@ -10,6 +10,8 @@ use Rattle.fdp_flash.specs.declared.cell.Cell.{Cell}
 use Rattle.fdp_keeper.specs.fdp_found.Beginning.{CanBegin}
 use Rattle.fdp_keeper.specs.fdp_found.Finding.{found_in}
 use Rattle.fdp_keeper.proofs.fdp_found.Stating.{state-found}
+use Rattle.fdp_base.specs.Placement.{handle_count}
+use Rattle.fdp_image.specs.BadFields.{HasKnownRows}
 use Rattle.fdp_image.specs.Checkpoint.{reading_of_state}
 use Rattle.fdp_image.specs.Outline.{state_with}
 use Rattle.fdp_image.specs.Valid.{IsValid, state_in}
@@ -29,14 +31,15 @@ latest-few xs few = sym (ap latest (append-nil xs) ∙ all) where
   all = let none : length xs - 32 ≡ 0 = omega (arith, few) in ap (λ (n : ℕ). drop n xs) none
 
 -- the summary that was read is the outline of what the history without an entry draws
-pub outline-found : (c : DriveConfig) (cells : List Cell) (s : State) → IsValid c cells (reading_of_state s) → CanBegin (reading_of_state s) → NamesSizes c s.summary.keys
+pub outline-found : (c : DriveConfig) (cells : List Cell) (s : State) → IsValid c cells (reading_of_state s) → CanBegin (reading_of_state s) → NamesSizes c s.summary.keys → HasKnownRows (handle_count c s.summary.enabled s.summary.index) s.summary
     → IsOutlineOf c (drawn c (point_of c (found_in c cells (reading_of_state s)) [])) s.summary
 unfolding reading_of_state state_in state_with point_of state_of totals_of host_events_of controller_events_of events_of kept_from first_state
-outline-found c cells s valid can keys =
+outline-found c cells s valid can keys rows =
     let r = reading_of_state s in
     let same : first_state c (found_in c cells r) ≡ state_in c cells r = state-found c cells r valid can in
     record {
       sizes = keys;
+      rows = rows;
       says = λ d. record (drawn c (point_of c (found_in c cells r) [])) {
         reports = ap (λ (x : PlainState). x.reports) (sym same) d;
         namespaces = ap (λ (x : PlainState). x.namespaces) (sym same) d;

@@ -11,4 +11,5 @@ pub mod Blank
 pub mod Unwritten
 pub mod Opened
 pub mod Over
+pub mod Opens
 pub mod Checkpointed

@@ -103,7 +103,7 @@ module _ (flash : FlashState) (b : BookSeen) (k : KeeperSeen) (s : State) (area 
   stood-here t =
       let l = (found-here t).left in
       subst (λ (f : Found). StandsFor b.config f flash.cells []) (sym (h.book.found_is ∙ ap (λ (xs : List Cell). found_in b.config xs r) (cells-are t)))
-      (stands-found b.config flash.cells r l.reads l.valid can-begin)
+      (stands-found b.config flash.cells r l.reads l.valid (h.was.pages.ways t) can-begin)
 
   written-here : written_in b ≡ pages_held b.config cells
   written-here =
@@ -180,7 +180,7 @@ module _ (flash : FlashState) (b : BookSeen) (k : KeeperSeen) (s : State) (area 
   outline-here : IsOutlineOf b.config (drawn b.config (point_in b)) k.summary
   outline-here =
       subst (λ (p : Point). IsOutlineOf b.config (drawn b.config p) k.summary) (sym point-here)
-      (h.outline (point_of b.config (found_in b.config cells r) []) (outline-found b.config cells s h.valid can-begin goes.state.keys) (position-drawn b.config cells s))
+      (h.outline (point_of b.config (found_in b.config cells r) []) (outline-found b.config cells s h.valid can-begin goes.state.keys goes.state.rows) (position-drawn b.config cells s))
 
   epoch-here : k.saver.stamp.epoch ≡ epoch
   epoch-here = ap (λ (x : JournalState). x.stamp.epoch) h.saver_is

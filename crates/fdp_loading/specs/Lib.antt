@@ -7,5 +7,7 @@ pub use Rattle.fdp_keeper.specs.fdp_recovery as fdp_recovery
 pub use Rattle.fdp_survival.specs as fdp_survival
 pub mod Begun
 pub mod Loaded
+pub mod Faults
+pub mod Opens
 pub mod Refused
 pub mod Made

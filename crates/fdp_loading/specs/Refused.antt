@@ -1,40 +1,18 @@
 -- Why no run begins with a flash, and what stands on it then.
-use Rattle.std.specs.Prelude.{◌≡◌, ◌⊎◌, ℕ, IsTrue, List, Some, length}
+use Rattle.std.specs.Prelude.{◌≡◌, ◌⊎◌, ℕ, IsTrue, length}
 use Rattle.fdp_base.specs.declared.config.DriveConfig.{DriveConfig}
-use Rattle.fdp_base.specs.declared.config.Geometry.{Geometry}
 use Rattle.fdp_keeper.specs.fdp_book.Book.{BookSeen}
-use Rattle.fdp_flash.specs.declared.cell.Cell.{Cell}
 use Rattle.fdp_flash.specs.Failing.{FailsLast}
 use Rattle.fdp_flash.specs.FlashState.{FlashState}
-use Rattle.fdp_image.specs.Checkpoint.{reading_of_state}
 use Rattle.fdp_image.specs.Saving.{SameDataPages}
 use Rattle.fdp_loading.specs.Begun.{Begins}
-use Rattle.fdp_keeper.specs.fdp_opening.Found.{IsFirstAstray}
+use Rattle.fdp_loading.specs.Faults.{TellsFault}
+use Rattle.fdp_loading.specs.Opens.{LeavesOpen}
 use Rattle.fdp_keeper.specs.fdp_recovery.declared.opened.OpenFault.{OpenFault}
 use Rattle.fdp_keeper.specs.fdp_recovery.declared.opened.OpenFault.TheVariants as faults
-use Rattle.fdp_keeper.specs.fdp_recovery.Keys.{keys_on, other_key}
-use Rattle.fdp_keeper.specs.fdp_recovery.Opened.{IsBadImage, IsFound, IsNoDrive, IsSpent}
 use Rattle.fdp_keeper.specs.fdp_recovery.Walking.{OnlyLooks}
-use Rattle.fdp_snapshot.specs.declared.state.State.{State}
 use Rattle.fdp_survival.specs.Books.{Survives}
 use Rattle.fdp_survival.specs.Safe.{IsSafeImage}
-
--- a drive was found, but this is the page of its first block that is not in its place
-pub record IsStrayImage (c : DriveConfig) (g : Geometry) (cells : List Cell) (page : ℕ) : Type 0 where
-  pub state : State
-  pub area : ℕ
-  pub epoch : ℕ
-  pub found : IsFound c g cells state area epoch
-  pub astray : IsFirstAstray c cells (reading_of_state state) page
-
--- what each fault tells of the cells
-abbrev pub TellsFault : DriveConfig → Geometry → List Cell → OpenFault → Type 0
-TellsFault c g cells (faults.OtherConfig key) = other_key c g (keys_on g cells) ≡ Some key
-TellsFault c g cells faults.NotADrive = IsNoDrive c g cells
-TellsFault c g cells (faults.BadImage page) = IsBadImage c g cells page ⊎ IsStrayImage c g cells page
-TellsFault c g cells (faults.FlashFault moment) = Unit {0}
-TellsFault c g cells faults.Spent = IsSpent c g cells
-TellsFault c g cells faults.NoMemory = Unit {0}
 
 -- the flash was only looked at, and no call of it failed
 pub record IsLookedAt (old new : FlashState) : Type 0 where
@@ -42,7 +20,7 @@ pub record IsLookedAt (old new : FlashState) : Type 0 where
   pub faults : new.faults ≡ old.faults
 
 -- The drive that was to be saved first was not: no page of data changed, and the flash, and whatever a stop left, stands for what the history
--- begins with, without the entry of the opening or with it, and keeps data apart where what was opened did.
+-- begins with, without the entry of the opening or with it, keeps data apart where what was opened did, and opens.
 pub record FailsToSave (c : DriveConfig) (old new : FlashState) : Type 0 where
   pub book : BookSeen
   pub epoch : ℕ
@@ -51,6 +29,7 @@ pub record FailsToSave (c : DriveConfig) (old new : FlashState) : Type 0 where
   pub programs : new.programs ≡ old.programs
   pub stops : Survives book 0 (length book.entries) old new
   pub cells : IsTrue new.told → IsSafeImage book.config book.found book.opened book.entries 0 (length book.entries) new.cells
+  pub opens : LeavesOpen c old new
 
 -- a flash whose last call failed was only looked at, or its first checkpoint failed
 pub record FailsToLoad (c : DriveConfig) (old new : FlashState) (moment : ℕ) : Type 0 where

@@ -97,7 +97,7 @@ fn made_of<F: Flash>(
     ensures { IfOk result (λ made. IsFoundDrive config.now (F.state flash.now) state area epoch made.book made.keeper) }
 {
     let (book, summary) = Book::reopened(alloc, flash, config, state, pages)?;
-    book.known();
+    book.known(); // proof
     let keeper = Keeper::found(alloc, config, summary, area, epoch)?;
     Ok(Loaded { book, keeper })
 }

@@ -13,7 +13,7 @@ pub fn fresh(alloc: Global, config: &DriveConfig) -> Result<Loaded, AllocError>
     ensures { IfOk result (λ made. IsFreshDrive config.now made.book made.keeper) }
 {
     let book = Book::fresh(alloc, config)?;
-    book.known();
+    book.known(); // proof
     let keeper = Keeper::fresh(alloc, config)?;
     Ok(Loaded { book, keeper })
 }

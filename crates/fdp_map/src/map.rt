@@ -84,7 +84,7 @@ impl Map {
         ensures cut { IsCut self.now.geometry }
         ensures places { (nsid lba : ℕ) → IfSome (mapped_at self.now nsid lba) (IsPlaced self.now.geometry) }
     {
-        let _ = &self.lists;
+        let _ = &self.lists; // proof
     }
 
     /// Makes the places of a namespace without blocks. Beside `new` it is the one call that takes memory.
@@ -142,7 +142,7 @@ impl Map {
     fn list(&self, nsid: u32) -> &[Option<u32>]
         ensures { places_of self.now.geometry result.now ≡ row self.now nsid }
     {
-        let _ = &self.lists;
+        let _ = &self.lists; // proof
         if nsid == 0 {
             return &[];
         }
@@ -157,7 +157,7 @@ impl Map {
         ensures value { result ≡ size_in self.now nsid }
         ensures bound { result ≤ 262144 }
     {
-        let _ = &self.lists;
+        let _ = &self.lists; // proof
         self.list(nsid).len() as u64
     }
 

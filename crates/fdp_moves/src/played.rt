@@ -57,7 +57,7 @@ pub fn calls_of_opening<D: Drive>(alloc: Global, config: &DriveConfig) -> Result
 impl<D: Drive> Played<D> {
     /// The drive that is open.
     pub fn drive(&mut self) -> Option<&mut D> {
-        let _ = &self.before;
+        let _ = &self.before; // proof
         self.drive.as_mut()
     }
 

@@ -5,7 +5,7 @@ use Rattle.fdp_image.specs.Checkpoint.{reading_of_state}
 use Rattle.fdp_image.specs.Reading.{size_in}
 use Rattle.fdp_rules.specs.Room.{namespace_ids}
 use Rattle.fdp_snapshot.specs.declared.state.State.{State}
-use Rattle.fdp_recovery.specs.fdp_state.Fits.{blocks_of_all}
+use Rattle.fdp_image.specs.Fits.{blocks_of_all}
 use Rattle.fdp_recovery.specs.fdp_state.Loaded.{IsLoadable}
 use Rattle.fdp_recovery.specs.fdp_state.Parts.{listed}
 

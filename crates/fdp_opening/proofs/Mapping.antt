@@ -15,7 +15,7 @@ use Rattle.fdp_image.specs.Checkpoint.{reading_of_state}
 use Rattle.fdp_map.specs.PageLists.{data_pages, page_at, size_at}
 use Rattle.fdp_recovery.specs.Blocks.{StandApart}
 use Rattle.fdp_snapshot.specs.declared.state.State.{State}
-use Rattle.fdp_recovery.specs.fdp_state.Fits.{handles_in}
+use Rattle.fdp_image.specs.Fits.{handles_in}
 use Rattle.fdp_recovery.specs.fdp_state.Loaded.{IsDriveState}
 use Rattle.fdp_recovery.specs.fdp_state.Parts.{listed}
 use Rattle.fdp_recovery.proofs.fdp_state.Loadable.{loadable}

@@ -23,9 +23,10 @@ use Rattle.fdp_image.specs.Areas.{data_pages}
 use Rattle.fdp_image.specs.Checkpoint.{reading_of_state}
 use Rattle.fdp_image.specs.Reading.{Reading, spot_of}
 use Rattle.fdp_image.specs.Valid.{is_named}
-use Rattle.fdp_opening.specs.Found.{AreFound, AreUnmoved, IsBlockOwner, IsFirstAstray, IsFoundIn, IsInPlace, IsUnitFound, KeepsBlocks, OwnsPage, lane_in, said_at, said_in}
+use Rattle.fdp_opening.specs.Found.{AreFound, AreUnmoved, IsBlockOwner, IsFirstAstray, IsFoundIn, IsInPlace, IsUnitFound, OwnsPage, lane_in, said_at, said_in}
 use Rattle.fdp_opening.specs.Walking.{AreFoundBefore, AreUnitsFoundTo, CanKeep, GetsOwner, IsOwnedBefore, MayKeep}
 use Rattle.fdp_opening.proofs.Scanned.{found-after, unit-there, used-unit}
+use Rattle.fdp_opening.proofs.Ways.{ways-placed}
 use Rattle.fdp_owners.specs.declared.owner.Owner.{Owner}
 use Rattle.fdp_owners.specs.OwnerTable.{OwnerTable, owner_at, with_owner}
 use Rattle.fdp_owners.proofs.Tables.{is_spot-other, is_spot-same}
@@ -39,7 +40,7 @@ use Rattle.fdp_rules.specs.Sites.{is_spot}
 use Rattle.fdp_rules.specs.PlainState.{Namespace}
 use Rattle.fdp_rules.specs.Step.{IsDataUnit}
 use Rattle.fdp_snapshot.specs.declared.state.State.{State}
-use Rattle.fdp_recovery.specs.fdp_state.Fits.{handles_in}
+use Rattle.fdp_image.specs.Fits.{handles_in}
 use Rattle.fdp_recovery.specs.fdp_state.Good.{IsGood}
 use Rattle.fdp_recovery.specs.fdp_state.Parts.{handles_at}
 use Rattle.fdp_units.specs.declared.data_unit.DataUnit.{DataUnit}
@@ -369,13 +370,6 @@ pub first-here : (c : DriveConfig) (r : Reading) (s : FlashState) (nsid lba numb
 first-here c r s nsid lba number page t there h told astray same =
     subst (IsFirstAstray c s.cells r) same (record { nsid = nsid; lba = lba; there = there; astray = astray; before = h.placed told })
 
--- cells that keep the blocks, those of each unit going one way, have none that is not in its place
-pub none-astray : (c : DriveConfig) (r : Reading) (s : FlashState) (page : ℕ) → KeepsBlocks c r s → IsFirstAstray c s.cells r page → ⊥
-none-astray c r s page keeps first = first.astray (record {
-  kept = keeps.kept first.nsid first.lba page first.there;
-  way = λ n l other x y at before unit said-x said-y. keeps.ways n l other first.nsid first.lba page x y at first.there unit said-x said-y;
-})
-
 -- the first block, and behind the last
 pub found-all : (c : DriveConfig) (st : State) (s : FlashState) (t : PageTables) → AreFoundBefore c (reading_of_state st) s 17 0 t → AreFound c (reading_of_state st) s t
 found-all c st s t h = record {
@@ -384,6 +378,7 @@ found-all c st s t h = record {
   blocks = λ n l p at. h.blocks n l p (all-before st n l p 17 (omega arith) at) at;
   owned = λ spot x e. (h.owned spot x e).owned;
   said = h.said;
+  ways = λ told. ways-placed c s.cells (reading_of_state st) (λ n l p at. h.placed told n l p at (all-before st n l p 17 (omega arith) at));
 }
 
 pub found-first : (c : DriveConfig) (st : State) (s : FlashState) (old t : PageTables) → AreUnmoved c (reading_of_state st) old → ((spot : Spot) → owner_at old.owners spot ≡ None) → AreUnitsFoundTo c s (c.groups * c.units) old t → AreFoundBefore c (reading_of_state st) s 1 0 t

@@ -14,6 +14,7 @@ use Rattle.fdp_flash.specs.Layout.{page_number}
 use Rattle.fdp_handles.specs.HandleTable.{blank, reference_at}
 use Rattle.fdp_image.specs.Reading.{Reading, spot_of}
 use Rattle.fdp_image.specs.Roomy.{is_blank_unit}
+use Rattle.fdp_image.specs.Valid.{GoOneWay}
 use Rattle.fdp_opening.specs.declared.fault.PagesFault.{PagesFault}
 use Rattle.fdp_opening.specs.declared.fault.PagesFault.TheVariants as faults
 use Rattle.fdp_owners.specs.declared.owner.Owner.{Owner}
@@ -80,23 +81,18 @@ pub record AreUnmoved (c : DriveConfig) (r : Reading) (t : PageTables) : Type 0 
   pub worn : (rg : ℕ) → is_worn_at t.units rg ≡ false
 
 -- the tables of the pages as an opening finds them: units are free or used, and the blocks own their pages, which nothing else owns; where the
--- flash tells its cells each owned page is whole, and its spare is the one that its owner knows
+-- flash tells its cells each owned page is whole, its spare is the one that its owner knows, and the blocks of each unit go one way
 pub record AreFound (c : DriveConfig) (r : Reading) (s : FlashState) (t : PageTables) : Type 0 where
   pub unmoved : AreUnmoved c r t
   pub units : (unit : ℕ) → IsDataUnit c unit → IsFoundIn c s unit (unit_at t.units unit)
   pub blocks : (nsid lba page : ℕ) → r.pages nsid lba ≡ Some page → OwnsPage c r t nsid lba page
   pub owned : (spot : Spot) (x : Owner) → owner_at t.owners spot ≡ Some x → IsOwnedPage c r spot x
   pub said : IsTrue s.told → (spot : Spot) (x : Owner) → owner_at t.owners spot ≡ Some x → said_at s.cells (page_number (geometry_of c) spot) ≡ Some x.spare
+  pub ways : IsTrue s.told → GoOneWay c s.cells r
 
 -- the way that the data of a handle goes by the configuration of a reading
 abbrev pub lane_in : DriveConfig → Reading → ℕ → Lane
 lane_in c r ruh = lane_of_handle (classes_of c r.enabled r.index) ruh
-
--- the blocks of a unit go one way: where one is of a persistently isolated handle, all are of that one
-abbrev pub GoOneWay : DriveConfig → List Cell → Reading → Type 0
-GoOneWay c cells r =
-    (nsid lba page other_nsid other_lba other : ℕ) (x y : DataSpare) → r.pages nsid lba ≡ Some page → r.pages other_nsid other_lba ≡ Some other
-    → page / c.unit_pages ≡ other / c.unit_pages → said_at cells page ≡ Some x → said_at cells other ≡ Some y → lane_in c r x.ruh ≡ lane_in c r y.ruh
 
 -- a block is in its place: it is kept on its page, and goes the way of each block before it in its unit
 pub record IsInPlace (c : DriveConfig) (cells : List Cell) (r : Reading) (nsid lba page : ℕ) : Type 0 where

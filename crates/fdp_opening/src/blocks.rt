@@ -1,14 +1,15 @@
 //! The pages that blocks own.
 
-ghost use Rattle.std.specs.Prelude.{◌≡◌, ◌+◌, false, true, IfOk, Some, length};
+ghost use Rattle.std.specs.Prelude.{◌≡◌, ◌≢◌, ◌+◌, false, true, IfErr, IfOk, Some, length};
 ghost use Rattle.fdp_base.specs.Config.{IsInRange};
 ghost use Rattle.fdp_base.specs.Placement.{geometry_of};
 ghost use Rattle.fdp_flash.specs.OnlyReads.{ReadsOnly};
 ghost use Rattle.fdp_image.specs.Checkpoint.{reading_of_state};
+ghost use Rattle.fdp_opening.specs.declared.fault.PagesFault.TheVariants.{NoMemory};
 ghost use Rattle.fdp_opening.specs.Found.{CallsFirstBad, EndsPages};
 ghost use Rattle.fdp_opening.specs.Walking.{AreFoundBefore, CanKeep, GetsOwner, MayKeep};
 ghost use Rattle.fdp_recovery.specs.Blocks.{StandApart};
-ghost use Rattle.fdp_recovery.specs.fdp_state.Fits.{blocks_of_all};
+ghost use Rattle.fdp_image.specs.Fits.{blocks_of_all};
 ghost use Rattle.fdp_recovery.specs.fdp_state.Good.{IsGood};
 ghost use Rattle.fdp_recovery.specs.fdp_state.Loaded.{IsLoadable};
 ghost use Rattle.fdp_recovery.specs.fdp_state.Parts.{listed};
@@ -40,6 +41,7 @@ pub fn find_blocks<F: Flash>(
     ensures found { IfOk result (λ u. AreFoundBefore config.now (reading_of_state state.now) (F.state flash.new) 17 0 pages.new) }
     ensures bad { CallsFirstBad config.now (reading_of_state state.now) (F.state flash.old) result }
     ensures ends { EndsPages (F.state flash.old) (F.state flash.new) result }
+    ensures memory { IfErr result (λ fault. fault ≢ NoMemory) }
 {
     for nsid in 1..17 {
         match find_blocks_in(flash, config, state, nsid, pages, page) {
@@ -70,6 +72,7 @@ fn find_blocks_in<F: Flash>(
     ensures found { IfOk result (λ u. AreFoundBefore config.now (reading_of_state state.now) (F.state flash.new) (nsid + 1) 0 pages.new) }
     ensures bad { CallsFirstBad config.now (reading_of_state state.now) (F.state flash.old) result }
     ensures ends { EndsPages (F.state flash.old) (F.state flash.new) result }
+    ensures memory { IfErr result (λ fault. fault ≢ NoMemory) }
 {
     let list = list_at(state.pages.as_slice(), nsid);
     for lba in 0..list.len() {
@@ -106,6 +109,7 @@ fn find_entry<F: Flash>(
     ensures found { IfOk result (λ u. AreFoundBefore config.now (reading_of_state state.now) (F.state flash.new) nsid (lba + 1) pages.new) }
     ensures bad { CallsFirstBad config.now (reading_of_state state.now) (F.state flash.old) result }
     ensures ends { EndsPages (F.state flash.old) (F.state flash.new) result }
+    ensures memory { IfErr result (λ fault. fault ≢ NoMemory) }
 {
     match entry {
         Some(number) => find_block(flash, config, state, nsid, lba, number, pages, page),
@@ -136,6 +140,7 @@ fn find_block<F: Flash>(
     ensures found { IfOk result (λ u. AreFoundBefore config.now (reading_of_state state.now) (F.state flash.new) nsid (lba + 1) pages.new) }
     ensures bad { CallsFirstBad config.now (reading_of_state state.now) (F.state flash.old) result }
     ensures ends { EndsPages (F.state flash.old) (F.state flash.new) result }
+    ensures memory { IfErr result (λ fault. fault ≢ NoMemory) }
 {
     let geometry = config.geometry();
     let mut spare = [0; 32];

@@ -8,7 +8,7 @@ ghost use Rattle.fdp_image.specs.Areas.{data_pages};
 ghost use Rattle.fdp_image.specs.Checkpoint.{reading_of_state};
 ghost use Rattle.fdp_opening.specs.Found.{AreFound, CallsFirstBad, CallsNoneBad, EndsPages, KeepsBlocks};
 ghost use Rattle.fdp_recovery.specs.Blocks.{StandApart};
-ghost use Rattle.fdp_recovery.specs.fdp_state.Fits.{blocks_of_all};
+ghost use Rattle.fdp_image.specs.Fits.{blocks_of_all};
 ghost use Rattle.fdp_recovery.specs.fdp_state.Loaded.{IsDriveState};
 
 use crate::blocks::find_blocks;

@@ -1,17 +1,21 @@
 -- The outline behind a saved change that makes no event.
-use Rattle.std.proofs.Common.{◌≡◌, ℕ, ◌≤◌, ◌++◌, Bool, true, false, List, [], length, Option, Some, None, refl, ap, sym, ◌∙◌, subst}
-use Rattle.std.specs.Prelude.{◌==◌, ◌&&◌, flat_map, if◌then◌else◌, option_map}
+use Rattle.std.proofs.Common.{◌≡◌, ℕ, ◌<◌, ◌≤◌, ◌++◌, Bool, true, false, List, [], length, Option, Some, None, refl, ap, sym, ◌∙◌, subst, arith}
+use Rattle.std.specs.Prelude.{◌==◌, ◌&&◌, IsTrue, nat_lt, flat_map, if◌then◌else◌, option_map}
 use Rattle.std.specs.List.{enumerate_from}
+use Rattle.std.proofs.lemmas.Bool.{and_parts, ltb-true}
 use Rattle.fdp_base.specs.declared.command.Range.{Range}
 use Rattle.fdp_base.specs.declared.config.DriveConfig.{DriveConfig}
 use Rattle.fdp_base.specs.declared.entry.Totals.{Totals}
 use Rattle.fdp_base.specs.declared.event.Event.{Event}
 use Rattle.fdp_base.specs.declared.event.EventKind.{EventKind}
+use Rattle.fdp_base.specs.Placement.{handle_count}
 use Rattle.fdp_image.specs.Applied.{applied}
+use Rattle.fdp_image.specs.BadFields.{AreKnownMasks}
 use Rattle.fdp_image.specs.ChangeEvents.{closed_event, events_of_change, kept_of_change}
 use Rattle.fdp_image.specs.Changed.{pages_after, reporting}
 use Rattle.fdp_image.specs.Checkpoint.{in_place, namespace_of, reading_of_state, reports_in}
 use Rattle.fdp_image.specs.CheckpointRows.{has_kind}
+use Rattle.fdp_image.specs.Fits.{are_born, fits, handles_in, names_what_is}
 use Rattle.fdp_image.specs.Outline.{outline_before}
 use Rattle.fdp_image.specs.Reading.{Reading}
 use Rattle.fdp_records.specs.declared.change.Change.TheVariants as changes
@@ -40,6 +44,7 @@ outline-quiet : (c : DriveConfig) (x : Reading) (s : Summary) (totals : Totals) 
 unfolding reading_of_state
 outline-quiet c x s totals pages fits h = record {
   sizes = h.sizes;
+  rows = h.rows;
   says =
       ap (λ (xs : List Event). record (said s) { totals = totals; pages = pages; host_events = xs }) (latest-few s.host_events fits.host)
       ∙ ap (λ (xs : List Event). record (said s) { totals = totals; pages = pages; host_events = latest (s.host_events ++ []); controller_events = xs }) (latest-few s.controller_events fits.controller)
@@ -52,6 +57,7 @@ outline-spaces : (c : DriveConfig) (r : Reading) (s : Summary) (spaces : List (O
 unfolding reading_of_state
 outline-spaces c r s spaces f is h = record {
   sizes = h.sizes;
+  rows = record { masks = h.rows.masks; events = h.rows.events };
   says =
       ap (λ (g : ℕ → Option Namespace). record (said s) { totals = r.totals; pages = r.pages; namespaces = g }) (λ i. λ n. is n i)
       ∙ ap (λ (y : Reading). record y { namespaces = f }) h.says;
@@ -112,31 +118,48 @@ outline-updated c r s now totals nsid closed pids is h =
 
 -- ---- the setting, and which kinds of event are kept
 
-pub outline-set : (c : DriveConfig) (r : Reading) (s : Summary) (totals : Totals) (enabled : Bool) (index generation : ℕ) (masks : List ℕ) → IsSummary s → ((ruh : ℕ) (kind : EventKind) → reports_in masks ruh kind ≡ false)
+pub outline-set : (c : DriveConfig) (r : Reading) (s : Summary) (totals : Totals) (enabled : Bool) (index generation : ℕ) (masks : List ℕ) → IsSummary s → ((ruh : ℕ) (kind : EventKind) → reports_in masks ruh kind ≡ false) → ((count : ℕ) → AreKnownMasks count masks)
     → IsOutlineOf c r s → IsOutlineOf c (applied c r (changes.SetFdp enabled index generation, totals)) (record s { enabled = enabled; index = index; generation = generation; masks = masks })
 unfolding applied kept_of_change events_of_change reading_of_state
-outline-set c r s totals enabled index generation masks fits none h =
+outline-set c r s totals enabled index generation masks fits none known h =
     let x : Reading = record r { enabled = enabled; index = index; generation = generation; reports = λ ruh kind. false } in
     outline-quiet c x (record s { enabled = enabled; index = index; generation = generation; masks = masks }) totals (pages_after c r (changes.SetFdp enabled index generation))
     (record { host = fits.host_count; controller = fits.controller_count })
     (record {
       sizes = h.sizes;
+      rows = record { masks = known (handle_count c enabled index); events = h.rows.events };
       says =
           ap (λ (f : ℕ → EventKind → Bool). record (said s) { totals = r.totals; pages = r.pages; enabled = enabled; index = index; generation = generation; reports = f }) (λ i. λ ruh kind. none ruh kind i)
           ∙ ap (λ (y : Reading). record y { enabled = enabled; index = index; generation = generation; reports = λ ruh kind. false }) h.says;
     })
 
+-- a setting of events that fits is of a handle and of kinds that there are
+kinds-fit : (c : DriveConfig) (r : Reading) (totals : Totals) (ruh mask : ℕ) (on : Bool) → IsTrue (fits c r (changes.SetEvents ruh on mask, totals)) → (ruh < handles_in c r) × (mask < 64)
+unfolding names_what_is
+kinds-fit c r totals ruh mask on e =
+    let named = and_parts (are_born r totals.position) (nat_lt ruh (handles_in c r) && nat_lt mask 64) e in
+    let parts = and_parts (nat_lt ruh (handles_in c r)) (nat_lt mask 64) named.1 in
+    (ltb-true ruh (handles_in c r) parts.0, ltb-true mask 64 parts.1)
+
+-- as many handles are in force as an outline says
+pub handles-said : (c : DriveConfig) (r : Reading) (s : Summary) → IsOutlineOf c r s → handles_in c r ≡ handle_count c s.enabled s.index
+unfolding reading_of_state
+handles-said c r s h = ap (λ (x : Reading). handle_count c x.enabled x.index) (sym h.says)
+
 pub outline-kinds : (c : DriveConfig) (r : Reading) (s : Summary) (totals : Totals) (ruh mask : ℕ) (on : Bool) (masks : List ℕ) → IsSummary s
     → ((k : ℕ) (kind : EventKind) → reports_in masks k kind ≡ (if k == ruh && has_kind mask kind then on else reports_in s.masks k kind))
+    → ((count : ℕ) → AreKnownMasks count s.masks → ruh < count → mask < 64 → AreKnownMasks count masks) → IsTrue (fits c r (changes.SetEvents ruh on mask, totals))
     → IsOutlineOf c r s → IsOutlineOf c (applied c r (changes.SetEvents ruh on mask, totals)) (record s { masks = masks })
 unfolding applied kept_of_change events_of_change reading_of_state
-outline-kinds c r s totals ruh mask on masks fits is h =
+outline-kinds c r s totals ruh mask on masks few is known fit h =
+    let there = kinds-fit c r totals ruh mask on fit in
     let kinds : (k : ℕ) (kind : EventKind) → reports_in masks k kind ≡ reporting r ruh on mask k kind =
     λ k kind. is k kind ∙ ap (λ (y : Reading). if k == ruh && has_kind mask kind then on else y.reports k kind) h.says in
     outline-quiet c (record r { reports = reporting r ruh on mask }) (record s { masks = masks }) totals (pages_after c r (changes.SetEvents ruh on mask))
-    (record { host = fits.host_count; controller = fits.controller_count })
+    (record { host = few.host_count; controller = few.controller_count })
     (record {
       sizes = h.sizes;
+      rows = record { masks = known (handle_count c s.enabled s.index) h.rows.masks (omega (arith, there.0, handles-said c r s h)) there.1; events = h.rows.events };
       says =
           ap (λ (f : ℕ → EventKind → Bool). record (said s) { totals = r.totals; pages = r.pages; reports = f }) (λ i. λ k kind. kinds k kind i)
           ∙ ap (λ (y : Reading). record y { reports = reporting r ruh on mask }) h.says;

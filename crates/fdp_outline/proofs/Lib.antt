@@ -5,3 +5,4 @@ pub mod Making
 pub mod Places
 pub mod HandleLists
 pub mod Applying
+pub mod Saved

@@ -1,6 +1,6 @@
 -- What a drive is made with, as a checkpoint says it.
 use Rattle.std.proofs.Common.{◌≡◌, ℕ, zero, suc, ◌+◌, ◌-◌, ◌*◌, ◌^◌, ◌<◌, ◌≤◌, Bool, true, false, List, [], ◌∷◌, ◌++◌, length, map, Option, Some, None, refl, ap, sym, ◌∙◌, arith, subst, ⊎_elim, get_or, replicate, eq-eqb, ◌≢◌}
-use Rattle.std.specs.Prelude.{All, ◌==◌, ◌&&◌, find, if◌then◌else◌, nat_le, nat_lt, option_map, slice_get, sum_by}
+use Rattle.std.specs.Prelude.{All, IsTrue, not, ◌==◌, ◌&&◌, find, if◌then◌else◌, nat_le, nat_lt, option_map, slice_get, sum_by}
 use Rattle.std.specs.List.{enumerate_from, list_all}
 use Rattle.std.specs.Option.{option_and_then}
 use Rattle.std.proofs.lemmas.Bool.{and_parts, cases_lt, le-leb, le-ltb, lt-leb}
@@ -19,11 +19,14 @@ use Rattle.fdp_base.specs.declared.event.EventKind.{EventKind}
 use Rattle.fdp_base.specs.declared.event.EventKind.TheVariants as kinds
 use Rattle.fdp_base.specs.Config.{IsValidConfig, IsValidNamespace}
 use Rattle.fdp_base.specs.Placement.{handle_count}
+use Rattle.fdp_events.proofs.MaskBits.{known_none}
 use Rattle.fdp_history.proofs.Spaces.{in_force-within}
+use Rattle.fdp_image.specs.BadFields.{StandByClass}
 use Rattle.fdp_image.specs.Checkpoint.{in_place, namespace_of, reading_of_state, reports_in}
 use Rattle.fdp_image.specs.CheckpointFields.{are_rows, is_persistent, is_row, same_keys}
 use Rattle.fdp_image.specs.CheckpointRows.{has_kind, is_namespace_id}
 use Rattle.fdp_image.specs.Reads.{fresh_reading}
+use Rattle.fdp_rules.specs.Events.{is_host_event}
 use Rattle.fdp_rules.specs.History.{FoundNamespace, first_state, fresh, made_namespace, namespace_in}
 use Rattle.fdp_rules.specs.PlainState.{Namespace}
 use Rattle.fdp_snapshot.specs.declared.keys.Keys.{Keys}
@@ -165,10 +168,17 @@ made c keys spaces hosts controllers = record {
   controller_events = controllers;
 }
 
+no-events : (hosts controllers : List Event) → hosts ≡ [] → controllers ≡ [] → StandByClass hosts controllers
+no-events hosts controllers none none_too = record {
+  host = subst (λ (es : List Event). All (λ (e : Event). IsTrue (is_host_event e)) es) (sym none) (All-nil (λ (e : Event). IsTrue (is_host_event e)));
+  controller = subst (λ (es : List Event). All (λ (e : Event). IsTrue (not (is_host_event e))) es) (sym none_too) (All-nil (λ (e : Event). IsTrue (not (is_host_event e))));
+}
+
 pub fresh-outline : (c : DriveConfig) (keys : Keys) (spaces : List (Option Space)) (hosts controllers : List Event) → list_all (λ same. same) (same_keys c keys) ≡ true → ArePlaced c.namespaces 16 spaces → length c.namespaces ≤ 16 → hosts ≡ [] → controllers ≡ [] → IsOutlineOf c (fresh_reading c) (made c keys spaces hosts controllers)
 unfolding fresh_reading first_state fresh reading_of_state
 fresh-outline c keys spaces hosts controllers same placed few none none_too = record {
   sizes = same;
+  rows = record { masks = known_none 16 (handle_count c c.enabled c.index); events = no-events hosts controllers none none_too };
   says = λ i. record (fresh_reading c) {
     reports = λ ruh kind. none-reported ruh kind i;
     namespaces = λ nsid. places-say c.namespaces spaces placed few nsid i;

@@ -21,7 +21,7 @@ use Rattle.fdp_snapshot.specs.Rows.{IsEntry}
 use Rattle.fdp_outline.specs.Outline.{IsOutlineOf, IsWritable}
 use Rattle.fdp_outline.specs.Pages.{ArePagesOf, size_in_lists}
 
-one-less : (k : ℕ) → suc k - 1 ≡ k
+pub one-less : (k : ℕ) → suc k - 1 ≡ k
 one-less k = omega arith
 
 pub is-id : (k : ℕ) → k < 16 → is_namespace_id (suc k) ≡ true

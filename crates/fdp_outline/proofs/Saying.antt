@@ -3,11 +3,12 @@ use Rattle.std.proofs.Common.{◌≡◌, ℕ, List, [], ◌++◌, Option, refl, 
 use Rattle.fdp_base.specs.declared.config.DriveConfig.{DriveConfig}
 use Rattle.fdp_base.specs.declared.entry.Totals.{Totals}
 use Rattle.fdp_base.specs.declared.event.Event.{Event}
+use Rattle.fdp_events.proofs.KnownRows.{class-more}
 use Rattle.fdp_rules.specs.Events.{is_host_event, latest}
 use Rattle.fdp_snapshot.specs.declared.state.Summary.{Summary}
 use Rattle.fdp_image.specs.Checkpoint.{page_in_lists, reading_of_state}
 use Rattle.fdp_image.specs.Reading.{Reading}
-use Rattle.fdp_outline.specs.Events.{AddsEvents, with_events, with_kept}
+use Rattle.fdp_outline.specs.Events.{AddsEvents, kept_by, with_events, with_kept}
 use Rattle.fdp_outline.specs.Outline.{IsOutlineOf}
 
 pub says-reading : (c : DriveConfig) (r : Reading) (s : Summary) (lists : List (List (Option ℕ))) → IsOutlineOf c r s → s.totals ≡ r.totals → ((nsid lba : ℕ) → page_in_lists lists nsid lba ≡ r.pages nsid lba) → reading_of_state (record { summary = s; pages = lists }) ≡ r
@@ -34,12 +35,16 @@ with_those es new x = record x {
 
 pub outline-more : (c : DriveConfig) (old new : Reading) (es : List Event) (s : Summary) → IsOutlineOf c old s → AddsEvents old es new → IsOutlineOf c new (with_events s es)
 unfolding reading_of_state with_kept
-outline-more c old new es s h adds = record { sizes = h.sizes; says = ap (with_those es new) h.says ∙ sym adds.same }
+outline-more c old new es s h adds = record {
+  sizes = h.sizes;
+  says = ap (with_those es new) h.says ∙ sym adds.same;
+  rows = record { masks = h.rows.masks; events = class-more s.host_events s.controller_events (kept_by s es) h.rows.events };
+}
 
 pub outline-totals : (c : DriveConfig) (r : Reading) (s : Summary) (totals : Totals) → IsOutlineOf c r s → IsOutlineOf c r (record s { totals = totals })
 unfolding reading_of_state
-outline-totals c r s totals h = record { sizes = h.sizes; says = h.says }
+outline-totals c r s totals h = record { sizes = h.sizes; says = h.says; rows = record { masks = h.rows.masks; events = h.rows.events } }
 
 pub outline-later : (c : DriveConfig) (r : Reading) (s : Summary) (totals : Totals) → IsOutlineOf c r s → IsOutlineOf c (record r { totals = totals }) s
 unfolding reading_of_state
-outline-later c r s totals h = record { sizes = h.sizes; says = ap (λ (x : Reading). record x { totals = totals }) h.says }
+outline-later c r s totals h = record { sizes = h.sizes; says = ap (λ (x : Reading). record x { totals = totals }) h.says; rows = h.rows }

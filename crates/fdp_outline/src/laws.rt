@@ -1,14 +1,18 @@
-ghost use Rattle.std.specs.Prelude.{◌≡◌, ℕ, List, Option, sum_by};
+ghost use Rattle.std.specs.Prelude.{◌≡◌, ◌<◌, ◌≤◌, ℕ, List, Option, Some, length, sum_by};
 ghost use Rattle.fdp_base.specs.declared.config.DriveConfig.{DriveConfig};
 ghost use Rattle.fdp_base.specs.declared.entry.Totals.{Totals};
 ghost use Rattle.fdp_base.specs.declared.event.Event.{Event};
 ghost use Rattle.fdp_snapshot.specs.declared.state.Summary.{Summary};
 ghost use Rattle.fdp_image.specs.Checkpoint.{reading_of_state};
 ghost use Rattle.fdp_image.specs.Reading.{Reading, size_in};
-ghost use Rattle.fdp_image.specs.Replacing.{NamesSizes};
+ghost use Rattle.fdp_image.specs.Fits.{blocks_of_all, handles_in};
+ghost use Rattle.fdp_image.specs.Replacing.{IsSavedBy, NamesSizes};
+ghost use Rattle.fdp_image.specs.Valid.{IsGoodNamespace};
 ghost use Rattle.fdp_outline.specs.Events.{AddsEvents, with_events};
 ghost use Rattle.fdp_outline.specs.Outline.{IsOutlineOf, IsWritable};
 ghost use Rattle.fdp_outline.specs.Pages.{ArePagesOf};
+ghost use Rattle.fdp_base.specs.Placement.{full_budget};
+ghost use Rattle.fdp_rules.specs.PlainState.{Namespace};
 ghost use Rattle.fdp_rules.specs.Room.{namespace_ids};
 ghost use Rattle.fdp_snapshot.specs.Checkpoint.{IsState};
 ghost use Rattle.fdp_snapshot.specs.Reading.{blocks_in};
@@ -31,4 +35,10 @@ pub fn events_keep_an_outline()
 pub fn an_outline_with_its_pages_has_room()
     ensures state { (c : DriveConfig) (r : Reading) (s : Summary) (lists : List (List (Option ℕ))) → IsOutlineOf c r s → IsWritable s → ArePagesOf r lists → IsState (record { summary = s; pages = lists }) }
     ensures blocks { (c : DriveConfig) (r : Reading) (s : Summary) → IsOutlineOf c r s → IsWritable s → blocks_in s.spaces ≡ sum_by (size_in r) namespace_ids }
+{}
+
+/// An outline of what a drive may say, an index of its configuration and namespaces that it may have, is one that the drive saves: each field is such
+/// as an opening takes.
+pub fn an_outline_is_saved()
+    ensures { (c : DriveConfig) (r : Reading) (s : Summary) (lists : List (List (Option ℕ))) → IsOutlineOf c r s → IsWritable s → s.totals ≡ r.totals → r.index < length c.fdp → ((nsid : ℕ) (x : Namespace) → r.namespaces nsid ≡ Some x → IsGoodNamespace (handles_in c r) r.totals.position x) → blocks_of_all r ≤ full_budget c (handles_in c r) → IsSavedBy c (record { summary = s; pages = lists }) }
 {}

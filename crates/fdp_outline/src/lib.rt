@@ -11,7 +11,8 @@ mod spaces;
 
 pub use fresh::fresh_summary;
 pub use laws::{
-    an_outline_says_the_reading, an_outline_with_its_pages_has_room, events_keep_an_outline,
+    an_outline_is_saved, an_outline_says_the_reading, an_outline_with_its_pages_has_room,
+    events_keep_an_outline,
 };
 pub use moved_block::MovedBlock;
 pub use outline::Outline;

@@ -1,10 +1,11 @@
-ghost use Rattle.std.specs.Prelude.{◌≡◌, ◌+◌, ◌<◌, ◌≤◌, [], ◌∷◌, IfOk, None, length, All, flat_map, map};
+ghost use Rattle.std.specs.Prelude.{◌≡◌, ◌+◌, ◌<◌, ◌≤◌, [], ◌∷◌, IfOk, None, length, All, flat_map, map, IsTrue};
 ghost use Rattle.fdp_base.specs.Numbers.{numbers_below};
 ghost use Rattle.fdp_base.specs.declared.config.DriveConfig.{DriveConfig};
 ghost use Rattle.fdp_base.specs.declared.entry.Totals.{Totals as Sums};
 ghost use Rattle.fdp_base.specs.Geometry.{IsWithin};
 ghost use Rattle.fdp_image.specs.Applied.{applied};
 ghost use Rattle.fdp_image.specs.Checkpoint.{in_place};
+ghost use Rattle.fdp_image.specs.Fits.{fits};
 ghost use Rattle.fdp_image.specs.Reading.{Reading};
 ghost use Rattle.fdp_records.specs.declared.change.Change.TheVariants as changes;
 ghost use Rattle.fdp_rules.specs.Events.{handle_event, invalid_identifier, not_fully_written, reallocated};
@@ -70,7 +71,7 @@ impl Outline {
         ensures summary { result.now ≡ self.now }
         ensures writable { IsWritable result.now }
     {
-        let _ = &self.host;
+        let _ = &self.host; // proof
         &self.summary
     }
 
@@ -78,7 +79,7 @@ impl Outline {
     pub fn known(&self)
         ensures { IsWritable self.now }
     {
-        let _ = &self.summary;
+        let _ = &self.summary; // proof
     }
 
     /// The position of the last entry and the sums there.
@@ -166,10 +167,11 @@ impl Outline {
         self.summary.masks = no_reports();
     }
 
-    /// Keeps which kinds of event are kept for a handle from now on: those of a mask too, or they no longer.
+    /// Keeps which kinds of event are kept for a handle from now on: those of a mask too, or they no longer, where the handle and the
+    /// kinds are such as there are.
     pub fn keep_kinds(&mut self, ruh: u8, on: bool, mask: u8)
         requires { ruh < 16 }
-        ensures { (c : DriveConfig) (r : Reading) (totals : Sums) → IsOutlineOf c r self.old → IsOutlineOf c (applied c r (changes.SetEvents ruh on mask, totals)) self.new }
+        ensures { (c : DriveConfig) (r : Reading) (totals : Sums) → IsTrue (fits c r (changes.SetEvents ruh on mask, totals)) → IsOutlineOf c r self.old → IsOutlineOf c (applied c r (changes.SetEvents ruh on mask, totals)) self.new }
     {
         set_reports(&mut self.summary.masks, ruh, on, mask);
     }
@@ -178,7 +180,7 @@ impl Outline {
     pub fn keep_moved(&mut self, position: u64, rg: u16, handles: u8, blocks: &[MovedBlock])
         ensures { (s : PlainState) → s.position + 1 ≡ position → self.new ≡ with_events self.old (flat_map (λ ruh. reallocated s rg ruh (names_of_handle blocks.now ruh)) (numbers_below handles)) }
     {
-        self.known();
+        self.known(); // proof
         for ruh in 0..handles {
             self.keep_moved_of(position, rg, ruh, blocks);
         }
@@ -206,7 +208,7 @@ impl Outline {
     pub fn keep_reopened(&mut self, position: u64, groups: u16, handles: u8)
         ensures { (s : PlainState) → s.position + 1 ≡ position → self.new ≡ with_events self.old (flat_map (λ rg. map (handle_event s EventKind.HandlesModified rg) (numbers_below handles)) (numbers_below groups)) }
     {
-        self.known();
+        self.known(); // proof
         for rg in 0..groups {
             self.keep_reopened_in(position, rg, handles);
         }
@@ -216,7 +218,7 @@ impl Outline {
     fn keep_reopened_in(&mut self, position: u64, rg: u16, handles: u8)
         ensures { (s : PlainState) → s.position + 1 ≡ position → self.new ≡ with_events self.old (map (handle_event s EventKind.HandlesModified rg) (numbers_below handles)) }
     {
-        self.known();
+        self.known(); // proof
         for ruh in 0..handles {
             self.keep_modified(position, rg, ruh);
         }

@@ -74,7 +74,7 @@ impl Pages {
     pub fn joined(&self)
         ensures { AreJoined self.now }
     {
-        let _ = &self.units;
+        let _ = &self.units; // proof
     }
 
     /// The handles, and what each references.

@@ -55,6 +55,7 @@ fn open_target(passes: &mut GroupPasses, units: &mut Units, lane: Lane, rg: u16,
             passes.take_target(lane, unit);
             unit
         }
+        // It is asked only where a place can be had.
         Place::Worn => unreachable!(),
         Place::Full => unreachable!(),
     }

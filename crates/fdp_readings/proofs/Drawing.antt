@@ -99,7 +99,7 @@ space-there s nsid lba low = cases (s.namespaces nsid) refl low where
   cases None e low = absurd (omega (arith, low))
   cases (Some n) e low = (n, e)
 
-data-page : (c : DriveConfig) (spot : Spot) → IsPage c spot → page_number (geometry_of c) spot < data_pages (geometry_of c)
+pub data-page : (c : DriveConfig) (spot : Spot) → IsPage c spot → page_number (geometry_of c) spot < data_pages (geometry_of c)
 data-page c spot is = let fits = row_fits spot.unit c.unit_pages (c.groups * c.units) c.unit_pages is.0 (omega arith) in omega (arith, fits, is.1)
 
 -- two data pages that are one cell name one block

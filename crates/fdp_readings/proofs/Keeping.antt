@@ -31,7 +31,7 @@ use Rattle.fdp_rules.specs.PlainState.{Block, lasting}
 -- ---- cells that keep the named pages
 
 module _ (c : DriveConfig) (r : Reading) (old new : List Cell) (keeps : KeepsNamed r old new) where
-  block-kept : (nsid lba : ℕ) → block_read c new r nsid lba ≡ block_read c old r nsid lba
+  pub block-kept : (nsid lba : ℕ) → block_read c new r nsid lba ≡ block_read c old r nsid lba
   block-kept nsid lba = cases (r.pages nsid lba) refl where
     cases : (o : Option ℕ) → r.pages nsid lba ≡ o
         → option_and_then (λ page. option_and_then (block_from c r nsid lba page) (slice_get new page)) o ≡ option_and_then (λ page. option_and_then (block_from c r nsid lba page) (slice_get old page)) o

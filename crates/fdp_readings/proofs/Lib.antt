@@ -12,3 +12,5 @@ pub mod Saving
 pub mod Moving
 pub mod Passing
 pub mod Commanding
+pub mod Ways
+pub mod Fitting

@@ -1,5 +1,5 @@
 -- The changes by which the entries of a history are saved.
-use Rattle.std.specs.Prelude.{◌≡◌, ℕ, ◌+◌, ◌<◌, ◌++◌, All, Bool, false, List, [], ◌∷◌, Option, Some, filter, flat_map, is_some, length, map, not, slice_get}
+use Rattle.std.specs.Prelude.{◌≡◌, ℕ, ◌+◌, ◌<◌, ◌++◌, All, Bool, false, IsTrue, List, [], ◌∷◌, Option, Some, filter, flat_map, is_some, length, map, not, slice_get}
 use Rattle.std.specs.Option.{option_map_or}
 use Rattle.fdp_base.specs.declared.command.Command.{Command}
 use Rattle.fdp_base.specs.declared.command.Write.{Write}
@@ -13,8 +13,9 @@ use Rattle.fdp_base.specs.CommandKinds.{blocks_written}
 use Rattle.fdp_base.specs.Placement.{geometry_of}
 use Rattle.fdp_flash.specs.Layout.{page_number}
 use Rattle.fdp_image.specs.Applied.{applied}
-use Rattle.fdp_image.specs.Bits.{has_bit}
+use Rattle.fdp_image.specs.Bits.{has_bit, pages_of_set}
 use Rattle.fdp_image.specs.Changed.{page_numbers}
+use Rattle.fdp_image.specs.Fits.{fits}
 use Rattle.fdp_owners.specs.declared.owner.Owner.{Owner}
 use Rattle.fdp_readings.specs.Drawn.{drawn}
 use Rattle.fdp_records.specs.declared.change.Change.{Change}
@@ -26,6 +27,7 @@ use Rattle.fdp_rules.specs.Next.{next, totals_with}
 use Rattle.fdp_rules.specs.PlainState.{Block, Going, PageName.written, PlainState}
 use Rattle.fdp_rules.specs.Point.{Point}
 use Rattle.fdp_rules.specs.Sites.{blocks_at, group_of, moved_blocks, moved_by, pass_in, site_of}
+use Rattle.fdp_rules.specs.Step.{IsDataUnit}
 use Rattle.fdp_rules.specs.Target.{named_by}
 use Rattle.fdp_locations.specs.fdp_trails.Followed.{copy_of}
 use Rattle.fdp_locations.specs.fdp_trails.Moves.{name_at}
@@ -37,6 +39,15 @@ completed queue number command reply moment = entries.Host (record { queue = que
 -- a change saves an entry: with it what was drawn before the entry is what is drawn after it, with the sums that the entry leaves
 abbrev pub Saves : DriveConfig → Point → Change → Entry → Type 0
 Saves c p change e = applied c (drawn c p) (change, totals_with p.totals e) ≡ drawn c (next c p e)
+
+-- a change fits what is drawn before the entry that it saves
+abbrev pub FitsDrawn : DriveConfig → Point → Change → Entry → Type 0
+FitsDrawn c p change e = IsTrue (fits c (drawn c p) (change, totals_with p.totals e))
+
+-- a data unit, and pages of it
+pub record ArePagesOfUnit (c : DriveConfig) (x : UnitPages) : Type 0 where
+  pub unit : IsDataUnit c x.unit
+  pub pages : All (λ page. page < c.unit_pages) (pages_of_set x.pages)
 
 -- the pages of a going write, one for each of its blocks
 pub record AreItsPages (p : Point) (g : Going) (spots : List Spot) : Type 0 where

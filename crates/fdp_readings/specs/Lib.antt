@@ -8,3 +8,4 @@ pub mod Drawn
 pub mod Holding
 pub mod Lasting
 pub mod Named
+pub mod Ways

@@ -3,6 +3,7 @@
 
 mod commanded;
 mod drawn;
+mod fits;
 mod kept;
 mod lasting;
 mod saved;
@@ -13,6 +14,7 @@ pub use drawn::{
     led_pages_hold_their_blocks,
 };
 pub use fdp_locations::{Lost, Pages, Step};
+pub use fits::saved_changes_fit;
 pub use kept::{
     calls_keep_named_pages, calls_of_data_keep_system_pages, named_pages_keep_a_reading,
     system_pages_keep_an_image,

@@ -115,17 +115,17 @@ impl Change {
                 pages,
                 ..
             } => {
-                let _nsid = *nsid;
+                let _nsid = *nsid; // proof
                 put(into, 40, &slba.to_le_bytes());
                 put(into, 48, &pid.to_le_bytes());
                 put_all(into, 56, pages.as_slice());
             }
             Change::Clear { nsid, ranges } => {
-                let _nsid = *nsid;
+                let _nsid = *nsid; // proof
                 put_all(into, 40, ranges.as_slice());
             }
             Change::Update { nsid, closed, pids } => {
-                let _nsid = *nsid;
+                let _nsid = *nsid; // proof
                 put(into, 40, &closed.to_le_bytes());
                 put_all(into, 48, pids.as_slice());
             }
@@ -135,12 +135,12 @@ impl Change {
                 handles,
                 ..
             } => {
-                let _nsid = *nsid;
+                let _nsid = *nsid; // proof
                 put(into, 40, &size.to_le_bytes());
                 put_all(into, 48, handles.as_slice());
             }
             Change::Delete { nsid } => {
-                let _nsid = *nsid;
+                let _nsid = *nsid; // proof
             }
             Change::SetFdp {
                 enabled,

@@ -21,13 +21,14 @@ use Rattle.fdp_snapshot.specs.declared.state.Summary.{Summary}
 use Rattle.fdp_snapshot.specs.Checkpoint.{IsState}
 use Rattle.fdp_snapshot.specs.Reading.{blocks_in, size_of_row}
 use Rattle.fdp_snapshot.specs.Rows.{IsSpaceRow}
-use Rattle.fdp_state.specs.Fits.{blocks_of_all, is_handle_list}
+use Rattle.fdp_image.specs.Fits.{blocks_of_all, is_handle_list}
 use Rattle.fdp_state.specs.Good.{IsGood}
+use Rattle.fdp_state.proofs.fdp_events.KnownRows.{rows-known}
 use Rattle.fdp_state.proofs.Keeping.{list-of}
 use Rattle.fdp_state.proofs.Loadable.{loadable}
 use Rattle.fdp_state.proofs.Spacing.{space_size}
 use Rattle.fdp_state.proofs.Stating.{all-read, lies-within, placed}
-use Rattle.fdp_recovery.specs.Fields.{bad_field, bad_row, bad_space, may_stand, or_else}
+use Rattle.fdp_image.specs.BadFields.{HasKnownRows, bad_field, bad_row, bad_space, may_stand, or_else}
 
 -- ---- none of several is there
 
@@ -137,6 +138,10 @@ spaces-none : (c : DriveConfig) (count : ℕ) (s : Summary) → bad_row c count 
 unfolding bad_row
 spaces-none c count s none =
     none-of (λ i. 128 + 40 * i) (bad_space count s.totals.position (full_budget c count) s.spaces) (none-first _ _ (none-second _ _ (none-second _ _ none)))
+
+-- its rows are those of a drive with the handles in force
+pub rows-good : (c : DriveConfig) (s : Summary) → bad_field c s ≡ None → HasKnownRows (handle_count c s.enabled s.index) s
+rows-good c s none = rows-known c (handle_count c s.enabled s.index) s (rows-none c s none)
 
 pub field-good : (c : DriveConfig) (s : State) → IsState s → s.summary.index < length c.fdp → bad_field c s.summary ≡ None → IsGood c (reading_of_state s)
 unfolding reading_of_state

@@ -23,11 +23,11 @@ use Rattle.fdp_snapshot.specs.declared.state.State.{State}
 use Rattle.fdp_snapshot.specs.declared.state.Summary.{Summary}
 use Rattle.fdp_snapshot.specs.Checkpoint.{IsState, checkpoint_size}
 use Rattle.fdp_state.proofs.Loadable.{loadable}
-use Rattle.fdp_recovery.specs.Fields.{bad_field, bad_row}
+use Rattle.fdp_image.specs.BadFields.{bad_field, bad_row}
 use Rattle.fdp_recovery.specs.Keys.{keys_of_area, other_key}
 use Rattle.fdp_recovery.specs.Reading.{HasSameKeys, SaysNoCheckpoint, SaysState}
 use Rattle.fdp_recovery.specs.Ready.{IsReady}
-use Rattle.fdp_recovery.proofs.Fielded.{field-good}
+use Rattle.fdp_recovery.proofs.Fielded.{field-good, rows-good}
 use Rattle.fdp_recovery.proofs.SameKeys.{keys_held, none_held, same_both}
 
 -- a key that differs is that of the area
@@ -91,7 +91,7 @@ some_block block is = grind (arith, nat_tests)
 pub judged_ready : (c : DriveConfig) (g : Geometry) (s : State) → IsState s → other_key c g (Some s.summary.keys) ≡ None → bad_field c s.summary ≡ None → IsReady c g s
 judged_ready c g s is none good =
     let same = same_both c g s.summary.keys none in
-    record { cut = same.cut; state = record { writable = is; keys = same.keys; good = field-good c s is (index_good c s.summary good) good }; loadable = loadable s is }
+    record { cut = same.cut; state = record { writable = is; keys = same.keys; good = field-good c s is (index_good c s.summary good) good; rows = rows-good c s.summary good }; loadable = loadable s is }
 
 -- a field of the fixed part stands within the area
 pub page_within : (g : Geometry) (x : Current) (s : Summary) (at : ℕ) → IsValidGeometry g → LiesIn g x → checkpoint_size s ≤ x.seal.checkpoint * g.block → at < 5120 → at / g.block < area_pages g

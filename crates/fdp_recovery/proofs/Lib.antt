@@ -11,3 +11,5 @@ pub mod Bounds
 pub mod Sound
 pub mod Passing
 pub mod Valid
+pub mod SameDrive
+pub mod Taken

@@ -11,7 +11,7 @@ use Rattle.fdp_image.specs.Reading.{Reading}
 use Rattle.fdp_state.specs.fdp_replay.Replay.{IsBadAt, IsReplayed, IsUnfitAt}
 use Rattle.fdp_snapshot.specs.declared.state.State.{State}
 use Rattle.fdp_snapshot.specs.Reading.{state_in}
-use Rattle.fdp_state.specs.Fits.{fits}
+use Rattle.fdp_image.specs.Fits.{fits}
 use Rattle.fdp_recovery.specs.Reading.{SaysNone, SaysSound, SaysState}
 
 -- the state of a checkpoint says what its bytes do

@@ -1,6 +1,6 @@
 -- What sound images say, and what they cannot be.
-use Rattle.std.proofs.Common.{◌≡◌, ◌⊎◌, ℕ, zero, suc, Bool, true, false, List, [], ◌∷◌, length, take, Option, Some, None, refl, sym, ap, ◌∙◌, arith, inl, inr}
-use Rattle.std.specs.Prelude.{◌&&◌, ◌==◌, if◌then◌else◌, fold, map, nat_lt, option_map, slice_get}
+use Rattle.std.proofs.Common.{◌≡◌, ◌⊎◌, ℕ, zero, suc, true, false, List, [], ◌∷◌, length, take, Option, Some, None, refl, sym, ap, ◌∙◌, arith, inl, inr}
+use Rattle.std.specs.Prelude.{◌&&◌, ◌==◌, fold, map, nat_lt, option_map, slice_get}
 use Rattle.std.specs.List.{concat}
 use Rattle.std.specs.Option.{option_and_then, option_map_or}
 use Rattle.std.proofs.lemmas.Bool.Decides.{nat_tests}
@@ -15,16 +15,16 @@ use Rattle.fdp_flash.specs.declared.cell.Cell.TheVariants.{Blank, Torn, Whole}
 use Rattle.fdp_image.specs.Applied.{applied}
 use Rattle.fdp_image.specs.Areas.{Sealed, current_area, data_pages}
 use Rattle.fdp_image.specs.Checkpoint.{said_by_checkpoint}
+use Rattle.fdp_image.specs.Fits.{all_fit, fits}
 use Rattle.fdp_image.specs.Reading.{Reading, group_of_page}
 use Rattle.fdp_image.specs.Reads.{all_of, changes_in, reads_as, said_by_area}
 use Rattle.fdp_image.specs.Valid.{is_named}
+use Rattle.fdp_image.proofs.Fitting.{said_by-made, said_by-parts, sound-made, sound-parts}
 use Rattle.fdp_image.proofs.NextRecord.{read_by}
 use Rattle.fdp_records.specs.declared.change.Change.{Change}
 use Rattle.fdp_records.specs.Reading.{decoded}
 use Rattle.fdp_records.specs.Spares.{said_by_data}
-use Rattle.fdp_state.specs.fdp_replay.Records.{all_fit}
 use Rattle.fdp_state.specs.fdp_replay.Replay.{IsBadAt, IsReplayed, IsUnfitAt}
-use Rattle.fdp_state.specs.Fits.{fits}
 use Rattle.fdp_state.specs.Parts.{handles_at}
 use Rattle.fdp_recovery.specs.Bad.{IsBadPage, IsBadRecord}
 use Rattle.fdp_recovery.specs.Blocks.{AreKept, holds, is_kept, is_one_of, names_block}
@@ -37,14 +37,34 @@ whole_journal_told : (c : DriveConfig) (journal : List (List ℕ)) (old new : Re
 whole_journal_told c journal old new h = ap changes_in (sym (take_all (length journal) journal (omega arith))) ∙ h.told
 
 said_sound : (c : DriveConfig) (z : Sealed) (r : Reading) → IsSoundArea c z r → said_by_area c z ≡ Some r
-unfolding said_by_area
 said_sound c z r h =
-    let first = said_by_checkpoint (concat z.checkpoint) in
-    ap (λ (b : Bool). if b then option_map (fold (applied c) first) (changes_in z.journal) else None) h.checkpoint.whole
-    ∙ ap (option_map (fold (applied c) first)) (whole_journal_told c z.journal first r h.journal) ∙ ap Some (sym h.journal.reading)
+    said_by-made c z r (record {
+      sound = sound-made c z (record { whole = h.checkpoint.whole; fields = h.checkpoint.fields });
+      changes = h.journal.changes;
+      told = whole_journal_told c z.journal (said_by_checkpoint (concat z.checkpoint)) r h.journal;
+      after = record { fit = h.journal.fit; said = sym h.journal.reading };
+    })
+
+-- an area says only what is sound
+pub sound_said : (c : DriveConfig) (z : Sealed) (r : Reading) → said_by_area c z ≡ Some r → IsSoundArea c z r
+sound_said c z r e =
+    let h = said_by-parts c z r e in
+    let s = sound-parts c z h.sound in
+    record {
+      checkpoint = record { whole = s.whole; fields = s.fields };
+      journal = record {
+        changes = h.changes;
+        told = ap changes_in (take_all (length z.journal) z.journal (omega arith)) ∙ h.told;
+        fit = h.after.fit;
+        reading = sym h.after.said;
+      };
+    }
 
 pub sound_reads : (c : DriveConfig) (cells : List Cell) (area : ℕ) (z : Sealed) (r : Reading) → current_area (geometry_of c) cells ≡ Some (area, z) → IsSoundArea c z r → reads_as c cells ≡ Some r
 sound_reads c cells area z r current h = read_by c cells area z current ∙ said_sound c z r h
+
+pub reads_sound : (c : DriveConfig) (cells : List Cell) (area : ℕ) (z : Sealed) (r : Reading) → current_area (geometry_of c) cells ≡ Some (area, z) → reads_as c cells ≡ Some r → IsSoundArea c z r
+reads_sound c cells area z r current read = sound_said c z r (sym (read_by c cells area z current) ∙ read)
 
 -- ---- blocks that are kept
 

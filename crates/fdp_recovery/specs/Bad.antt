@@ -12,9 +12,9 @@ use Rattle.fdp_image.specs.Reading.{Reading}
 use Rattle.fdp_image.specs.Reads.{is_checkpoint_of}
 use Rattle.fdp_state.specs.fdp_replay.Replay.{IsBadAt, IsReplayed, IsUnfitAt}
 use Rattle.fdp_snapshot.specs.Reading.{summary_in}
-use Rattle.fdp_state.specs.Fits.{fits}
+use Rattle.fdp_image.specs.Fits.{fits}
 use Rattle.fdp_recovery.specs.Blocks.{IsFirstUnkept}
-use Rattle.fdp_recovery.specs.Fields.{bad_field}
+use Rattle.fdp_image.specs.BadFields.{bad_field}
 use Rattle.fdp_recovery.specs.Sound.{IsSoundArea, IsSoundCheckpoint}
 
 -- the number in the flash of a page of an area

@@ -9,9 +9,9 @@ use Rattle.fdp_image.specs.Reading.{Reading}
 use Rattle.fdp_image.specs.Reads.{is_checkpoint_of}
 use Rattle.fdp_state.specs.fdp_replay.Replay.{IsReplayed}
 use Rattle.fdp_snapshot.specs.Reading.{summary_in}
-use Rattle.fdp_state.specs.Fits.{fits}
+use Rattle.fdp_image.specs.Fits.{fits}
 use Rattle.fdp_recovery.specs.Blocks.{AreKept}
-use Rattle.fdp_recovery.specs.Fields.{bad_field}
+use Rattle.fdp_image.specs.BadFields.{bad_field}
 
 -- the checkpoint of an area is that of a drive of this configuration, and says what such a drive saves
 pub record IsSoundCheckpoint (c : DriveConfig) (z : Sealed) : Type 0 where

@@ -1,6 +1,6 @@
 //! The state that a sealed area says: its checkpoint with the changes of its journal.
 
-ghost use Rattle.std.specs.Prelude.{◌≡◌, ℕ, suc, ◌+◌, ◌*◌, ◌<◌, ◌≤◌, Err, IsTrue, IfOk, Some, length};
+ghost use Rattle.std.specs.Prelude.{◌≡◌, ◌≢◌, ℕ, suc, ◌+◌, ◌*◌, ◌<◌, ◌≤◌, Err, IsTrue, IfErr, IfOk, Some, length};
 ghost use Rattle.std.specs.List.{concat};
 ghost use Rattle.fdp_checkpoint.specs.fdp_areas.Seals.{IsCurrentSeal, LiesIn};
 ghost use Rattle.fdp_base.specs.Config.{IsInRange};
@@ -10,6 +10,7 @@ ghost use Rattle.fdp_flash.specs.Layout.{first_page};
 ghost use Rattle.fdp_flash.specs.OnlyReads.{ReadsOnly};
 ghost use Rattle.fdp_image.specs.Areas.{Sealed, area_unit, current_area};
 ghost use Rattle.fdp_image.specs.Replacing.{IsCheckpointOf};
+ghost use Rattle.fdp_recovery.specs.declared.opened.OpenFault.TheVariants.{NoMemory};
 ghost use Rattle.fdp_recovery.specs.Opened.{EndsOpening};
 ghost use Rattle.fdp_recovery.specs.Reading.{SaysState, TellsArea, TellsCheckpoint};
 ghost use Rattle.fdp_recovery.specs.Ready.{IsReady, NeverFails};
@@ -79,6 +80,7 @@ fn read_checkpoint<F: Flash>(
 fn bad_checkpoint(config: &DriveConfig, geometry: &Geometry, page: u32) -> OpenFault
     ensures told { (area : ℕ) (z : Sealed) → IsBadIn geometry.now area z.stamp.version (concat z.checkpoint) page → TellsCheckpoint config.now geometry.now area z (Err result) }
     ensures quiet { NeverFails {X = State} (Err result) }
+    ensures memory { result ≢ NoMemory }
 {
     match other_cut(config, geometry) {
         Some(key) => OpenFault::OtherConfig { key },
@@ -101,6 +103,7 @@ fn judge(
     ensures told { (z : Sealed) → IsCheckpointOf z.stamp.version geometry.now.block (concat z.checkpoint) state → TellsCheckpoint config.now geometry.now current.now.area z result }
     ensures quiet { NeverFails result }
     ensures ready { IfOk result (IsReady config.now geometry.now) }
+    ensures memory { IfErr result (λ fault. fault ≢ NoMemory) }
 {
     match other_key(config, geometry, &state.summary.keys) {
         Some(key) => return Err(OpenFault::OtherConfig { key }),

@@ -6,13 +6,13 @@ ghost use Rattle.fdp_base.specs.Placement.{full_budget};
 ghost use Rattle.fdp_base.specs.declared.event.Event.{Event as Told};
 ghost use Rattle.fdp_rules.specs.Events.{is_host_event};
 ghost use Rattle.fdp_snapshot.specs.Fixed.{IsSummary};
-ghost use Rattle.fdp_recovery.specs.Fields.{bad_field, bad_row, bad_space, has_any_bit, has_stray_bit, may_stand, or_else, row_at};
+ghost use Rattle.fdp_image.specs.BadFields.{bad_field, bad_row, bad_space, has_any_bit, has_stray_bit, may_stand, or_else, row_at};
 
 use fdp_base::{DriveConfig, Event};
 use fdp_snapshot::{Space, Summary};
 use fdp_state::{full_budget, is_handle_list};
 
-#[tactic(auto, unfolding(crate::specs::Fields::bad_field))]
+#[tactic(auto, unfolding(fdp_image::specs::BadFields::bad_field))]
 /// The offset of the first field of a checkpoint that no drive of the configuration saves so.
 pub fn bad_field(config: &DriveConfig, summary: &Summary) -> Option<u32>
     requires config { IsInRange config.now }
@@ -28,7 +28,7 @@ pub fn bad_field(config: &DriveConfig, summary: &Summary) -> Option<u32>
 }
 
 /// The offset of the first row that no drive saves, where there are so many handles.
-#[tactic(auto, unfolding(crate::specs::Fields::bad_row))]
+#[tactic(auto, unfolding(fdp_image::specs::BadFields::bad_row))]
 fn bad_row(config: &DriveConfig, count: u8, summary: &Summary) -> Option<u32>
     requires config { IsInRange config.now }
     requires count { count ≤ 16 }
@@ -134,7 +134,7 @@ fn is_host_event(event: &Event) -> bool
 }
 
 /// The first place with a namespace that there may not be, of so many handles, by this position and with so much room.
-#[tactic(auto, unfolding(crate::specs::Fields::bad_space))]
+#[tactic(auto, unfolding(fdp_image::specs::BadFields::bad_space))]
 fn bad_space(count: u8, position: u64, room: u64, spaces: &[Option<Space>]) -> Option<usize>
     ensures value { result ≡ bad_space count position room spaces.now }
     ensures bound { IfSome result (λ i. i < length spaces.now) }

@@ -1,6 +1,6 @@
 //! Opening a flash.
 
-ghost use Rattle.std.specs.Prelude.{◌≡◌, ◌+◌, ◌^◌, ◌≤◌, IsTrue, IfOk, List, None, false, length, nat_le, replicate};
+ghost use Rattle.std.specs.Prelude.{◌≡◌, ◌≢◌, ◌+◌, ◌^◌, ◌≤◌, IsTrue, IfErr, IfOk, List, None, false, length, nat_le, replicate};
 ghost use Rattle.std.specs.List.{list_any};
 ghost use Rattle.fdp_checkpoint.specs.fdp_areas.Seals.{IsCurrentSeal, LiesIn};
 ghost use Rattle.fdp_base.specs.Config.{IsInRange};
@@ -14,6 +14,7 @@ ghost use Rattle.fdp_image.specs.Areas.{current_area, data_pages};
 ghost use Rattle.fdp_image.specs.Checkpoint.{reading_of_state};
 ghost use Rattle.fdp_image.specs.Reads.{is_spent};
 ghost use Rattle.fdp_recovery.specs.Blocks.{StandApart};
+ghost use Rattle.fdp_recovery.specs.declared.opened.OpenFault.TheVariants.{NoMemory};
 ghost use Rattle.fdp_recovery.specs.Opened.{EndsOpening, GoesOn, IsLeft, TellsOpened, most_looks};
 ghost use Rattle.fdp_recovery.specs.Ready.{NeverFails};
 ghost use Rattle.fdp_state.specs.Loaded.{IsDriveState};
@@ -101,6 +102,7 @@ fn open_unsealed<F: Flash>(
     ensures ends { EndsOpening (F.state flash.old) (F.state flash.new) result }
     ensures goes_on { IfOk result (GoesOn config.now) }
     ensures cut { IfOk result (λ opened. (F.state flash.old).geometry ≡ geometry_of config.now) }
+    ensures memory { IfErr result (λ fault. fault ≢ NoMemory) }
 {
     match other_cut(config, &flash.geometry()) {
         Some(key) => return Err(OpenFault::OtherConfig { key }),
@@ -165,6 +167,7 @@ fn found(state: State, current: &Current) -> Result<Opened, OpenFault>
     ensures told { (c : Config) (g : Cut) (cells : List Cell) → IsLeft c g cells state current.now.area current.now.seal.stamp.epoch → TellsOpened c g cells result }
     ensures goes_on { (c : Config) → IsDriveState c state → StandApart c (reading_of_state state) → IfOk result (GoesOn c) }
     ensures quiet { NeverFails result }
+    ensures memory { IfErr result (λ fault. fault ≢ NoMemory) }
 {
     let epoch = current.seal.stamp.epoch;
     if is_spent(&state, epoch) {

@@ -37,7 +37,7 @@ use Rattle.fdp_snapshot.specs.declared.state.Summary.{Summary}
 
 -- an outline says nothing of the totals
 outline-totals : (c : DriveConfig) (r : Reading) (s : Summary) (totals : Totals) → IsOutlineOf c r s → IsOutlineOf c (record r { totals = totals }) s
-outline-totals c r s totals h = record { sizes = h.sizes; says = ap (λ (x : Reading). record x { totals = totals }) h.says }
+outline-totals c r s totals h = record { sizes = h.sizes; says = ap (λ (x : Reading). record x { totals = totals }) h.says; rows = h.rows }
 
 -- that of the history of a book with some entries more is that of the book that has them
 outline-of : (b d : BookSeen) (es : List Entry) (s : Summary) → IsLonger b d es → IsOutlineOf b.config (drawn b.config (point_of b.config b.found (b.entries ++ es))) s → IsOutlineOf d.config (drawn d.config (point_in d)) s

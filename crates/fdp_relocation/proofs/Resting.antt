@@ -26,12 +26,14 @@ use Rattle.fdp_image.specs.Saving.{SameDataPages}
 use Rattle.fdp_keeper.specs.fdp_journal.JournalState.{JournalState}
 use Rattle.fdp_keeper.specs.fdp_pages.PageTables.{no_passes, relocation_at}
 use Rattle.fdp_relocation.specs.Collected.{StaysUncalled}
-use Rattle.fdp_rules.specs.History.{Found}
+use Rattle.fdp_rules.specs.History.{Found, point_of}
+use Rattle.fdp_rules.specs.Next.{totals_with}
 use Rattle.fdp_keeper.specs.fdp_saving.Calls.{MakesSystemCalls}
 use Rattle.fdp_keeper.specs.fdp_saving.declared.saved.Saved.{Saved}
 use Rattle.fdp_keeper.specs.fdp_saving.declared.saved.Saved.TheVariants as answers
 use Rattle.fdp_keeper.specs.fdp_saving.Said.{AreasSay, ReadsAsOneOf}
-use Rattle.fdp_keeper.specs.fdp_saving.Saving.{EndsCheckpoint, EndsSaving}
+use Rattle.fdp_keeper.specs.fdp_saving.Saver.{needs_checkpoint}
+use Rattle.fdp_keeper.specs.fdp_saving.Saving.{EndsCheckpoint, EndsSaving, within_saved}
 
 -- ---- no call
 
@@ -163,8 +165,10 @@ module _ (a b n : FlashState) (h : StaysUncalled a b) where
       saves = x.saves;
       saver_is = x.saver_is;
       stands = λ told. x.stands (told-there told);
-      stops = λ own tried say. holds-earlier c _ (x.stops own tried (say-there c s own tried say));
-      said = λ own tried told say. x.said own tried (told-there told) (say-there c s own tried (λ again. say) (told-there told));
+      stops = λ own tried say sure.
+          holds-earlier c (within_saved c (needs_checkpoint s) own tried x.given (x.change, totals_with (point_of c f es).totals e) answer)
+          (x.stops own tried (say-there c s own tried say) (λ told. sure (sym h.run.told ∙ told)));
+      said = λ own tried told say sure. x.said own tried (told-there told) (say-there c s own tried (λ again. say) (told-there told)) sure;
       calls = calls-earlier _ x.calls;
       ends = saving-earlier answer x.ends;
     }

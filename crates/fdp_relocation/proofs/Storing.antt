@@ -59,7 +59,7 @@ settled-same b k l old new answer said saved told =
 saved-same : (b : BookSeen) (e : Entry) (k l : KeeperSeen) (old new : FlashState) (answer : Saved) → (IsTrue old.told → AreasTell b k old.cells) → SavesEntry b.config b.found b.entries e k.saver l.saver old new answer → IsTrue old.told → SameDataPages b.config old.cells new.cells
 saved-same b e k l old new answer said saved told =
     let h = said told in
-    ((saved.stops h.own h.tried (λ again. h.say)).cells told).data_pages_same
+    ((saved.stops h.own h.tried (λ again. h.say) (λ again. h.sure)).cells told).data_pages_same
 
 pub move-same : {F : Type 0} (state : F → FlashState) (old new : Stage F) (rg : ℕ) (answer : Saved) → (IsTrue (state old.flash).told → AreasTell old.book old.keeper (state old.flash).cells) → SavesMove state old new rg answer → IsTrue (state old.flash).told
     → SameDataPages old.book.config (state old.flash).cells (state new.flash).cells

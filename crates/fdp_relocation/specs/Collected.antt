@@ -22,6 +22,7 @@ use Rattle.fdp_passes.specs.Due.{IsDue}
 use Rattle.fdp_relocation.specs.declared.advance.Advance.{Advance}
 use Rattle.fdp_relocation.specs.declared.advance.Advance.TheVariants as answers
 use Rattle.fdp_rules.specs.Sites.{moved_blocks}
+use Rattle.fdp_keeper.specs.fdp_durability.Durable.{SaysDrawn}
 use Rattle.fdp_keeper.specs.fdp_saving.declared.saved.Saved.{Saved}
 use Rattle.fdp_keeper.specs.fdp_saving.declared.saved.Saved.TheVariants as saved
 use Rattle.fdp_keeper.specs.fdp_saving.Said.{AreasSay}
@@ -32,11 +33,12 @@ pub record Stage (F : Type 0) : Type 0 where
   pub keeper : KeeperSeen
   pub flash : F
 
--- the system areas say something of a drive, as they do once it was saved
+-- the system areas say something of a drive, as they do once it was saved; while nothing is in doubt it is what the history draws
 pub record AreasTell (b : BookSeen) (k : KeeperSeen) (cells : List Cell) : Type 0 where
   pub own : Reading
   pub tried : Reading
   pub say : AreasSay b.config k.saver cells own tried
+  pub sure : SaysDrawn b.config (point_in b) k.saver own
 
 -- no call was made, and nothing that is told of the flash has changed
 pub record StaysUncalled (old new : FlashState) : Type 0 where

@@ -51,7 +51,7 @@ pub fn collect<F: Flash>(
     ensures geometry { (F.state flash.new).geometry ≡ (F.state flash.old).geometry }
     ensures block { length block.new ≡ length block.old }
 {
-    book.known();
+    book.known(); // proof
     match book.relocate(flash, block, rg, !keeper.is_in_doubt()) {
         Step::Nothing => Advance::Nothing,
         Step::Copied(_) => Advance::Copied,
@@ -78,7 +78,7 @@ fn move_saved<F: Flash>(book: &mut Book, keeper: &mut Keeper, flash: &mut F, rg:
     ensures epoch { keeper.new.saver.stamp.epoch + length book.old.entries ≤ keeper.old.saver.stamp.epoch + length book.new.entries }
     ensures geometry { (F.state flash.new).geometry ≡ (F.state flash.old).geometry }
 {
-    book.known();
+    book.known(); // proof
     let saved = keeper.save_move(flash, book, rg);
     book.move_pass(rg);
     match saved {
@@ -111,7 +111,7 @@ fn erase_settled<F: Flash>(
     ensures geometry { (F.state flash.new).geometry ≡ (F.state flash.old).geometry }
     ensures block { length block.new ≡ length block.old }
 {
-    book.known();
+    book.known(); // proof
     match keeper.settle(flash, book) {
         Wrote::Done => match book.relocate(flash, block, rg, true) {
             Step::Erased(_) => Advance::Erased,

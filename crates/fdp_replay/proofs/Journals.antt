@@ -1,6 +1,6 @@
 -- The pages of a journal that were read, and what the next page makes of them.
 use Rattle.std.proofs.Common.{◌≡◌, ℕ, zero, suc, ◌+◌, ◌≤◌, Bool, true, false, IsTrue, List, [], ◌∷◌, ◌++◌, ◌-◌, drop, length, take, Option, Some, None, refl, sym, ap, ◌∙◌, subst, arith, zero-add, length-drop}
-use Rattle.std.specs.Prelude.{bytes_eq, if◌then◌else◌, ◌&&◌, fold, map, slice_get}
+use Rattle.std.specs.Prelude.{bytes_eq, if◌then◌else◌, map, slice_get}
 use Rattle.fdp_base.specs.declared.config.DriveConfig.{DriveConfig}
 use Rattle.fdp_base.specs.declared.config.Geometry.{Geometry}
 use Rattle.fdp_base.specs.declared.entry.Totals.{Totals}
@@ -15,14 +15,16 @@ use Rattle.fdp_records.specs.Reading.{decoded}
 use Rattle.fdp_records.specs.Spares.{system_spare}
 use Rattle.fdp_image.specs.Applied.{applied}
 use Rattle.fdp_image.specs.Areas.{Sealed, area_of, current_area, leading, more, page_bytes}
+use Rattle.fdp_image.specs.Fits.{Fitting, all_fit}
 use Rattle.fdp_image.specs.Reading.{Reading}
 use Rattle.fdp_image.specs.Reads.{all_of, changes_in}
+use Rattle.fdp_image.proofs.Fitting.{all_fit-push}
 use Rattle.fdp_image.proofs.Journaling.{journal_read, slice_get-drop}
 use Rattle.fdp_image.proofs.NextRecord.{all-push, area_long, current_sealed, fold-push, map-push}
 use Rattle.fdp_areas.specs.declared.seal.Current.{Current}
 use Rattle.fdp_areas.specs.Seals.{IsCurrentSeal}
 use Rattle.fdp_image.proofs.Leading.{leading_ends, leading_most, leading_next}
-use Rattle.fdp_replay.specs.Records.{Fitting, IsTaken, all_fit}
+use Rattle.fdp_replay.specs.Records.{IsTaken}
 use Rattle.fdp_replay.specs.Replay.{IsReplayed}
 
 -- the pages behind the seal
@@ -63,26 +65,6 @@ take-one_more (y ∷ ys) zero x at = let same : y ≡ x = cc in ap (λ (z : List
 take-one_more (y ∷ ys) (suc i) x at =
     let n : suc i + 1 ≡ suc (i + 1) = omega arith in
     ap (λ (k : ℕ). take k (y ∷ ys)) n ∙ ap (λ (zs : List (List ℕ)). y ∷ zs) (take-one_more ys i x at)
-
--- one change more that fits
-both-true : (a b : Bool) → IsTrue a → IsTrue b → IsTrue (a && b)
-both-true true b p q = q
-both-true false b p q = cc
-
-first-true : (a b : Bool) → IsTrue (a && b) → IsTrue a
-first-true true b p = refl
-first-true false b p = p
-
-second-true : (a b : Bool) → IsTrue (a && b) → IsTrue b
-second-true true b p = p
-second-true false b p = cc
-
-all_fit-push : (fits : Fitting) (c : DriveConfig) (r : Reading) (xs : List (Change × Totals)) (x : Change × Totals) → IsTrue (all_fit fits c r xs)
-    → IsTrue (fits c (fold (applied c) r xs) x) → IsTrue (all_fit fits c r (xs ++ x ∷ []))
-unfolding all_fit
-all_fit-push fits c r [] x all one = both-true (fits c r x) true one refl
-all_fit-push fits c r (y ∷ ys) x all one =
-    both-true (fits c r y) _ (first-true (fits c r y) _ all) (all_fit-push fits c (applied c r y) ys x (second-true (fits c r y) _ all) one)
 
 -- no page was read
 pub replayed_none : (fits : Fitting) (c : DriveConfig) (journal : List (List ℕ)) (r : Reading) → IsReplayed fits c journal 0 r r

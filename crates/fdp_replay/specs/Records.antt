@@ -1,20 +1,12 @@
 -- One record of a journal, applied.
-use Rattle.std.specs.Prelude.{◌≡◌, ℕ, Bool, true, false, ◌&&◌, IsTrue, List, [], ◌∷◌, Some}
+use Rattle.std.specs.Prelude.{◌≡◌, ℕ, false, IsTrue, List, Some}
 use Rattle.fdp_base.specs.declared.config.DriveConfig.{DriveConfig}
 use Rattle.fdp_base.specs.declared.entry.Totals.{Totals}
 use Rattle.fdp_records.specs.declared.change.Change.{Change}
 use Rattle.fdp_records.specs.Reading.{decoded}
 use Rattle.fdp_image.specs.Applied.{applied}
+use Rattle.fdp_image.specs.Fits.{Fitting}
 use Rattle.fdp_image.specs.Reading.{Reading}
-
--- whether a change fits what was said before it
-abbrev pub Fitting : Type 0
-Fitting = DriveConfig → Reading → Change × Totals → Bool
-
--- each change fits what was said before it
-unfoldable pub all_fit : Fitting → DriveConfig → Reading → List (Change × Totals) → Bool
-all_fit fits c r [] = true
-all_fit fits c r (x ∷ xs) = fits c r x && all_fit fits c (applied c r x) xs
 
 -- the bytes tell a change that fits, and what was said before is said with it
 pub record IsTaken (fits : Fitting) (c : DriveConfig) (bytes : List ℕ) (old new : Reading) : Type 0 where

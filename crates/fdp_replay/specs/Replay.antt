@@ -10,11 +10,12 @@ use Rattle.fdp_records.specs.declared.change.Change.{Change}
 use Rattle.fdp_records.specs.Reading.{decoded}
 use Rattle.fdp_image.specs.Applied.{applied}
 use Rattle.fdp_flash.specs.Failing.{FailsLast}
+use Rattle.fdp_image.specs.Fits.{Fitting, all_fit}
 use Rattle.fdp_image.specs.Reading.{Reading}
 use Rattle.fdp_image.specs.Reads.{changes_in}
 use Rattle.fdp_replay.specs.declared.replayed.ReplayFault.{ReplayFault}
 use Rattle.fdp_replay.specs.declared.replayed.ReplayFault.TheVariants as faults
-use Rattle.fdp_replay.specs.Records.{Fitting, IsUnfit, all_fit}
+use Rattle.fdp_replay.specs.Records.{IsUnfit}
 
 -- so many pages of a journal tell changes that fit, and what was said before them is said with these
 pub record IsReplayed (fits : Fitting) (c : DriveConfig) (journal : List (List ℕ)) (count : ℕ) (old new : Reading) : Type 0 where

@@ -33,7 +33,7 @@ impl Replayed for Listed {
     ghost fits = { λ c r change. true };
 
     fn apply(&mut self, alloc: Global, change: Change, totals: Totals) -> Result<(), Refusal> {
-        let _alloc = alloc;
+        let _alloc = alloc; // proof
         match self.changes.push((change, totals)) {
             Ok(()) => Ok(()),
             Err(_) => Err(Refusal::NoMemory),

@@ -10,7 +10,7 @@ use Rattle.fdp_base.specs.declared.entry.Totals.{Totals}
 use Rattle.fdp_base.specs.Placement.{geometry_of}
 use Rattle.fdp_book.specs.Book.{BookSeen, IsLonger, point_in, written_in}
 use Rattle.fdp_book.proofs.Longer.{point-one}
-use Rattle.fdp_durability.specs.Durable.{IsDurable}
+use Rattle.fdp_durability.specs.Durable.{IsDurable, SaysDrawn}
 use Rattle.fdp_durability.specs.Saved.{SavesDrive, SavesEntry, SettlesDrive}
 use Rattle.fdp_durability.proofs.Durable.{durable-program}
 use Rattle.fdp_durability.proofs.Empty.{drawn-empty}
@@ -39,6 +39,7 @@ use Rattle.fdp_image.specs.Applied.{applied}
 use Rattle.fdp_image.specs.Checkpoint.{reading_of_state}
 use Rattle.fdp_image.specs.Reading.{Reading}
 use Rattle.fdp_isolation.specs.Laned.{IsKnown}
+use Rattle.fdp_rules.specs.Point.{Point}
 use Rattle.fdp_rules.specs.Next.{totals_with}
 use Rattle.fdp_records.specs.declared.change.Change.{Change}
 use Rattle.fdp_snapshot.specs.declared.state.State.{State}
@@ -62,19 +63,23 @@ three : (c : DriveConfig) (x y z : Reading) → LeavesRoom c x → LeavesRoom c 
 three c x y z h k l = All-cons (LeavesRoom c) x (y ∷ z ∷ []) h (All-cons (LeavesRoom c) y (z ∷ []) k (All-cons (LeavesRoom c) z [] l (All-nil (LeavesRoom c))))
 
 -- whatever a stop leaves of some calls is roomy, where it reads as one of readings that leave room
-stops-roomy : (c : DriveConfig) (s : JournalState) (old now : FlashState) (rs : Reading → Reading → List Reading) (some : Reading) → ((own tried : Reading) → (IsTrue old.told → AreasSay c s old.cells own tried) → Holds (ReadsAsOneOf c old.cells (rs own tried)) old now)
-    → (IsTrue old.told → (own : Reading) × AreasSay c s old.cells own own × All (LeavesRoom c) (rs own own)) → Runs old now (λ m image. IsRoomyImage c image)
-stops-roomy c s old now rs some stops known = by old.told refl where
+stops-roomy : (c : DriveConfig) (p : Point) (s : JournalState) (old now : FlashState) (rs : Reading → Reading → List Reading)
+    → ((own tried : Reading) → (IsTrue old.told → AreasSay c s old.cells own tried) → (IsTrue old.told → SaysDrawn c p s own) → Holds (ReadsAsOneOf c old.cells (rs own tried)) old now)
+    → (IsTrue old.told → (own : Reading) × AreasSay c s old.cells own own × SaysDrawn c p s own × All (LeavesRoom c) (rs own own)) → Runs old now (λ m image. IsRoomyImage c image)
+stops-roomy c p s old now rs stops known = by old.told refl where
+  some : Reading
+  some = drawn c p
+
   never : false ≡ true → ⊥
   never e = cc
 
   by : (told : Bool) → old.told ≡ told → Runs old now (λ m image. IsRoomyImage c image)
   by true told =
       let h = known told in
-      runs_weakened old now (λ m image. ReadsAsOneOf c old.cells (rs h.0 h.0) image) (λ m image. IsRoomyImage c image) (stops h.0 h.0 (λ again. h.1)).run
-      (λ again m image above most reads. one-roomy c old.cells (rs h.0 h.0) image h.2 reads)
+      runs_weakened old now (λ m image. ReadsAsOneOf c old.cells (rs h.0 h.0) image) (λ m image. IsRoomyImage c image) (stops h.0 h.0 (λ again. h.1) (λ again. h.2)).run
+      (λ again m image above most reads. one-roomy c old.cells (rs h.0 h.0) image h.3 reads)
   by false untold =
-      runs_weakened old now (λ m image. ReadsAsOneOf c old.cells (rs some some) image) (λ m image. IsRoomyImage c image) (stops some some (λ told. absurd (never (sym untold ∙ told)))).run
+      runs_weakened old now (λ m image. ReadsAsOneOf c old.cells (rs some some) image) (λ m image. IsRoomyImage c image) (stops some some (λ told. absurd (never (sym untold ∙ told))) (λ told. absurd (never (sym untold ∙ told)))).run
       (λ told m image above most reads. absurd (never (sym untold ∙ told)))
 
 -- what is drawn, with other sums, leaves room
@@ -139,20 +144,20 @@ module _ (b : BookSeen) (known : IsKnown b) (room : HaveRoom b.pages) (s : Journ
     -- the whole drive is saved
     pub roomy-checkpoint : (then' : JournalState) (answer : Wrote) → SavesDrive b.config b.found b.entries s then' old now answer → Runs old now (λ m image. IsRoomyImage b.config image)
     roomy-checkpoint then' answer saved =
-        stops-roomy b.config s old now (λ own tried. within_checkpoint own tried saved.given) (drawn b.config (point_in b)) saved.stops
-        (λ told. let h = durable told in (h.own, said-own told, three b.config h.own h.own (reading_of_state saved.given) (own-leaves old.cells h) (own-leaves old.cells h) (given-leaves saved.given saved.drive)))
+        stops-roomy b.config (point_in b) s old now (λ own tried. within_checkpoint own tried saved.given) (λ own tried say drawn_is. saved.stops own tried say)
+        (λ told. let h = durable told in (h.own, said-own told, h.sure, three b.config h.own h.own (reading_of_state saved.given) (own-leaves old.cells h) (own-leaves old.cells h) (given-leaves saved.given saved.drive)))
 
     -- a doubt was to be settled, and there was none
     pub roomy-settled : (then' : JournalState) (answer : Wrote) → SettlesDrive b.config b.found b.entries s then' old now answer → Runs old now (λ m image. IsRoomyImage b.config image)
     roomy-settled then' answer saved =
-        stops-roomy b.config s old now (λ own tried. within_renewal s.in_doubt own tried saved.given) (drawn b.config (point_in b)) saved.stops
-        (λ told. let h = durable told in (h.own, said-own told, three b.config h.own h.own (base_of s.in_doubt h.own saved.given) (own-leaves old.cells h) (own-leaves old.cells h) (base-leaves s.in_doubt saved.given saved.drive told)))
+        stops-roomy b.config (point_in b) s old now (λ own tried. within_renewal s.in_doubt own tried saved.given) (λ own tried say drawn_is. saved.stops own tried say)
+        (λ told. let h = durable told in (h.own, said-own told, h.sure, three b.config h.own h.own (base_of s.in_doubt h.own saved.given) (own-leaves old.cells h) (own-leaves old.cells h) (base-leaves s.in_doubt saved.given saved.drive told)))
 
     -- an entry is saved, behind which the drive has room too
     pub roomy-saving : (e : Entry) (new : BookSeen) → IsKnown new → HaveRoom new.pages → IsLonger b new (e ∷ []) → (then' : JournalState) (answer : Saved) → SavesEntry b.config b.found b.entries e s then' old now answer → Runs old now (λ m image. IsRoomyImage b.config image)
     roomy-saving e new then_known then_room longer then' answer saved =
-        stops-roomy b.config s old now (λ own tried. within_saved b.config (needs_checkpoint s) own tried saved.given x answer) (drawn b.config (point_in b)) saved.stops
-        (λ told. let h = durable told in (h.own, said-own told, within told answer)) where
+        stops-roomy b.config (point_in b) s old now (λ own tried. within_saved b.config (needs_checkpoint s) own tried saved.given x answer) saved.stops
+        (λ told. let h = durable told in (h.own, said-own told, h.sure, within told answer)) where
           x : Change × Totals
           x = (saved.change, totals_with (point_in b).totals e)
 

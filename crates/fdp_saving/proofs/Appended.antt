@@ -15,6 +15,7 @@ use Rattle.fdp_records.specs.declared.change.Change.{Change}
 use Rattle.fdp_records.specs.declared.spare.Stamp.{Stamp}
 use Rattle.fdp_image.specs.Applied.{applied}
 use Rattle.fdp_image.specs.Areas.{Sealed, area_unit, current_area}
+use Rattle.fdp_image.specs.Fits.{fits}
 use Rattle.fdp_image.specs.Reading.{Reading}
 use Rattle.fdp_image.specs.Reads.{reads_as}
 use Rattle.fdp_image.proofs.NextRecord.{current_sealed}
@@ -55,22 +56,22 @@ appending s inside now x old new result same geometry saver images left outcome 
 
 -- ---- what is read
 
-may_read : (c : DriveConfig) (s : JournalState) (own : Reading) (x : Change × Totals) (old image : List Cell) → geometry_of c ≡ s.geometry → reads_as c old ≡ Some own → MayBeAppended old s x image
+may_read : (c : DriveConfig) (s : JournalState) (own : Reading) (x : Change × Totals) (old image : List Cell) → geometry_of c ≡ s.geometry → reads_as c old ≡ Some own → IsTrue (fits c own x) → MayBeAppended old s x image
     → ReadsAsOneOf c old (within_append c own x) image
-may_read c s own x old image same read may =
-    let r = may.reads c own same read in
+may_read c s own x old image same read fit may =
+    let r = may.reads c own same read fit in
     elim r.reads [
       | inl is ↦ record { reading = own; reads = is; among = first own (applied c own x ∷ []); data_pages_same = r.data_pages_same }
       | inr is ↦ record { reading = applied c own x; reads = is; among = second own (applied c own x) []; data_pages_same = r.data_pages_same }
     ]
 
 pub append_stops : (c : DriveConfig) (s now : JournalState) (own : Reading) (x : Change × Totals) (old new : FlashState) (result : Wrote) → IsAppending s now x old new result → geometry_of c ≡ s.geometry
-    → (IsTrue old.told → reads_as c old.cells ≡ Some own) → Holds (ReadsAsOneOf c old.cells (within_append c own x)) old new
-append_stops c s now own x old new result h same read = record {
+    → (IsTrue old.told → reads_as c old.cells ≡ Some own) → (IsTrue old.told → IsTrue (fits c own x)) → Holds (ReadsAsOneOf c old.cells (within_append c own x)) old new
+append_stops c s now own x old new result h same read fit = record {
   run =
       runs_weakened old new (λ m image. MayBeAppended old.cells s x image) (λ m image. ReadsAsOneOf c old.cells (within_append c own x) image) h.images
-      (λ told m image above most may. may_read c s own x old.cells image same (read told) may);
-  cells = λ told. may_read c s own x old.cells new.cells same (read told) (h.left told);
+      (λ told m image above most may. may_read c s own x old.cells image same (read told) (fit told) may);
+  cells = λ told. may_read c s own x old.cells new.cells same (read told) (fit told) (h.left told);
 }
 
 -- ---- the saver
@@ -113,18 +114,18 @@ at_geometry : (c : DriveConfig) (s : JournalState) (cells : List Cell) (area : �
 at_geometry c s cells area z same current = subst (λ (g : Geometry). current_area g cells ≡ Some (area, z)) (sym same) current
 
 append_done_says : (c : DriveConfig) (s now : JournalState) (own : Reading) (x : Change × Totals) (old new : FlashState) → Appends s now old new x → old.told ≡ new.told → geometry_of c ≡ s.geometry → IsTrue old.told
-    → reads_as c old.cells ≡ Some own → AreasSay c now new.cells (applied c own x) (applied c own x)
-append_done_says c s now own x old new done same_told same told read =
+    → reads_as c old.cells ≡ Some own → IsTrue (fits c own x) → AreasSay c now new.cells (applied c own x) (applied c own x)
+append_done_says c s now own x old new done same_told same told read fit =
     let after : IsTrue new.told = subst IsTrue same_told told in
     let j = done.goes_on after in
     let here : geometry_of c ≡ now.geometry = same ∙ sym (ap (λ (k : JournalState). k.geometry) done.journal) in
-    current_says c now new.cells j.area (applied c own x) (applied c own x) (at_geometry c now new.cells now.area j.area here j.goes_on.current) (done.saved after c own same read)
+    current_says c now new.cells j.area (applied c own x) (applied c own x) (at_geometry c now new.cells now.area j.area here j.goes_on.current) (done.saved after c own same read fit)
 
 append_failed_says : (c : DriveConfig) (s : JournalState) (own : Reading) (x : Change × Totals) (old new : List Cell) → MayBeAppended old s x new → geometry_of c ≡ s.geometry
-    → reads_as c old ≡ Some own → AreasSayOneOf c (doubted s) new (within_append c own x) (within_append c own x)
-append_failed_says c s own x old new may same read =
+    → reads_as c old ≡ Some own → IsTrue (fits c own x) → AreasSayOneOf c (doubted s) new (within_append c own x) (within_append c own x)
+append_failed_says c s own x old new may same read fit =
     let current = at_geometry c s new s.area may.current.area same may.current.current in
-    elim (may.reads c own same read).reads [
+    elim (may.reads c own same read fit).reads [
       | inl is ↦ record {
         own = own;
         tried = own;
@@ -142,11 +143,11 @@ append_failed_says c s own x old new may same read =
     ]
 
 pub append_says : (c : DriveConfig) (s now : JournalState) (own : Reading) (x : Change × Totals) (old new : FlashState) (result : Wrote) → IsAppending s now x old new result → geometry_of c ≡ s.geometry
-    → IsTrue old.told → reads_as c old.cells ≡ Some own → SayAfterAppend c now new.cells own x result
-append_says c s now own x old new Done h same told read = append_done_says c s now own x old new h.outcome (sym h.images.told) same told read
-append_says c s now own x old new Failed h same told read =
+    → IsTrue old.told → reads_as c old.cells ≡ Some own → IsTrue (fits c own x) → SayAfterAppend c now new.cells own x result
+append_says c s now own x old new Done h same told read fit = append_done_says c s now own x old new h.outcome (sym h.images.told) same told read fit
+append_says c s now own x old new Failed h same told read fit =
     subst (λ (k : JournalState). AreasSayOneOf c k new.cells (within_append c own x) (within_append c own x)) (sym h.outcome.1.journal)
-    (append_failed_says c s own x old.cells new.cells (h.left told) same read)
+    (append_failed_says c s own x old.cells new.cells (h.left told) same read fit)
 
 -- ---- the call
 

@@ -71,7 +71,7 @@ own_below s cells g same saver x e =
 left_says : (c : DriveConfig) (s : JournalState) (own tried : Reading) (given : State) (old new : List Cell) → s.area ≤ 1 → IsOfDrive c s given → IsSaverIn old s → AreasSay c s old own tried
     → MayBeWritten (geometry_of c) (other_area s.area) (s.stamp.epoch + 1) given old new → AreasSay c s new own tried ⊎ AreasSay c s new own (reading_of_state given)
 left_says c s own tried given old new two drive saver says may =
-    replaced_says c s own tried (s.stamp.epoch + 1) given old new two says (own_below s old (geometry_of c) drive.geometry saver) may.beside may.replaced drive.sizes
+    replaced_says c s own tried (s.stamp.epoch + 1) given old new two says (own_below s old (geometry_of c) drive.geometry saver) may.beside may.replaced drive.saved
 
 left_reads : (c : DriveConfig) (s : JournalState) (own tried : Reading) (given : State) (old new : List Cell) → s.area ≤ 1 → IsOfDrive c s given → IsSaverIn old s → AreasSay c s old own tried
     → MayBeWritten (geometry_of c) (other_area s.area) (s.stamp.epoch + 1) given old new → ReadsAsOneOf c old (within_checkpoint own tried given) new
@@ -184,7 +184,7 @@ done_says c s given area epoch old new h done drive told =
     subst (λ (k : Geometry). current_area k new.cells ≡ Some (other_area s.area, z)) (sym drive.geometry) (anew_current s given area epoch old new h told w) in
     let block : s.geometry.block ≡ c.block = ap (λ (k : Geometry). k.block) (sym drive.geometry) in
     current_says c (behind_checkpoint s given.summary) new.cells z (reading_of_state given) (reading_of_state given) current
-    (read_by c new.cells (other_area s.area) z current ∙ anew_says c s.geometry.block (s.stamp.epoch + 1) given (area_of s.geometry (other_area s.area) new.cells) block w.sealed drive.sizes)
+    (read_by c new.cells (other_area s.area) z current ∙ anew_says c s.geometry.block (s.stamp.epoch + 1) given (area_of s.geometry (other_area s.area) new.cells) block w.sealed drive.saved)
 
 -- ---- the calls
 

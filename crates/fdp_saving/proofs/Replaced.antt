@@ -12,7 +12,7 @@ use Rattle.fdp_image.specs.Areas.{Sealed, area_of, area_unit, current_area, data
 use Rattle.fdp_image.specs.Checkpoint.{reading_of_state}
 use Rattle.fdp_image.specs.Reading.{Reading}
 use Rattle.fdp_image.specs.Reads.{said_by_area}
-use Rattle.fdp_image.specs.Replacing.{IsCheckpointOf, IsNewlySealed, IsReplacedIn, IsSameBeside, IsShortened, NamesSizes}
+use Rattle.fdp_image.specs.Replacing.{IsCheckpointOf, IsNewlySealed, IsReplacedIn, IsSameBeside, IsShortened, IsSavedBy}
 use Rattle.fdp_image.specs.Saving.{SameDataPages}
 use Rattle.fdp_image.proofs.NextRecord.{current_sealed}
 use Rattle.fdp_image.proofs.Replacing.{data_same, first_same, says_state, second_same}
@@ -40,11 +40,11 @@ beside_data c area old new beside page lt = beside.below page (below (geometry_o
 -- ---- what the areas say
 
 -- an area that is sealed anew says its state
-pub anew_says : (c : DriveConfig) (block epoch : ℕ) (given : State) (cells : List Cell) → block ≡ c.block → (anew : IsNewlySealed block epoch given cells) → NamesSizes c given → said_by_area c anew.area ≡ Some (reading_of_state given)
-anew_says c block epoch given cells same anew sizes =
+pub anew_says : (c : DriveConfig) (block epoch : ℕ) (given : State) (cells : List Cell) → block ≡ c.block → (anew : IsNewlySealed block epoch given cells) → IsSavedBy c given → said_by_area c anew.area ≡ Some (reading_of_state given)
+anew_says c block epoch given cells same anew saved =
     let version : 1 ≡ anew.area.stamp.version = sym (ap (λ (t : Stamp). t.version) anew.stamp) in
     let content = subst (λ (v : ℕ). IsCheckpointOf v c.block (concat anew.area.checkpoint) given) version (subst (λ (n : ℕ). IsCheckpointOf 1 n (concat anew.area.checkpoint) given) same anew.content) in
-    says_state c anew.area given content anew.journal sizes
+    says_state c anew.area given content anew.journal saved
 
 none_kept : (n : ℕ) (xs : List (List ℕ)) → xs ≡ [] → take n xs ≡ []
 none_kept zero xs none = refl
@@ -70,9 +70,9 @@ IsOwnBelow c s cells epoch = IsBelow (sealed_in (area_of (geometry_of c) s.area 
 -- Whatever becomes of the other area: the saver's area says what it said, and the other one, if it is current, what it said or the state.
 pub replaced_says : (c : DriveConfig) (s : JournalState) (own tried : Reading) (epoch : ℕ) (given : State) (old new : List Cell) → s.area ≤ 1 → AreasSay c s old own tried → IsOwnBelow c s old epoch
     → IsSameBeside (geometry_of c) (other_area s.area) old new
-    → IsReplacedIn (geometry_of c).block epoch given (area_of (geometry_of c) (other_area s.area) old) (area_of (geometry_of c) (other_area s.area) new) → NamesSizes c given
+    → IsReplacedIn (geometry_of c).block epoch given (area_of (geometry_of c) (other_area s.area) old) (area_of (geometry_of c) (other_area s.area) new) → IsSavedBy c given
     → AreasSay c s new own tried ⊎ AreasSay c s new own (reading_of_state given)
-replaced_says c s own tried epoch given old new two says below beside replaced sizes = elim replaced [
+replaced_says c s own tried epoch given old new two says below beside replaced saved = elim replaced [
   | inl none ↦ inl (record { own_says = own_says; current = inl (other_none g new area two none) })
   | inr some ↦ elim some [
     | inl short ↦ inl (record { own_says = own_says; current = of_short short })
@@ -116,5 +116,5 @@ replaced_says c s own tried epoch given old new two says below beside replaced s
               other_later g new anew.area area two anew.sealed
               (λ x e. let lt : x.stamp.epoch < epoch = below x (sym kept ∙ e) in omega (arith, lt, is));
           empty = anew.journal;
-          says = anew_says c g.block epoch given (area_of g other new) refl anew sizes;
+          says = anew_says c g.block epoch given (area_of g other new) refl anew saved;
         }

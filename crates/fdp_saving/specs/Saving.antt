@@ -13,16 +13,16 @@ use Rattle.fdp_snapshot.specs.declared.state.State.{State}
 use Rattle.fdp_image.specs.Applied.{applied}
 use Rattle.fdp_image.specs.Checkpoint.{reading_of_state}
 use Rattle.fdp_image.specs.Reading.{Reading}
-use Rattle.fdp_image.specs.Replacing.{NamesSizes}
+use Rattle.fdp_image.specs.Replacing.{IsSavedBy}
 use Rattle.fdp_journal.specs.JournalState.{JournalState}
 use Rattle.fdp_saving.specs.declared.saved.Saved.{Saved}
 use Rattle.fdp_saving.specs.declared.saved.Saved.TheVariants as answers
 use Rattle.fdp_saving.specs.Said.{AreasSay, AreasSayOneOf}
 
--- the flash of a saver is that of a drive of this configuration, whose sizes the state names
+-- the flash of a saver is that of a drive of this configuration, which saves the state
 pub record IsOfDrive (c : DriveConfig) (s : JournalState) (given : State) : Type 0 where
   pub geometry : geometry_of c ≡ s.geometry
-  pub sizes : NamesSizes c given
+  pub saved : IsSavedBy c given
 
 -- what is said then: the drive as it was given, where a checkpoint of it was wanted, else what was said before
 abbrev pub base_of : Bool → Reading → State → Reading

@@ -31,17 +31,17 @@ impl Row for Event {
     }
 
     fn put(&self, into: &mut [u8], at: usize) {
-        let _position = self.position;
-        let _pid = self.pid;
-        let _nsid = self.nsid;
-        let _moved = self.moved;
-        let _lba = self.lba;
-        let _rg = self.rg;
+        let _position = self.position; // proof
+        let _pid = self.pid; // proof
+        let _nsid = self.nsid; // proof
+        let _moved = self.moved; // proof
+        let _lba = self.lba; // proof
+        let _rg = self.rg; // proof
         put(into, at, &event_frame(self));
     }
 
     fn read(alloc: Global, bytes: &[u8]) -> Result<Event, AllocError> {
-        let _alloc = alloc;
+        let _alloc = alloc; // proof
         Ok(Event {
             kind: kind_or_first(bytes[0]),
             flags: flags_at(bytes[1]),

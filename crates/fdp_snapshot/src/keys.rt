@@ -53,7 +53,7 @@ impl Row for HandleRow {
     }
 
     fn read(alloc: Global, bytes: &[u8]) -> Result<HandleRow, AllocError> {
-        let _alloc = alloc;
+        let _alloc = alloc; // proof
         Ok(HandleRow {
             handles: bytes[0],
             persistent: read_u16(bytes, 2),

@@ -31,7 +31,7 @@ impl Row for Option<u32> {
     }
 
     fn read(alloc: Global, bytes: &[u8]) -> Result<Option<u32>, AllocError> {
-        let _alloc = alloc;
+        let _alloc = alloc; // proof
         Ok(entry_page(read_u32(bytes, 0)))
     }
 }

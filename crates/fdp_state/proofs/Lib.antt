@@ -1,3 +1,5 @@
+-- passed on to the crates above
+pub use Rattle.fdp_events.proofs as fdp_events
 pub mod Closing
 pub mod Collecting
 pub mod Editing

@@ -11,6 +11,7 @@ use Rattle.fdp_snapshot.specs.declared.keys.HandleRow.{HandleRow}
 use Rattle.fdp_snapshot.specs.declared.keys.Keys.{Keys}
 use Rattle.fdp_snapshot.specs.declared.space.Space.{Space}
 use Rattle.fdp_snapshot.specs.declared.state.State.{State}
+use Rattle.fdp_image.specs.BadFields.{StandByClass}
 use Rattle.fdp_image.specs.Checkpoint.{in_place, namespace_of, page_in_lists, reading_of_state, reports_in}
 use Rattle.fdp_image.specs.CheckpointFields.{are_rows, is_row, same_keys}
 use Rattle.fdp_image.specs.Reading.{Reading, size_in}
@@ -18,7 +19,7 @@ use Rattle.fdp_state.specs.declared.parts.Parts.{Parts}
 use Rattle.fdp_state.specs.Good.{IsGood, IsSayable}
 use Rattle.fdp_state.specs.Loaded.{IsDriveState, IsLoadable, IsLoaded, NamesSizes}
 use Rattle.fdp_state.specs.Owners.{AreOwners}
-use Rattle.fdp_state.specs.Parts.{IsSound, listed, reading_of}
+use Rattle.fdp_state.specs.Parts.{IsSound, KnowsMasks, listed, reading_of}
 use Rattle.fdp_state.proofs.Loadable.{loadable}
 use Rattle.fdp_state.proofs.Stating.{sayable-of, state-of}
 
@@ -109,6 +110,10 @@ module _ (c : DriveConfig) (s : State) (p : Parts)
     keys = subst (NamesSizes c) (sym (ap (λ (q : Parts). q.keys) rest)) h.keys;
     good = subst (IsGood c) (sym said) h.good;
     sayable = subst IsSayable (sym said) (sayable-of s h.writable);
+    masks = subst (KnowsMasks c) (sym rest) h.rows.masks;
+    events =
+        subst (λ (xs : List Event). StandByClass xs p.controller_events.items) (sym host_events)
+        (subst (λ (xs : List Event). StandByClass s.summary.host_events xs) (sym controller_events) h.rows.events);
   }
 
 -- ---- put together
@@ -150,5 +155,6 @@ put-together c p s h is =
       writable = state-of c (together p) (loadable-again p h.sound) good (subst IsSayable (said-again p) h.sayable) (few-configurations c p.keys h.config h.keys);
       keys = h.keys;
       good = good;
+      rows = record { masks = h.masks; events = h.events };
     } in
     subst (IsDriveState c) (sym is) state

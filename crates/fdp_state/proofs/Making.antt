@@ -9,18 +9,20 @@ use Rattle.fdp_rules.specs.Events.{is_host_event, latest}
 use Rattle.fdp_rules.specs.PlainState.{Namespace}
 use Rattle.fdp_records.specs.declared.change.Change.{Change}
 use Rattle.fdp_records.specs.declared.change.Change.TheVariants as changes
+use Rattle.fdp_events.proofs.KnownRows.{class-more}
 use Rattle.fdp_image.specs.Applied.{applied}
+use Rattle.fdp_image.specs.BadFields.{StandByClass}
 use Rattle.fdp_image.specs.ChangeEvents.{kept_of_change}
 use Rattle.fdp_image.specs.Changed.{changed, pages_after}
 use Rattle.fdp_image.specs.Checkpoint.{in_place, namespace_of, page_in_lists, reports_in}
 use Rattle.fdp_image.specs.Reading.{Reading, size_in}
 use Rattle.fdp_state.specs.declared.parts.Parts.{Parts}
-use Rattle.fdp_state.specs.Fits.{are_born, fits, names_what_is}
+use Rattle.fdp_image.specs.Fits.{are_born, fits, names_what_is}
 use Rattle.fdp_state.specs.Good.{IsGood, IsSayable}
 use Rattle.fdp_state.specs.Loaded.{IsLoaded, NamesSizes}
 use Rattle.fdp_state.specs.Made.{HasPages, IsMade}
 use Rattle.fdp_state.specs.Owners.{AreOwners, Pages}
-use Rattle.fdp_state.specs.Parts.{IsSound, listed, reading_of}
+use Rattle.fdp_state.specs.Parts.{IsSound, KnowsMasks, listed, reading_of}
 use Rattle.fdp_state.proofs.Keeping.{good-applied}
 use Rattle.fdp_state.proofs.Named.{index_after}
 use Rattle.fdp_state.proofs.Sayable.{sayable-applied}
@@ -37,6 +39,7 @@ made-pages c position change old new pages h same said = record {
   sound = h.sound;
   keys = ap (λ (p : Parts). p.keys) h.rest;
   index = ap (λ (p : Parts). p.index) h.rest ∙ ap (λ (r : Reading). r.index) (sym same);
+  masks = λ fit known. subst (KnowsMasks c) (sym h.rest) known;
 }
 
 -- only the namespaces and the page lists were changed
@@ -71,6 +74,7 @@ module _ (old new : Parts) (rest : new ≡ record old { spaces = new.spaces; pag
     sound = sound-spaces h spaces lists sizes owners;
     keys = ap (λ (p : Parts). p.keys) rest;
     index = ap (λ (p : Parts). p.index) rest ∙ ap (λ (r : Reading). r.index) (sym same);
+    masks = λ fit known. subst (KnowsMasks c) (sym rest) known;
   }
 
 -- placement or the masks were changed
@@ -92,9 +96,9 @@ module _ (old new : Parts) (rest : new ≡ record old { enabled = new.enabled; i
   pub made-head : (c : DriveConfig) (position : ℕ) (change : Change) → IsSound old → (f : ℕ → EventKind → Bool)
       → record (changed c (reading_of old) position change) { pages = pages_after c (reading_of old) change }
       ≡ record (reading_of old) { enabled = new.enabled; index = new.index; generation = new.generation; reports = f }
-      → ((k : ℕ) (kind : EventKind) → reports_in new.masks k kind ≡ f k kind) → IsMade c position change old new
+      → ((k : ℕ) (kind : EventKind) → reports_in new.masks k kind ≡ f k kind) → (names_what_is c (reading_of old) change ≡ true → KnowsMasks c old → KnowsMasks c new) → IsMade c position change old new
   unfolding reading_of
-  made-head c position change h f same said = record {
+  made-head c position change h f same said masks = record {
     reading =
         ap reading_of rest
         ∙ ap (λ (q : ℕ → EventKind → Bool). record (reading_of old) { enabled = new.enabled; index = new.index; generation = new.generation; reports = q }) (λ d k kind. said k kind d)
@@ -102,16 +106,17 @@ module _ (old new : Parts) (rest : new ≡ record old { enabled = new.enabled; i
     sound = sound-head h;
     keys = ap (λ (p : Parts). p.keys) rest;
     index = sym (ap (λ (r : Reading). r.index) same);
+    masks = masks;
   }
 
 -- nothing was changed
 pub made_update : (c : DriveConfig) (position nsid closed : ℕ) (pids : List ℕ) (s : Parts) → IsSound s → IsMade c position (changes.Update nsid closed pids) s s
 unfolding reading_of
-made_update c position nsid closed pids s h = record { reading = refl; sound = h; keys = refl; index = refl }
+made_update c position nsid closed pids s h = record { reading = refl; sound = h; keys = refl; index = refl; masks = λ fit known. known }
 
 pub made_shut : (c : DriveConfig) (position rg ruh : ℕ) (s : Parts) → IsSound s → IsMade c position (changes.Shut rg ruh) s s
 unfolding reading_of
-made_shut c position rg ruh s h = record { reading = refl; sound = h; keys = refl; index = refl }
+made_shut c position rg ruh s h = record { reading = refl; sound = h; keys = refl; index = refl; masks = λ fit known. known }
 
 -- events with those of a class behind them
 pub latest_are : (test : Event → Bool) (start old listing kept new : List Event) → new ≡ latest (start ++ filter test listing) → start ≡ old → listing ≡ kept → new ≡ latest (old ++ filter test kept)
@@ -154,6 +159,12 @@ module _ (c : DriveConfig) (old mid new : Parts) (change : Change) (totals : Tot
     owners = subst (λ (p : Parts). AreOwners (page_in_lists p.pages.items) p.owners.items) (sym rest) made.sound.owners;
   }
 
+  whole_classes : StandByClass old.host_events.items old.controller_events.items → reading_of new ≡ applied c (reading_of old) (change, totals) → StandByClass new.host_events.items new.controller_events.items
+  unfolding reading_of applied
+  whole_classes h said =
+      subst (λ (r : Reading). StandByClass r.host_events r.controller_events) (sym said)
+      (class-more old.host_events.items old.controller_events.items (kept_of_change c (reading_of old) totals.position change) h)
+
   pub whole_loaded : IsLoaded c old → are_born (reading_of old) totals.position ≡ true → names_what_is c (reading_of old) change ≡ true
       → reading_of new ≡ applied c (reading_of old) (change, totals) → length new.host_events.items ≤ 32 → length new.controller_events.items ≤ 32 → IsLoaded c new
   unfolding reading_of
@@ -168,4 +179,6 @@ module _ (c : DriveConfig) (old mid new : Parts) (change : Change) (totals : Tot
         keys = subst (NamesSizes c) (sym (ap (λ (p : Parts). p.keys) rest ∙ made.keys)) h.keys;
         good = subst (IsGood c) (sym said) (good-applied c (reading_of old) (change, totals) h.good fits_it);
         sayable = subst IsSayable (sym said) (sayable-applied c (reading_of old) h.config h.sayable (change, totals) fits_it);
+        masks = subst (KnowsMasks c) (sym rest) (made.masks fit h.masks);
+        events = whole_classes h.events said;
       }

@@ -16,7 +16,7 @@ use Rattle.fdp_image.specs.Areas.{data_pages}
 use Rattle.fdp_image.specs.Changed.{changed}
 use Rattle.fdp_image.specs.CheckpointRows.{is_namespace_id}
 use Rattle.fdp_image.specs.Reading.{Reading}
-use Rattle.fdp_state.specs.Fits.{are_data_pages, are_of_data_unit, handles_in, has_namespace, is_free_id, lie_within, lies_within, may_have, names_what_is}
+use Rattle.fdp_image.specs.Fits.{are_data_pages, are_of_data_unit, handles_in, has_namespace, is_free_id, lie_within, lies_within, may_have, names_what_is}
 
 pub left : (a b : Bool) → (a && b) ≡ true → a ≡ true
 left true b e = refl
@@ -69,6 +69,10 @@ module _ (c : DriveConfig) (r : Reading) where
   pub events_handle : (ruh mask : ℕ) (on : Bool) → names_what_is c r (changes.SetEvents ruh on mask) ≡ true → ruh < handles_in c r
   unfolding names_what_is
   events_handle ruh mask on h = ltb-true ruh (handles_in c r) (left (nat_lt ruh (handles_in c r)) (nat_lt mask 64) h)
+
+  pub events_known : (ruh mask : ℕ) (on : Bool) → names_what_is c r (changes.SetEvents ruh on mask) ≡ true → (ruh < handles_in c r) × (mask < 64)
+  unfolding names_what_is
+  events_known ruh mask on h = (events_handle ruh mask on h, ltb-true mask 64 (right (nat_lt ruh (handles_in c r)) (nat_lt mask 64) h))
 
   pub events_few : (ruh mask : ℕ) (on : Bool) → IsInRange c → r.index < length c.fdp → names_what_is c r (changes.SetEvents ruh on mask) ≡ true → ruh < 16
   events_few ruh mask on ranges index h =

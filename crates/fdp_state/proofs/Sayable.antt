@@ -33,7 +33,7 @@ use Rattle.fdp_image.specs.ChangeEvents.{closed_event, events_of_change, invalid
 use Rattle.fdp_image.specs.Changed.{moved_to, moves_of, page_numbers, pages_after}
 use Rattle.fdp_image.specs.Outline.{outline_before}
 use Rattle.fdp_image.specs.Reading.{Reading}
-use Rattle.fdp_state.specs.Fits.{are_data_pages, are_of_data_unit, are_unit_pages, fits, names_what_is}
+use Rattle.fdp_image.specs.Fits.{are_data_pages, are_of_data_unit, are_unit_pages, fits, names_what_is}
 use Rattle.fdp_state.specs.Good.{IsSayable}
 use Rattle.fdp_state.proofs.Moving.{no_pages}
 use Rattle.fdp_state.proofs.Named.{left, right, write_pages}

@@ -1,9 +1,9 @@
 -- A namespace is put in its place with its page list, or taken away.
-use Rattle.std.proofs.Common.{◌≡◌, ◌≢◌, ℕ, zero, suc, replicate, ◌∷◌, ◌+◌, ◌-◌, ◌≤◌, Bool, true, false, IsTrue, List, [], length, Option, None, Some, refl, ap, sym, ◌∙◌, arith, ⊎_elim}
-use Rattle.std.specs.Prelude.{◌==◌, ◌&&◌, if◌then◌else◌, is_some, option_map, slice_get}
+use Rattle.std.proofs.Common.{◌≡◌, ◌≢◌, ℕ, zero, suc, replicate, ◌∷◌, ◌+◌, ◌-◌, ◌<◌, ◌≤◌, Bool, true, false, IsTrue, List, [], length, Option, None, Some, refl, ap, sym, ◌∙◌, arith, ⊎_elim}
+use Rattle.std.specs.Prelude.{◌==◌, ◌&&◌, ◌||◌, if◌then◌else◌, is_some, option_map, slice_get}
 use Rattle.std.specs.List.{list_all}
 use Rattle.std.specs.Option.{option_and_then, option_map_or}
-use Rattle.std.proofs.lemmas.Bool.{leb-true}
+use Rattle.std.proofs.lemmas.Bool.{eqb-true, leb-true}
 use Rattle.std.proofs.lemmas.Bool.Decides.{eqb_tells, nat_tests}
 use Rattle.fdp_base.specs.declared.command.Range.{Range}
 use Rattle.fdp_base.specs.declared.config.DriveConfig.{DriveConfig}
@@ -16,7 +16,7 @@ use Rattle.fdp_image.specs.Checkpoint.{in_place, namespace_of, page_in_lists}
 use Rattle.fdp_image.specs.CheckpointRows.{is_namespace_id}
 use Rattle.fdp_image.specs.Reading.{Reading, size_in}
 use Rattle.fdp_state.specs.declared.parts.Parts.{Parts}
-use Rattle.fdp_state.specs.Fits.{has_namespace, lie_within, lies_within}
+use Rattle.fdp_image.specs.Fits.{has_namespace, is_range_within, lie_within, lies_within}
 use Rattle.fdp_state.specs.Made.{IsMade}
 use Rattle.fdp_state.specs.Owners.{AreOwners, with_row}
 use Rattle.fdp_state.specs.Parts.{IsSound, listed, reading_of, row}
@@ -62,15 +62,22 @@ within_list s nsid slba count h e =
     let fits : slba + count ≤ size_in (reading_of s) nsid = leb-true (slba + count) (size_in (reading_of s) nsid) (right (has_namespace (reading_of s) nsid) _ e) in
     omega (arith, fits, h.sizes nsid)
 
+-- a range with a block in it lies within the namespace
+some_within : (r : Reading) (nsid : ℕ) (x : Range) → 0 < x.length → is_range_within r nsid x ≡ true → lies_within r nsid x.slba x.length ≡ true
+some_within r nsid x some e = of_test (x.length == 0) refl e where
+  of_test : (b : Bool) → (x.length == 0) ≡ b → (b || lies_within r nsid x.slba x.length) ≡ true → lies_within r nsid x.slba x.length ≡ true
+  of_test true is e = absurd (omega (arith, some, eqb-true x.length 0 is))
+  of_test false is e = e
+
 all_at : {X : Type 0} (p : X → Bool) (xs : List X) (k : ℕ) (x : X) → list_all p xs ≡ true → slice_get xs k ≡ Some x → p x ≡ true
 all_at p [] k x all at = cc
 all_at p (y ∷ ys) zero x all at = let same : y ≡ x = cc in ap p (sym same) ∙ left (p y) (list_all p ys) all
 all_at p (y ∷ ys) (suc k) x all at = all_at p ys k x (right (p y) (list_all p ys) all) at
 
 pub ranges_within : (s : Parts) (nsid : ℕ) (ranges : List Range) → IsSound s → lie_within (reading_of s) nsid ranges ≡ true
-    → (x : Range) (k : ℕ) → slice_get ranges k ≡ Some x → x.slba + x.length ≤ listed s.pages.items nsid
-ranges_within s nsid ranges h all x k at =
-    within_list s nsid x.slba x.length h (all_at (λ (y : Range). lies_within (reading_of s) nsid y.slba y.length) ranges k x all at)
+    → (x : Range) (k : ℕ) → slice_get ranges k ≡ Some x → 0 < x.length → x.slba + x.length ≤ listed s.pages.items nsid
+ranges_within s nsid ranges h all x k at some =
+    within_list s nsid x.slba x.length h (some_within (reading_of s) nsid x some (all_at (is_range_within (reading_of s) nsid) ranges k x all at))
 
 map-if : (b : Bool) (x y : Option Space) → option_map namespace_of (if b then x else y) ≡ (if b then option_map namespace_of x else option_map namespace_of y)
 map-if true x y = refl

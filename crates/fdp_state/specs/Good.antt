@@ -7,7 +7,7 @@ use Rattle.fdp_snapshot.specs.Events.{IsPlain}
 use Rattle.fdp_image.specs.CheckpointRows.{is_namespace_id}
 use Rattle.fdp_image.specs.Reading.{Reading}
 use Rattle.fdp_image.specs.Valid.{IsGoodNamespace}
-use Rattle.fdp_state.specs.Fits.{blocks_of_all, handles_in}
+use Rattle.fdp_image.specs.Fits.{blocks_of_all, handles_in}
 
 -- a block lies within a namespace that is there
 pub record LiesWithin (r : Reading) (nsid lba : ℕ) : Type 0 where

@@ -1,6 +1,5 @@
 -- passed on to the crates above
 pub use Rattle.fdp_replay.specs as fdp_replay
-pub mod Fits
 pub mod Good
 pub mod Owners
 pub mod Parts

@@ -3,6 +3,8 @@ use Rattle.std.specs.Prelude.{◌≡◌, ℕ, ◌<◌, ◌≤◌, IsTrue, length
 use Rattle.std.specs.List.{list_all}
 use Rattle.fdp_base.specs.declared.config.DriveConfig.{DriveConfig}
 use Rattle.fdp_base.specs.Config.{IsInRange}
+use Rattle.fdp_base.specs.Placement.{handle_count}
+use Rattle.fdp_image.specs.BadFields.{HasKnownRows, StandByClass}
 use Rattle.fdp_image.specs.Checkpoint.{reading_of_state}
 use Rattle.fdp_image.specs.CheckpointFields.{same_keys}
 use Rattle.fdp_image.specs.Reading.{Reading, size_in}
@@ -11,7 +13,7 @@ use Rattle.fdp_snapshot.specs.declared.state.State.{State}
 use Rattle.fdp_snapshot.specs.Checkpoint.{IsState}
 use Rattle.fdp_state.specs.Good.{IsGood, IsSayable}
 use Rattle.fdp_state.specs.declared.parts.Parts.{Parts}
-use Rattle.fdp_state.specs.Parts.{IsSound, listed, reading_of}
+use Rattle.fdp_state.specs.Parts.{IsSound, KnowsMasks, listed, reading_of}
 
 -- the configuration of the drive, and its state
 pub record Loaded : Type 0 where
@@ -26,7 +28,8 @@ said_by s = reading_of s.parts
 abbrev pub NamesSizes : DriveConfig → Keys → Type 0
 NamesSizes c k = IsTrue (list_all (λ same. same) (same_keys c k))
 
--- the state is sound, names the sizes of the drive, says what such a drive may say, and a checkpoint has room for it
+-- the state is sound, names the sizes of the drive, says what such a drive may say, and a checkpoint has room for it; its masks are of
+-- kinds and handles that there are, and its events stand by class
 pub record IsLoaded (c : DriveConfig) (s : Parts) : Type 0 where
   pub config : IsInRange c
   pub sound : IsSound s
@@ -34,13 +37,16 @@ pub record IsLoaded (c : DriveConfig) (s : Parts) : Type 0 where
   pub keys : NamesSizes c s.keys
   pub good : IsGood c (reading_of s)
   pub sayable : IsSayable (reading_of s)
+  pub masks : KnowsMasks c s
+  pub events : StandByClass s.host_events.items s.controller_events.items
 
--- a state of a drive of this configuration: a checkpoint has room for it, it names the sizes of the drive, and says what such a drive
--- may say
+-- a state of a drive of this configuration: a checkpoint has room for it, it names the sizes of the drive, says what such a drive may
+-- say, and its rows are those of such a drive
 pub record IsDriveState (c : DriveConfig) (s : State) : Type 0 where
   pub writable : IsState s
   pub keys : NamesSizes c s.summary.keys
   pub good : IsGood c (reading_of_state s)
+  pub rows : HasKnownRows (handle_count c s.summary.enabled s.summary.index) s.summary
 
 -- a state that can be loaded: sixteen places for namespaces, each with a page list as long as the namespace has blocks; at most 32
 -- events of each class

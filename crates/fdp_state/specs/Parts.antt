@@ -2,8 +2,10 @@
 use Rattle.std.specs.Prelude.{◌≡◌, ℕ, ◌≤◌, ◌-◌, true, List, [], length, nat_lt, Option, None, if◌then◌else◌, slice_get, option_map}
 use Rattle.std.specs.Option.{option_and_then, option_map_or}
 use Rattle.fdp_base.specs.declared.config.DriveConfig.{DriveConfig}
+use Rattle.fdp_base.specs.Placement.{handle_count}
 use Rattle.fdp_rules.specs.PlainState.{Namespace}
 use Rattle.fdp_rules.specs.Target.{Target, group_of_pid, handle_of_pid}
+use Rattle.fdp_image.specs.BadFields.{AreKnownMasks}
 use Rattle.fdp_image.specs.Checkpoint.{in_place, namespace_of, page_in_lists, reports_in}
 use Rattle.fdp_image.specs.CheckpointRows.{is_namespace_id}
 use Rattle.fdp_image.specs.Reading.{Reading, size_in}
@@ -17,6 +19,10 @@ row {X} rows i = option_and_then (λ (x : Option X). x) (slice_get rows i)
 -- how many blocks the page list of a namespace has
 abbrev pub listed : List (List (Option ℕ)) → ℕ → ℕ
 listed lists nsid = if is_namespace_id nsid then option_map_or length (slice_get lists (nsid - 1)) 0 else 0
+
+-- the masks of a loaded state are of kinds that there are, of the handles in force
+abbrev pub KnowsMasks : DriveConfig → Parts → Type 0
+KnowsMasks c s = AreKnownMasks (handle_count c s.enabled s.index) s.masks
 
 -- what a loaded state says
 unfoldable pub reading_of : Parts → Reading

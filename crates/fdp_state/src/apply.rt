@@ -2,7 +2,7 @@
 
 ghost use Rattle.std.specs.Prelude.{◌≡◌, ◌&&◌, Err, IfOk, IsTrue, OnErr, OnOk, false, true};
 ghost use Rattle.fdp_image.specs.Applied.{applied};
-ghost use Rattle.fdp_state.specs.Fits.{are_born, fits, names_what_is};
+ghost use Rattle.fdp_image.specs.Fits.{are_born, fits, names_what_is};
 ghost use Rattle.fdp_state.specs.Loaded.{IsLoaded};
 ghost use Rattle.fdp_state.specs.Parts.{reading_of};
 

@@ -10,7 +10,7 @@ ghost use Rattle.fdp_image.specs.Areas.{data_pages};
 ghost use Rattle.fdp_image.specs.ChangeEvents.{events_of_change, invalid_event, kept_of_change};
 ghost use Rattle.fdp_image.specs.Outline.{outline_before};
 ghost use Rattle.fdp_image.specs.Reading.{group_of_page};
-ghost use Rattle.fdp_state.specs.Fits.{names_what_is};
+ghost use Rattle.fdp_image.specs.Fits.{names_what_is};
 ghost use Rattle.fdp_state.specs.Parts.{IsSound, handles_at, reading_of};
 
 use crate::moved_events::moved_events;

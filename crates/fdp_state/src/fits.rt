@@ -8,7 +8,7 @@ ghost use Rattle.fdp_base.specs.Placement.{geometry_of};
 ghost use Rattle.fdp_image.specs.Areas.{data_pages};
 ghost use Rattle.fdp_image.specs.Reading.{size_in};
 ghost use Rattle.fdp_rules.specs.Room.{namespace_ids};
-ghost use Rattle.fdp_state.specs.Fits.{are_born, are_data_pages, blocks_of_all, has_namespace, is_born, is_handle_list, lie_within, lies_within};
+ghost use Rattle.fdp_image.specs.Fits.{are_born, are_data_pages, blocks_of_all, has_namespace, is_born, is_handle_list, is_range_within, lie_within, lies_within};
 ghost use Rattle.fdp_state.specs.Parts.{IsSound, reading_of};
 
 use crate::parts::Parts;
@@ -56,9 +56,15 @@ pub fn lie_within(parts: &Parts, nsid: u32, ranges: &[Range]) -> bool
     requires { IsSound parts.now }
     ensures { result ≡ lie_within (reading_of parts.now) nsid ranges.now }
 {
-    ranges
-        .iter()
-        .all(|x| lies_within(parts, nsid, x.slba, u64::from(x.length)))
+    ranges.iter().all(|x| is_range_within(parts, nsid, x))
+}
+
+/// Whether a range lies within a namespace; one of no blocks names none, and lies anywhere.
+fn is_range_within(parts: &Parts, nsid: u32, range: &Range) -> bool
+    requires { IsSound parts.now }
+    ensures { result ≡ is_range_within (reading_of parts.now) nsid range.now }
+{
+    range.length == 0 || lies_within(parts, nsid, range.slba, u64::from(range.length))
 }
 
 /// Whether these are the numbers of data pages.

@@ -13,7 +13,7 @@ pub fn blank_list(alloc: Global, size: u64) -> Result<Vec<Option<u32>>, AllocErr
 {
     let mut list = Vec::new(alloc);
     for lba in 0..size {
-        let _lba = lba;
+        let _lba = lba; // proof
         list.push(None)?;
     }
     Ok(list)

@@ -63,7 +63,7 @@ impl<'a> LoadedState<'a> {
 }
 
 impl<'a> Replayed for LoadedState<'a> {
-    ghost use Rattle.fdp_state.specs.Fits.{fits};
+    ghost use Rattle.fdp_image.specs.Fits.{fits};
     ghost use Rattle.fdp_state.specs.Loaded.{said_by};
 
     ghost config = { λ s. s.config };

@@ -9,7 +9,7 @@ ghost use Rattle.fdp_base.specs.declared.entry.BlockName.{BlockName as Block};
 ghost use Rattle.fdp_base.specs.declared.config.DriveConfig.{DriveConfig as Config};
 ghost use Rattle.fdp_records.specs.declared.change.Change.TheVariants as changes;
 ghost use Rattle.fdp_records.specs.declared.change.UnitPages.{UnitPages as Pages};
-ghost use Rattle.fdp_state.specs.Fits.{has_namespace, lie_within, lies_within, names_what_is};
+ghost use Rattle.fdp_image.specs.Fits.{has_namespace, lie_within, lies_within, names_what_is};
 ghost use Rattle.fdp_image.specs.Checkpoint.{page_in_lists};
 ghost use Rattle.fdp_state.specs.Made.{HasPages, IsMade};
 ghost use Rattle.fdp_state.specs.Owners.{with_pages, with_row};
@@ -118,7 +118,7 @@ fn clear(alloc: Global, parts: &mut Parts, nsid: u32, ranges: &[Range])
 /// Takes the pages away from so many addresses of a namespace.
 fn clear_row(alloc: Global, parts: &mut Parts, nsid: u32, slba: u64, count: u64)
     requires sound { IsSound parts.old }
-    requires within { slba + count ≤ listed parts.old.pages.items nsid }
+    requires within { 0 < count → slba + count ≤ listed parts.old.pages.items nsid }
     ensures { HasPages parts.old parts.new (with_row (λ lba. None) (page_in_lists parts.old.pages.items) nsid slba count) }
 {
     for i in 0..count {

@@ -9,7 +9,7 @@ ghost use Rattle.fdp_base.specs.Placement.{geometry_of};
 ghost use Rattle.fdp_records.specs.Records.{target_or_none};
 ghost use Rattle.fdp_image.specs.Bits.{is_bit_set};
 ghost use Rattle.fdp_image.specs.Changed.{moves_of, page_numbers};
-ghost use Rattle.fdp_state.specs.Fits.{are_of_data_unit};
+ghost use Rattle.fdp_image.specs.Fits.{are_of_data_unit};
 
 use fdp_base::DriveConfig;
 use fdp_records::{PageSet, UnitPages};

@@ -3,7 +3,7 @@
 ghost use Rattle.std.specs.Prelude.{◌≡◌, ◌<◌, ◌≤◌, IfOk, length};
 ghost use Rattle.fdp_base.specs.Config.{IsInRange};
 ghost use Rattle.fdp_base.specs.Placement.{full_budget};
-ghost use Rattle.fdp_state.specs.Fits.{are_unit_pages, handles_in, has_room, is_free_id, may_create, may_have, names_what_is};
+ghost use Rattle.fdp_image.specs.Fits.{are_unit_pages, handles_in, has_room, is_free_id, may_create, may_have, names_what_is};
 ghost use Rattle.fdp_state.specs.Parts.{IsSound, reading_of};
 
 use crate::fits::{
@@ -16,7 +16,7 @@ use fdp_records::{Change, UnitPages};
 use std::alloc::{AllocError, Global};
 
 /// Whether a change names only what there is.
-#[tactic(auto, unfolding(crate::specs::Fits::names_what_is))]
+#[tactic(auto, unfolding(fdp_image::specs::Fits::names_what_is))]
 pub fn names_what_is(
     alloc: Global,
     config: &DriveConfig,

@@ -24,7 +24,7 @@ pub fn free_pages(alloc: Global, count: u32) -> Result<Vec<Owner>, AllocError>
 {
     let mut owners = Vec::new(alloc);
     for page in 0..count {
-        let _page = page;
+        let _page = page; // proof
         owners.push(Owner::Free)?;
     }
     Ok(owners)

@@ -22,6 +22,7 @@ use Rattle.fdp_durability.specs.fdp_readings.Named.{KeepsNamed}
 use Rattle.fdp_durability.proofs.fdp_readings.Drawing.{block-drawn, drawn-valid}
 use Rattle.fdp_durability.proofs.fdp_readings.Keeping.{program-named}
 use Rattle.fdp_durability.proofs.fdp_readings.Leading.{drawn-used, led-holds}
+use Rattle.fdp_durability.proofs.fdp_readings.Ways.{lanes-stand}
 use Rattle.fdp_rules.specs.Change.{after, changed_by}
 use Rattle.fdp_rules.specs.History.{Found, point_of}
 use Rattle.fdp_rules.specs.Next.{next}
@@ -38,6 +39,7 @@ book-saved b cells h held = record {
   standing = h.standing;
   listed = h.listed;
   holds = led-holds b.config (point_in b) (written_in b) h.known.led.at b.pages cells h.known.config h.known.orderly h.standing h.listed h.known.generation h.known.led.led held;
+  ways = lanes-stand b.config (point_in b) (written_in b) h.known.led.at b.pages h.known.units.classes h.known.joined.lanes h.known.led.led;
   used = drawn-used b.config (point_in b) (written_in b) h.known.led.at b.pages h.standing h.known.led.led;
 }
 
@@ -48,6 +50,7 @@ can-on c p old new cells on can = record {
   standing = can.standing;
   listed = can.listed;
   holds = can.holds;
+  ways = can.ways;
   used = λ nsid lba page e. let low = can.used nsid lba page e in let more = on (page / c.unit_pages) in omega (arith, low, more);
 }
 
@@ -70,6 +73,7 @@ can-named c p t old new keeps can = record {
         ruh_is = held.ruh_is;
         generation_is = held.generation_is;
       };
+  ways = can.ways;
   used = can.used;
 }
 
@@ -90,6 +94,7 @@ can-shut c p t cells rg ruh valid follows can =
       standing = standing-next true c p e can.orderly can.standing follows;
       listed = listed-next true c p e can.orderly.state can.listed follows;
       holds = can.holds;
+      ways = can.ways;
       used = can.used;
     }
 

@@ -114,7 +114,7 @@ module _ (c : DriveConfig) (f : Found) (es : List Entry) (e : Entry) (t : UnitTa
 
 -- no saving changes a page of data
 pub saving-same : (c : DriveConfig) (f : Found) (es : List Entry) (e : Entry) (t : UnitTable) (s now : JournalState) (firm : ℕ) (old new : FlashState) (answer : Saved) → IsSafeAt c f es t s firm old → SavesEntry c f es e s now old new answer → IsTrue old.told → SameDataPages c old.cells new.cells
-saving-same c f es e t s now firm old new answer was saved told = let h = was.durable told in ((saved.stops h.own h.tried (λ again. h.say)).cells told).data_pages_same
+saving-same c f es e t s now firm old new answer was saved told = let h = was.durable told in ((saved.stops h.own h.tried (λ again. h.say) (λ again. h.sure)).cells told).data_pages_same
 
 pub checkpoint-same : (c : DriveConfig) (f : Found) (es : List Entry) (t : UnitTable) (s now : JournalState) (firm : ℕ) (old new : FlashState) (answer : Wrote) → IsSafeAt c f es t s firm old → SavesDrive c f es s now old new answer → IsTrue old.told → SameDataPages c old.cells new.cells
 checkpoint-same c f es t s now firm old new answer was saved told = let h = was.durable told in ((saved.stops h.own h.tried (λ again. h.say)).cells told).data_pages_same
@@ -125,7 +125,7 @@ settling-same c f es t s now firm old new answer was saved told = let h = was.du
 -- nor does a stop within it
 pub saving-stopped : (c : DriveConfig) (f : Found) (es : List Entry) (e : Entry) (t : UnitTable) (s now : JournalState) (firm : ℕ) (old new : FlashState) (answer : Saved) → IsSafeAt c f es t s firm old → SavesEntry c f es e s now old new answer → IsTrue old.told
     → (m : ℕ) (image : List Cell) → old.moment < m → m ≤ new.moment → new.during m image → SameDataPages c old.cells image
-saving-stopped c f es e t s now firm old new answer was saved told m image above most during = let h = was.durable told in ((saved.stops h.own h.tried (λ again. h.say)).run.images told m image above most during).data_pages_same
+saving-stopped c f es e t s now firm old new answer was saved told m image above most during = let h = was.durable told in ((saved.stops h.own h.tried (λ again. h.say) (λ again. h.sure)).run.images told m image above most during).data_pages_same
 
 pub checkpoint-stopped : (c : DriveConfig) (f : Found) (es : List Entry) (t : UnitTable) (s now : JournalState) (firm : ℕ) (old new : FlashState) (answer : Wrote) → IsSafeAt c f es t s firm old → SavesDrive c f es s now old new answer → IsTrue old.told
     → (m : ℕ) (image : List Cell) → old.moment < m → m ≤ new.moment → new.during m image → SameDataPages c old.cells image

@@ -164,12 +164,12 @@ module _ (c : DriveConfig) (f : Found) (es : List Entry) (firm : ℕ) (s now : J
   -- an entry is saved
   module _ (e : Entry) (answer : Saved) (saved : SavesEntry c f es e s now old new answer) (draws_then : ReadsApart c old.cells (drawn c (point_of c f (es ++ e ∷ [])))) where
     abbrev stopped : Holds (ReadsAsOneOf c old.cells (within_saved c (needs_checkpoint s) h.apart.durable.own h.apart.durable.tried saved.given (saved.change, totals_with (point_of c f es).totals e) answer)) old new
-    stopped = saved.stops h.apart.durable.own h.apart.durable.tried (λ again. h.apart.durable.say)
+    stopped = saved.stops h.apart.durable.own h.apart.durable.tried (λ again. h.apart.durable.say) (λ again. h.apart.durable.sure)
 
     pub entry-said : AreSaidApart c now new.cells
     entry-said =
         saving-said c f es firm s t old.cells saved.given saved.drive h.apart h.draws e saved.change saved.saves draws_then now new.cells answer (stopped.cells h.told).data_pages_same
-        (saved.said h.apart.durable.own h.apart.durable.tried h.told h.apart.durable.say)
+        (saved.said h.apart.durable.own h.apart.durable.tried h.told h.apart.durable.say h.apart.durable.sure)
 
     pub entry-image : (m : ℕ) (image : List Cell) → old.moment < m → m ≤ new.moment → new.during m image → StandsApart c f es (length es) image
     entry-image = image-apart _ (saving-within c f es firm s t old.cells saved.given saved.drive h.apart h.draws e saved.change saved.saves draws_then answer) stopped
@@ -179,11 +179,11 @@ module _ (c : DriveConfig) (f : Found) (es : List Entry) (firm : ℕ) (s now : J
     pub unsaved-said : AreSaidApart c now new.cells
     unsaved-said =
         failed-said c f es firm s t old.cells saved.given saved.drive h.apart h.draws now new.cells
-        ((saved.stops h.apart.durable.own h.apart.durable.tried (λ again. h.apart.durable.say)).cells h.told).data_pages_same
-        (saved.said h.apart.durable.own h.apart.durable.tried h.told h.apart.durable.say)
+        ((saved.stops h.apart.durable.own h.apart.durable.tried (λ again. h.apart.durable.say) (λ again. h.apart.durable.sure)).cells h.told).data_pages_same
+        (saved.said h.apart.durable.own h.apart.durable.tried h.told h.apart.durable.say h.apart.durable.sure)
 
     pub unsaved-image : (m : ℕ) (image : List Cell) → old.moment < m → m ≤ new.moment → new.during m image → StandsApart c f es (length es) image
-    unsaved-image = image-apart _ (renewal-within c f es firm s t old.cells saved.given saved.drive h.apart h.draws true) (saved.stops h.apart.durable.own h.apart.durable.tried (λ again. h.apart.durable.say))
+    unsaved-image = image-apart _ (renewal-within c f es firm s t old.cells saved.given saved.drive h.apart h.draws true) (saved.stops h.apart.durable.own h.apart.durable.tried (λ again. h.apart.durable.say) (λ again. h.apart.durable.sure))
 
   -- the drive is saved whole
   module _ (answer : Wrote) (saved : SavesDrive c f es s now old new answer) where

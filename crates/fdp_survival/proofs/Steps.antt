@@ -352,7 +352,7 @@ module _ (b new : BookSeen) (e : Entry) (s now : JournalState) (firm : ℕ) (old
   can-before told = can-on b.config (point_in b) b.pages.units new.pages.units old.cells go (can-book b old order geometry stored told)
 
   same-pages : IsTrue old.told → SameDataPages b.config old.cells behind.cells
-  same-pages told = let h = was.at.durable told in ((saved.stops h.own h.tried (λ again. h.say)).cells told).data_pages_same
+  same-pages told = let h = was.at.durable told in ((saved.stops h.own h.tried (λ again. h.say) (λ again. h.sure)).cells told).data_pages_same
 
   can-behind : IsTrue old.told → CanBeSaved b.config (point_of b.config b.found (b.entries ++ e ∷ [])) new.pages.units old.cells
   can-behind told =

@@ -1,12 +1,13 @@
 //! Hosts and a collector that have to wait for one another within their commands and passes. A run on one thread does not get through, nor one that keeps the
 //! drive over a whole command, nor one whose collector makes no step.
+use crate::filling::{FILLING, filling_trace};
 use crate::outcome::run;
 use crate::texts::Trace;
+use crate::waits::Waits;
 use fdp_io::{BenchMem, Gate, Point};
 use std::alloc::{AllocError, Global};
 use std::sync::Wait;
 use std::sync::atomic::{AtomicUsize, Ordering};
-use std::thread;
 use std::thread::Threads;
 
 const CONFIG: &[u8] = b"\
@@ -26,12 +27,6 @@ const CONFIG: &[u8] = b"\
     namespaces = [{ blocks = 80, handles = [0, 1, 2] }]\n\
 ";
 
-/// So many commands of host 1 fill all but three units of the first group, and leave a live page in each.
-const FILLING: usize = 37;
-
-/// The most looks of a worker that is held.
-const LOOKS: u32 = 30_000_000;
-
 /// What the workers have come to.
 #[derive(Drop)]
 struct Crossing {
@@ -40,8 +35,7 @@ struct Crossing {
     begun_second: AtomicUsize,
     ready_first: AtomicUsize,
     copied: AtomicUsize,
-    /// How often a worker was held until its looks ran out.
-    late: AtomicUsize,
+    waits: Waits,
 }
 
 impl Crossing {
@@ -52,28 +46,17 @@ impl Crossing {
             begun_second: AtomicUsize::new(0),
             ready_first: AtomicUsize::new(0),
             copied: AtomicUsize::new(0),
-            late: AtomicUsize::new(0),
+            waits: Waits::new(),
         }
-    }
-
-    /// Holds a worker until a count is so high.
-    fn hold(&self, count: &AtomicUsize, least: usize) {
-        for _ in 0..LOOKS {
-            if count.load(Ordering::SeqCst) >= least {
-                return;
-            }
-            thread::yield_now();
-        }
-        self.late.fetch_add(1, Ordering::SeqCst);
     }
 
     /// The collector begins once the group has three free units, and waits behind its first copy for the overwrite of host 2.
     fn at_collector(&self, point: Point) {
         match point {
-            Point::Begun => self.hold(&self.ended_first, FILLING),
+            Point::Begun => self.waits.hold(&self.ended_first, FILLING),
             Point::Copied => {
                 if self.copied.fetch_add(1, Ordering::SeqCst) == 0 {
-                    self.hold(&self.ended_second, 2);
+                    self.waits.hold(&self.ended_second, 2);
                 }
             }
             Point::Placed | Point::BeforeCommit | Point::Ended => {}
@@ -85,7 +68,7 @@ impl Crossing {
         match point {
             Point::BeforeCommit => {
                 if self.ready_first.fetch_add(1, Ordering::SeqCst) == FILLING {
-                    self.hold(&self.ended_second, 1);
+                    self.waits.hold(&self.ended_second, 1);
                 }
             }
             Point::Ended => {
@@ -99,8 +82,8 @@ impl Crossing {
     fn at_second(&self, point: Point) {
         match point {
             Point::Begun => match self.begun_second.fetch_add(1, Ordering::SeqCst) {
-                0 => self.hold(&self.ready_first, FILLING + 1),
-                1 => self.hold(&self.copied, 1),
+                0 => self.waits.hold(&self.ready_first, FILLING + 1),
+                1 => self.waits.hold(&self.copied, 1),
                 _ => {}
             },
             Point::Ended => {
@@ -121,21 +104,6 @@ impl Gate for Crossing {
     }
 }
 
-/// Fills 72 blocks, and then all of them but one a unit once more, in the first group; and one block more.
-fn first_trace(alloc: Global) -> Result<Trace, AllocError> {
-    let mut trace = Trace::new(alloc);
-    for part in 0..18u32 {
-        trace.write(alloc, 1, 4 * part, 4, part, 0)?;
-    }
-    for unit in 0..9u32 {
-        trace.write(alloc, 1, 8 * unit, 4, 100 + unit, 0)?;
-        trace.write(alloc, 1, 8 * unit + 4, 3, 200 + unit, 0)?;
-    }
-    trace.write(alloc, 1, 0, 1, 300, 0)?;
-    trace.write(alloc, 1, 1, 1, 301, 0)?;
-    Ok(trace)
-}
-
 /// Reads a block, overwrites one whose page the collector copies, and reads that.
 fn second_trace(alloc: Global) -> Result<Trace, AllocError> {
     let mut trace = Trace::new(alloc);
@@ -149,13 +117,13 @@ fn second_trace(alloc: Global) -> Result<Trace, AllocError> {
 pub fn row<R: Threads + Wait + Sync>(rt: &R, alloc: Global) -> Result<String, AllocError> {
     let mut bench = BenchMem::new(alloc, Vec::new(alloc));
     bench.add(alloc, "config", CONFIG)?;
-    bench.add(alloc, "first", first_trace(alloc)?.text.as_bytes())?;
+    bench.add(alloc, "first", filling_trace(alloc, 0)?.text.as_bytes())?;
     bench.add(alloc, "second", second_trace(alloc)?.text.as_bytes())?;
     let gate = Crossing::new();
     let words = ["run", "config", "image", "first", "second"];
     let came = run(rt, alloc, &words, &mut bench, 1 << 16, &gate)?;
     let (status, well) = (came.status, came.count(b"0/00"));
-    let late = gate.late.load(Ordering::SeqCst);
+    let late = gate.waits.late();
     let copied = gate.copied.load(Ordering::SeqCst) > 0;
     format!(in alloc;
         "crossing: status {status}, {well} commands succeeded, a page was copied: {copied}, {late} waits ran out"

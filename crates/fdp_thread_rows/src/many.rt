@@ -1,9 +1,11 @@
-//! Sixteen hosts and eight collectors: the run ends by itself.
+//! Sixteen hosts and eight collectors, each of which waits in its first turn for all others of its kind: the run ends by itself.
 use crate::outcome::run;
 use crate::texts::Trace;
-use fdp_io::{BenchMem, OpenGate};
+use crate::waits::Waits;
+use fdp_io::{BenchMem, Gate, Point};
 use std::alloc::{AllocError, Global};
 use std::sync::Wait;
+use std::sync::atomic::AtomicUsize;
 use std::thread::Threads;
 
 const CONFIG: &[u8] = b"\
@@ -22,6 +24,38 @@ const CONFIG: &[u8] = b"\
     turns = 1000\n\
     namespaces = [{ blocks = 256, handles = [0, 1] }]\n\
 ";
+
+const HOSTS: usize = 16;
+
+const COLLECTORS: usize = 8;
+
+/// How many turns of hosts and of collectors have begun.
+#[derive(Drop)]
+struct Meeting {
+    hosts: AtomicUsize,
+    collectors: AtomicUsize,
+    waits: Waits,
+}
+
+impl Meeting {
+    fn new() -> Meeting {
+        Meeting {
+            hosts: AtomicUsize::new(0),
+            collectors: AtomicUsize::new(0),
+            waits: Waits::new(),
+        }
+    }
+}
+
+impl Gate for Meeting {
+    fn at(&self, queue: u8, point: Point) {
+        match point {
+            Point::Begun if queue == 0 => self.waits.meet(&self.collectors, COLLECTORS),
+            Point::Begun => self.waits.meet(&self.hosts, HOSTS),
+            Point::Placed | Point::BeforeCommit | Point::Ended | Point::Copied => {}
+        }
+    }
+}
 
 /// The trace of a queue: sixteen blocks of its own, the part of the namespace that is named, written again and again.
 fn trace_of(alloc: Global, part: u8) -> Result<Trace, AllocError> {
@@ -49,7 +83,9 @@ pub fn row<R: Threads + Wait + Sync>(rt: &R, alloc: Global) -> Result<String, Al
     }
     let mut words = Vec::from_slice(alloc, &["run", "config", "image"])?;
     words.extend_from_slice(&names)?;
-    let came = run(rt, alloc, &words, &mut bench, 1 << 20, &OpenGate)?;
+    let gate = Meeting::new();
+    let came = run(rt, alloc, &words, &mut bench, 1 << 20, &gate)?;
     let (status, well) = (came.status, came.count(b"0/00"));
-    format!(in alloc; "many: status {status}, {well} commands succeeded")
+    let late = gate.waits.late();
+    format!(in alloc; "many: status {status}, {well} commands succeeded, {late} waits ran out")
 }

@@ -1,15 +1,11 @@
 -- What is read off the run over an image.
-use Rattle.std.proofs.Common.{◌≡◌, ◌≢◌, true, false, not, List, [], ◌∷◌, refl, sym, ◌∙◌, ap, eq-eqb}
-use Rattle.std.specs.Prelude.{◌==◌, All, take}
-use Rattle.std.specs.List.{list_all}
-use Rattle.std.proofs.lemmas.Bool.{and_parts}
-use Rattle.std.proofs.lemmas.List.Elements.{All-cons, All-nil}
-use Rattle.fdp_base.specs.declared.entry.Entry.{Entry}
+use Rattle.std.proofs.Common.{◌≡◌, [], ◌∷◌, refl}
+use Rattle.std.specs.Prelude.{take}
 use Rattle.fdp_base.specs.Numbers.{numbers_from}
 use Rattle.fdp_rules.specs.Change.{after, changed_by}
 use Rattle.fdp_rules.specs.Effect.{effect_of}
 use Rattle.fdp_rules.specs.History.{first_state, point_of, state_of}
-use Rattle.fdp_rules.specs.Queue.{IsSilent, starting_queue}
+use Rattle.fdp_rules.specs.Queue.{IsSilent}
 use Rattle.fdp_rules.specs.Room.{namespace_ids}
 use Rattle.fdp_rules.specs.Seats.{marks_after, marks_of}
 use Rattle.fdp_rules.specs.Sites.{live_pages, traced_by, trail_of}
@@ -40,18 +36,8 @@ pub image-marked : marks_of image entries_over_image ≡ marks_over_image
 unfolding marks_after
 image-marked = refl
 
-abbrev IsOther : Entry → Type 0
-IsOther e = starting_queue e ≢ 2
-
--- what a test finds of each entry
-others : (es : List Entry) → list_all (λ e. not (starting_queue e == 2)) es ≡ true → All IsOther es
-others [] t = All-nil IsOther
-others (e ∷ es) t =
-    let parts = and_parts (not (starting_queue e == 2)) (list_all (λ e. not (starting_queue e == 2)) es) t in
-    All-cons IsOther e es (λ same. let no : true ≡ false = sym parts.0 ∙ ap not (eq-eqb (starting_queue e) 2 same) in absurd cc) (others es parts.1)
-
 pub queue_2-silent : IsSilent 2 entries_over_image
-queue_2-silent = record { completes = refl; starts = others entries_over_image refl }
+queue_2-silent = record { completes = refl; starts = refl }
 
 pub queue_1-busy : IsSilent 1 entries_over_image → ⊥
 queue_1-busy silent = let none = silent.completes in absurd cc

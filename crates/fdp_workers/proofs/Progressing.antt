@@ -1,10 +1,11 @@
 -- What a history has of a queue after an entry more.
 use Rattle.std.proofs.Common.{◌≡◌, ◌≢◌, ◌⊎◌, inl, inr, ⊎_elim, ℕ, suc, ◌+◌, ◌≤◌, Bool, true, false, cond, List, [], ◌∷◌, ◌++◌, length, Option, Some, None, refl, sym, ◌∙◌, ap, subst, arith, append_assoc, length-append, ne_eqb, eq-eqb}
 use Rattle.std.specs.Prelude.{◌==◌, ◌&&◌, if◌then◌else◌, filter, filter_map, map, option_map}
-use Rattle.std.specs.List.{enumerate_from}
+use Rattle.std.specs.List.{cons_option, enumerate_from}
 use Rattle.std.specs.Option.{option_map_or}
 use Rattle.std.proofs.lemmas.Bool.{cases_eq}
-use mathlib.Core.List.{append-nil}
+use mathlib.Core.List.Sublist as sublists
+use mathlib.Core.List.{Sublist, append-nil, nil-sublist}
 use Rattle.std.proofs.lemmas.List.Elements.{filter-append, filter_map-append}
 use Rattle.fdp_base.specs.declared.command.Command.{Command}
 use Rattle.fdp_base.specs.declared.config.DriveConfig.{DriveConfig}
@@ -19,11 +20,11 @@ use Rattle.fdp_base.proofs.Entries.{by-entry}
 use Rattle.fdp_rules.specs.Change.{after, changed_by, holds_ticket, one_more_placed, started}
 use Rattle.fdp_rules.specs.History.{Found}
 use Rattle.fdp_rules.specs.PlainState.{Going, PlainState}
-use Rattle.fdp_rules.specs.Queue.{completed, completed_by}
+use Rattle.fdp_rules.specs.Queue.{completed, completed_by, started_by, started_in}
 use Rattle.fdp_rules.specs.Seats.{seat_of_entry}
 use Rattle.fdp_rules.proofs.Pushes.{state_of-push}
 use Rattle.fdp_workers.specs.declared.receipt.Receipt.{Receipt}
-use Rattle.fdp_workers.specs.Queues.{Has, Progress, begins, ended, flying, receipt_in, receipts_of, starts, times_started}
+use Rattle.fdp_workers.specs.Queues.{Has, NoOtherGoes, Progress, begun_by, ended, flying, receipt_in, receipts_of}
 use Rattle.fdp_workers.specs.Run.{AreNext, OpensFirst, Run, state_by}
 use Rattle.fdp_workers.proofs.Nexts.{next-first, next-rest}
 use Rattle.fdp_workers.proofs.Seated.{others-keep}
@@ -34,7 +35,7 @@ use Rattle.fdp_workers.proofs.Seated.{others-keep}
 record TellsNothing (queue : ℕ) (e : Entry) : Type 0 where
   pub completes : completed queue (e ∷ []) ≡ []
   pub receipt : (position : ℕ) → receipt_in queue (position, e) ≡ None
-  pub starts : (number : ℕ) → starts queue number e ≡ false
+  pub starts : started_by queue (e ∷ []) ≡ []
 
 no-receipt : (b : Bool) (r : Receipt) → b ≡ false → (if b then Some r else None) ≡ None
 no-receipt true r e = absurd cc
@@ -47,6 +48,9 @@ none-completed false x e = refl
 listed : (x : Option (ℕ × Command)) (e : Entry) (queue : ℕ) → completed_by queue e ≡ x → x ≡ None → completed queue (e ∷ []) ≡ []
 listed x e queue is none = let both = is ∙ none in cc
 
+let-go : (x : Option (ℕ × Command)) (e : Entry) (queue : ℕ) → started_in queue e ≡ x → x ≡ None → started_by queue (e ∷ []) ≡ []
+let-go x e queue is none = let both = is ∙ none in cc
+
 tells-nothing : (f : Found) (es : List Entry) (e : Entry) (queue : ℕ) → seat_of_entry f es e ≢ queue → TellsNothing queue e
 tells-nothing f es e queue ne =
     let P : Entry → Type 0 = λ x. seat_of_entry f es x ≢ queue → TellsNothing queue x in
@@ -54,15 +58,15 @@ tells-nothing f es e queue ne =
     (λ h other. let b : (h.queue == queue) ≡ false = ne_eqb h.queue queue other in record {
       completes = listed (completed_by queue (entries.Host h)) (entries.Host h) queue refl (none-completed (h.queue == queue) (h.number, h.command) b);
       receipt = λ position. no-receipt (h.queue == queue) _ b;
-      starts = λ number. refl;
+      starts = refl;
     })
     (λ s other. let b : (s.queue == queue) ≡ false = ne_eqb s.queue queue other in record {
       completes = refl;
       receipt = λ position. refl;
-      starts = λ number. ap (λ (x : Bool). x && (s.number == number)) b;
+      starts = let-go (started_in queue (entries.Started s)) (entries.Started s) queue refl (none-completed (s.queue == queue) (s.number, s.command) b);
     })
-    (λ p other. record { completes = refl; receipt = λ position. refl; starts = λ number. refl })
-    (λ x is other. let host = is.host in let start = is.started in record { completes = cc; receipt = λ position. cc; starts = λ number. cc })
+    (λ p other. record { completes = refl; receipt = λ position. refl; starts = refl })
+    (λ x is other. let host = is.host in let start = is.started in record { completes = cc; receipt = λ position. cc; starts = cc })
     e ne
 
 -- ---- an entry more
@@ -86,15 +90,14 @@ no-more-receipts f queue es e none =
     let last : filter_map (receipt_in queue) ((f.totals.position + 1 + length es, e) ∷ []) ≡ [] = let n = none (f.totals.position + 1 + length es) in cc in
     receipts-push f queue es e ∙ ap (λ (rs : List Receipt). receipts_of f queue es ++ rs) last ∙ append-nil (receipts_of f queue es)
 
-times-push : (queue number : ℕ) (es : List Entry) (e : Entry) → times_started queue number (es ++ e ∷ []) ≡ times_started queue number es + length (filter (starts queue number) (e ∷ []))
-times-push queue number es e = ap (λ (xs : List Entry). length xs) (filter-append (starts queue number) es (e ∷ [])) ∙ length-append (filter (starts queue number) es) (filter (starts queue number) (e ∷ []))
+starts-push : (queue : ℕ) (es : List Entry) (e : Entry) → started_by queue (es ++ e ∷ []) ≡ started_by queue es ++ started_by queue (e ∷ [])
+starts-push queue es e = filter_map-append (started_in queue) es (e ∷ [])
 
-counted : (b : Bool) (e : Entry) → b ≡ false → length (cond b (e ∷ []) []) ≡ 0
-counted true e is = absurd cc
-counted false e is = refl
-
-same-times : (queue number : ℕ) (es : List Entry) (e : Entry) → starts queue number e ≡ false → times_started queue number (es ++ e ∷ []) ≡ times_started queue number es
-same-times queue number es e none = omega (arith, times-push queue number es e, counted (starts queue number e) e none)
+-- an entry that starts nothing
+same-starts : (queue : ℕ) (xs : List (ℕ × Command)) (es : List Entry) (e : Entry) → started_by queue (e ∷ []) ≡ [] → Sublist (started_by queue es) xs → Sublist (started_by queue (es ++ e ∷ [])) xs
+same-starts queue xs es e none h =
+    let same : started_by queue (es ++ e ∷ []) ≡ started_by queue es = starts-push queue es e ∙ ap (λ (ys : List (ℕ × Command)). started_by queue es ++ ys) none ∙ append-nil (started_by queue es) in
+    subst (λ (ys : List (ℕ × Command)). Sublist ys xs) (sym same) h
 
 state-push : (run : Run) (es : List Entry) (e : Entry) (queue : ℕ) → (state_by run (es ++ e ∷ [])).going queue ≡ (after run.config (state_by run es) e).going queue
 state-push run es e queue = ap (λ (s : PlainState). s.going queue) (state_of-push run.config run.found es e)
@@ -106,8 +109,7 @@ has-other run queue p es e first other h =
     record {
       commands = completed-push queue es e ∙ ap (λ (xs : List (ℕ × Command)). completed queue es ++ xs) t.completes ∙ append-nil (completed queue es) ∙ h.commands;
       receipts = no-more-receipts run.found queue es e t.receipt ∙ h.receipts;
-      once = λ number. omega (arith, same-times queue number es e (t.starts number), h.once number);
-      fresh = λ number low. same-times queue number es e (t.starts number) ∙ h.fresh number low;
+      starts = same-starts queue (begun_by p) es e t.starts h.starts;
       going = others-keep run.config run.found es e queue first other ∙ h.going;
     }
 
@@ -134,21 +136,29 @@ host-going : (c : DriveConfig) (s : PlainState) (queue number : ℕ) (command : 
 unfolding after changed_by
 host-going c s queue number command reply moment either = none-left (is_write command) s.going queue either
 
-pub has-host : (run : Run) (queue : ℕ) (p : Progress) (es : List Entry) (number : ℕ) (command : Command) (reply : Reply) (moment position : ℕ) → position ≡ run.found.totals.position + (length es + 1) → (is_write command ≡ true) ⊎ (p.going ≡ None) → Has run queue p es →
-    Has run queue (ended p number command position reply) (es ++ entries.Host (record { queue = queue; number = number; command = command; reply = reply; moment = moment }) ∷ [])
-has-host run queue p es number command reply moment position at either h =
+-- the commands that were completed and what is going are among the former and the command that then ends
+ends-own : (cs : List (ℕ × Command)) (number : ℕ) (command : Command) (going : Option Going) → NoOtherGoes number command going →
+    Sublist (cs ++ cons_option (option_map (λ (g : Going). (g.number, g.command)) going) []) (cs ++ (number, command) ∷ [])
+ends-own cs number command None only = sublists.append (sublists.refl cs) (nil-sublist ((number, command) ∷ []))
+ends-own cs number command (Some g) only =
+    let same : (g.number, g.command) ≡ (number, command) = ap (λ (n : ℕ). (n, g.command)) only.0 ∙ ap (λ (x : Command). (number, x)) only.1 in
+    subst (λ (x : ℕ × Command). Sublist (cs ++ (g.number, g.command) ∷ []) (cs ++ x ∷ [])) same (sublists.refl (cs ++ (g.number, g.command) ∷ []))
+
+pub has-host : (run : Run) (queue : ℕ) (p : Progress) (es : List Entry) (number : ℕ) (command : Command) (reply : Reply) (moment position : ℕ) → position ≡ run.found.totals.position + (length es + 1) → (is_write command ≡ true) ⊎ (p.going ≡ None) → NoOtherGoes number command p.going → Has run queue p es →
+    Has run queue (ended p number command position) (es ++ entries.Host (record { queue = queue; number = number; command = command; reply = reply; moment = moment }) ∷ [])
+has-host run queue p es number command reply moment position at either only h =
     let e : Entry = entries.Host (record { queue = queue; number = number; command = command; reply = reply; moment = moment }) in
     let own : (queue == queue) ≡ true = eq-eqb queue queue refl in
     let one : completed queue (e ∷ []) ≡ (number, command) ∷ [] = let t = completes-one queue (queue == queue) (number, command) own in cc in
-    let r : Receipt = record { number = number; position = position; reply = reply } in
+    let r : Receipt = record { number = number; position = position } in
     let there : run.found.totals.position + 1 + length es ≡ position = omega (arith, at) in
     let told : filter_map (receipt_in queue) ((position, e) ∷ []) ≡ r ∷ [] = let t = receives-one (queue == queue) r own in cc in
     record {
       commands = completed-push queue es e ∙ ap (λ (xs : List (ℕ × Command)). completed queue es ++ xs) one ∙ ap (λ (xs : List (ℕ × Command)). xs ++ (number, command) ∷ []) h.commands;
       receipts = receipts-push run.found queue es e ∙ ap (λ (k : ℕ). receipts_of run.found queue es ++ filter_map (receipt_in queue) ((k, e) ∷ [])) there
           ∙ ap (λ (rs : List Receipt). receipts_of run.found queue es ++ rs) told ∙ ap (λ (rs : List Receipt). rs ++ r ∷ []) h.receipts;
-      once = λ k. omega (arith, same-times queue k es e refl, h.once k);
-      fresh = λ k low. same-times queue k es e refl ∙ h.fresh k low;
+      starts = same-starts queue (begun_by (ended p number command position)) es e refl
+          (subst (Sublist (started_by queue es)) (sym (append-nil (p.commands ++ (number, command) ∷ []))) (sublists.trans h.starts (ends-own p.commands number command p.going only)));
       going = state-push run es e queue ∙ host-going run.config (state_by run es) queue number command reply moment (⊎_elim (λ write. inl write) (λ none. inr (h.going ∙ none)) either);
     }
 
@@ -159,28 +169,19 @@ started-going : (c : DriveConfig) (s : PlainState) (queue number : ℕ) (command
 unfolding after changed_by
 started-going c s queue number command rg ruh pid_valid = at-place s.going queue (Some (started c s number command rg ruh pid_valid))
 
-counted-once : (b : Bool) (e : Entry) → length (cond b (e ∷ []) []) ≤ 1
-counted-once true e = omega arith
-counted-once false e = omega arith
-
-other-number : (a : Bool) (number k : ℕ) → number ≢ k → (a && (number == k)) ≡ false
-other-number a number k ne = ap (λ (b : Bool). a && b) (ne_eqb number k ne) ∙ no-number a where
-  no-number : (a : Bool) → (a && false) ≡ false
-  no-number true = refl
-  no-number false = refl
-
-pub has-started : (run : Run) (queue : ℕ) (p : Progress) (es : List Entry) (number : ℕ) (command : Command) (rg ruh : ℕ) (pid_valid : Bool) → p.next ≤ number → Has run queue p es →
-    Has run queue (flying (begins p number (started run.config (state_by run es) number command rg ruh pid_valid)) (started run.config (state_by run es) number command rg ruh pid_valid) 0) (es ++ entries.Started (record { queue = queue; number = number; command = command; rg = rg; ruh = ruh; pid_valid = pid_valid }) ∷ [])
-has-started run queue p es number command rg ruh pid_valid low h =
+pub has-started : (run : Run) (queue : ℕ) (p : Progress) (es : List Entry) (number : ℕ) (command : Command) (rg ruh : ℕ) (pid_valid : Bool) → p.going ≡ None → Has run queue p es →
+    Has run queue (flying p (started run.config (state_by run es) number command rg ruh pid_valid) 0) (es ++ entries.Started (record { queue = queue; number = number; command = command; rg = rg; ruh = ruh; pid_valid = pid_valid }) ∷ [])
+has-started run queue p es number command rg ruh pid_valid idle h =
     let e : Entry = entries.Started (record { queue = queue; number = number; command = command; rg = rg; ruh = ruh; pid_valid = pid_valid }) in
+    let own : (queue == queue) ≡ true = eq-eqb queue queue refl in
+    let one : started_by queue (e ∷ []) ≡ (number, command) ∷ [] = let t = completes-one queue (queue == queue) (number, command) own in cc in
+    let none : begun_by p ≡ p.commands = ap (λ (g : Option Going). p.commands ++ cons_option (option_map (λ (g : Going). (g.number, g.command)) g) []) idle ∙ append-nil p.commands in
+    let before : Sublist (started_by queue es) p.commands = subst (Sublist (started_by queue es)) none h.starts in
     record {
       commands = completed-push queue es e ∙ append-nil (completed queue es) ∙ h.commands;
       receipts = no-more-receipts run.found queue es e (λ position. refl) ∙ h.receipts;
-      once = λ k. ⊎_elim
-          (λ (is : number ≡ k). omega (arith, times-push queue k es e, counted-once (starts queue k e) e, h.fresh k (omega (arith, low, is))))
-          (λ (ne : number ≢ k). omega (arith, same-times queue k es e (other-number (queue == queue) number k ne), h.once k))
-          (cases_eq number k);
-      fresh = λ k above. same-times queue k es e (other-number (queue == queue) number k (λ (is : number ≡ k). omega (arith, above, is))) ∙ h.fresh k (omega (arith, low, above));
+      starts = subst (λ (xs : List (ℕ × Command)). Sublist xs (p.commands ++ (number, command) ∷ [])) (sym (starts-push queue es e ∙ ap (λ (xs : List (ℕ × Command)). started_by queue es ++ xs) one))
+          (sublists.append before (sublists.refl ((number, command) ∷ [])));
       going = state-push run es e queue ∙ started-going run.config (state_by run es) queue number command rg ruh pid_valid;
     }
 
@@ -206,20 +207,9 @@ has-placed run queue p es ticket index unit page g count same h =
     record {
       commands = completed-push queue es e ∙ append-nil (completed queue es) ∙ h.commands;
       receipts = no-more-receipts run.found queue es e (λ position. refl) ∙ h.receipts;
-      once = λ k. omega (arith, same-times queue k es e refl, h.once k);
-      fresh = λ k low. same-times queue k es e refl ∙ h.fresh k low;
+      starts = same-starts queue (begun_by (flying p g (count + 1))) es e refl h.starts;
       going = state-push run es e queue ∙ placed-going run.config (state_by run es) ticket index unit page queue (record g { placed = count }) h.going same;
     }
-
--- no number is lost where fewer are said to be left
-pub has-later : (run : Run) (queue : ℕ) (p : Progress) (es : List Entry) (next : ℕ) → p.next ≤ next → Has run queue p es → Has run queue (record p { next = next }) es
-has-later run queue p es next low h = record {
-  commands = h.commands;
-  receipts = h.receipts;
-  once = h.once;
-  fresh = λ k above. h.fresh k (omega (arith, low, above));
-  going = h.going;
-}
 
 -- ---- items of others
 

@@ -20,7 +20,7 @@ use Rattle.fdp_lock.specs.declared.seat.Seat.{Seat}
 use Rattle.fdp_lock.specs.Seats.{turns_of, number_of, seen_of, made_of, lock_origin, HoldsNoTurn, IsSeatOf, GoesOn, KeepsPlace}
 use Rattle.fdp_rules.specs.PlainState.{Going}
 use Rattle.fdp_workers.specs.Hosting.{AddsNothing, EndsAt, Expects, IsAt, IsFlyingAt, IsPaced, IsSpent, IsTicketIn, KeepsPost, StartsAt, StopsAt, WaitsAt, run_of}
-use Rattle.fdp_workers.specs.Queues.{Has, Progress, begins, ended, flying}
+use Rattle.fdp_workers.specs.Queues.{Has, NoOtherGoes, Progress, ended, flying}
 use Rattle.fdp_workers.specs.Run.{IsHistory, Run, state_by}
 use Rattle.fdp_workers.specs.Turns.{AddsNone, Completes, MakesRoom, PlacesPage, Starts}
 use Rattle.fdp_workers.proofs.Turning.{GoesOnBy, by-none, by-own, completes-has, expects-has, made-all, none-has, own-longer, places-has, starts-has}
@@ -163,8 +163,9 @@ module _ {S O I : Type 0} {g : _} (origin : S → O) (entries : S → List I) (r
         }
 
     -- no step was made
-    pub turned-stops : (p left : Progress) → left.commands ≡ p.commands → left.receipts ≡ p.receipts → entries w ≡ entries y → IsAt origin run entry mark lock left s0 → StopsAt origin run entry mark lock p s2
-    turned-stops p left commands receipts nothing at =
+    pub turned-stops : (p left : Progress) (number : ℕ) (command : Command) → left.commands ≡ p.commands → left.receipts ≡ p.receipts → NoOtherGoes number command left.going → entries w ≡ entries y → IsAt origin run entry mark lock left s0 →
+        StopsAt origin run entry mark lock p number command s2
+    turned-stops p left number command commands receipts only nothing at =
         let shorter = prefix_length (seen_of s0) (entries x) t.finds.seen in
         let same : entries z ≡ entries x = t.entries_after ∙ nothing ∙ t.entries_before in
         let size = ap (λ (xs : List I). length xs) (t.seen ∙ same) in
@@ -173,6 +174,7 @@ module _ {S O I : Type 0} {g : _} (origin : S → O) (entries : S → List I) (r
           left = left;
           commands_are = commands;
           receipts_are = receipts;
+          going = only;
           at = turned-at left none (subst (λ (xs : List I). Has (run_of origin run lock) (number_of s0) left (map entry xs)) (sym same) (turned-has left at));
           turns = omega (arith, t.paced.paced, shorter, size, t.turns, t.turns_entered);
         } where
@@ -180,24 +182,24 @@ module _ {S O I : Type 0} {g : _} (origin : S → O) (entries : S → List I) (r
           prefix-self xs = ([], append-nil xs)
 
     -- the step completed a command
-    pub turned-ends : (p : Progress) (queue number : ℕ) (command : Command) (done : Done) (pass : Pass) → queue ≡ number_of s0 → (is_write command ≡ true) ⊎ (p.going ≡ None) → IsAt origin run entry mark lock p s0 →
+    pub turned-ends : (p : Progress) (queue number : ℕ) (command : Command) (done : Done) (pass : Pass) → queue ≡ number_of s0 → (is_write command ≡ true) ⊎ (p.going ≡ None) → NoOtherGoes number command p.going → IsAt origin run entry mark lock p s0 →
         Completes (run (origin y)) entry mark (entries y) (entries w) queue number command done → IsPrefix (map mark (entries z)) (passes.seen_of pass) → EndsAt origin run entry mark lock p number command s2 pass done
-    turned-ends p queue number command done pass own either at step shown =
+    turned-ends p queue number command done pass own either only at step shown =
         let c : Completes (run_of origin run lock) entry mark (entries x) (entries z) (number_of s0) number command done = step-of (λ r old new q. Completes r entry mark old new q number command done) queue own step in
-        let h = completes-has (run_of origin run lock) entry mark (number_of s0) p (entries x) (entries z) number command done c left-history t.number either (turned-has p at) in
+        let h = completes-has (run_of origin run lock) entry mark (number_of s0) p (entries x) (entries z) number command done c left-history t.number either only (turned-has p at) in
         let by = by-own mark (number_of s0) entry (entries x) (entries z) _ c.adds in
         record {
-          at = turned-at (ended p number command done.position done.reply) by.goes_on h;
+          at = turned-at (ended p number command done.position) by.goes_on h;
           paced = turned-paced (own-longer entry mark (number_of s0) (entries x) (entries z) _ c.adds);
           shown = subst (λ (xs : List I). IsPrefix (map mark xs) (passes.seen_of pass)) (sym t.seen) shown;
         }
 
     -- the step started a write
-    pub turned-starts : (p : Progress) (queue number : ℕ) (command : Command) (ticket : Ticket) → queue ≡ number_of s0 → p.next ≤ number → IsAt origin run entry mark lock p s0 →
+    pub turned-starts : (p : Progress) (queue number : ℕ) (command : Command) (ticket : Ticket) → queue ≡ number_of s0 → p.going ≡ None → IsAt origin run entry mark lock p s0 →
         Starts (run (origin y)) entry mark (entries y) (entries w) queue number command ticket → StartsAt origin run entry mark lock p number command s2 ticket
-    turned-starts p queue number command ticket own low at step =
+    turned-starts p queue number command ticket own idle at step =
         let c : Starts (run_of origin run lock) entry mark (entries x) (entries z) (number_of s0) number command ticket = step-of (λ r old new q. Starts r entry mark old new q number command ticket) queue own step in
-        let s = starts-has (run_of origin run lock) entry mark (number_of s0) p (entries x) (entries z) number command ticket c left-history t.number low (turned-has p at) in
+        let s = starts-has (run_of origin run lock) entry mark (number_of s0) p (entries x) (entries z) number command ticket c left-history t.number idle (turned-has p at) in
         let by = by-own mark (number_of s0) entry (entries x) (entries z) _ c.adds in
         record {
           going = s.going;
@@ -205,7 +207,7 @@ module _ {S O I : Type 0} {g : _} (origin : S → O) (entries : S → List I) (r
           command_is = s.command_is;
           flies = record {
             ticket_is = subst (λ (q : ℕ). IsTicketIn q ticket s.going) (sym number-same) s.ticket_is;
-            at = turned-at (flying (begins p number s.going) s.going 0) by.goes_on s.has;
+            at = turned-at (flying p s.going 0) by.goes_on s.has;
             paced = turned-paced (own-longer entry mark (number_of s0) (entries x) (entries z) _ c.adds);
           };
         }
@@ -242,7 +244,7 @@ module _ {S O I : Type 0} {g : _} (origin : S → O) (entries : S → List I) (r
     pub turned-lands : (p : Progress) (ticket : Ticket) (v : Going) (count : ℕ) (done : Done) (pass : Pass) → IsFlyingAt origin run entry mark lock p ticket v count s0 →
         Completes (run (origin y)) entry mark (entries y) (entries w) ticket.queue v.number v.command done → IsPrefix (map mark (entries z)) (passes.seen_of pass) → EndsAt origin run entry mark lock p v.number v.command s2 pass done
     turned-lands p ticket v count done pass f step shown =
-        let e = turned-ends (flying p v count) ticket.queue v.number v.command done pass f.ticket_is.queue_is (inl f.ticket_is.write) f.at step shown in
+        let e = turned-ends (flying p v count) ticket.queue v.number v.command done pass f.ticket_is.queue_is (inl f.ticket_is.write) (refl, refl) f.at step shown in
         record { at = e.at; paced = e.paced; shown = e.shown }
 
     -- pages are still to be placed

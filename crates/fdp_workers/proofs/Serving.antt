@@ -1,7 +1,9 @@
 -- The turns of one command, joined, and the commands of a trace.
-use Rattle.std.proofs.Common.{◌≡◌, ℕ, zero, suc, ◌+◌, ◌<◌, ◌≤◌, get_or, take, length-take, List, [], ◌∷◌, ◌++◌, length, None, refl, sym, ◌∙◌, ap, subst, arith}
-use Rattle.std.specs.Prelude.{map}
-use Rattle.std.specs.List.{enumerate_from}
+use Rattle.std.proofs.Common.{◌≡◌, ℕ, zero, suc, ◌+◌, ◌<◌, ◌≤◌, false, get_or, take, length-take, List, [], ◌∷◌, ◌++◌, length, Option, None, Some, refl, sym, ◌∙◌, ap, subst, arith}
+use Rattle.std.specs.Prelude.{◌==◌, MatchResult, Result, map, option_map}
+use mathlib.Core.List.Sublist as sublists
+use mathlib.Core.List.{Sublist, append-nil, sublist-append_left}
+use Rattle.std.specs.List.{cons_option, enumerate_from}
 use Rattle.std.proofs.lemmas.List.{take_all, take_more}
 use Rattle.std.proofs.lemmas.List.FromFn.{get_or-enumerate_from, length-enumerate_from}
 use Rattle.fdp_base.specs.declared.command.Command.{Command}
@@ -18,52 +20,27 @@ use Rattle.fdp_lock.specs.declared.seat.Seat.{Seat}
 use Rattle.fdp_base.proofs.Records.{nil-prefix}
 use Rattle.fdp_lock.specs.Seats.{turns_of, number_of, made_of, HoldsNoTurn, IsSeatOf}
 use Rattle.fdp_rules.specs.PlainState.{Going}
-use Rattle.fdp_rules.specs.Queue.{numbered}
+use Rattle.fdp_rules.specs.Queue.{numbered, started_by}
 use Rattle.fdp_workers.specs.declared.receipt.Receipt.{Receipt}
+use Rattle.fdp_workers.specs.declared.stop.Stop.{Stop}
 use Rattle.fdp_rules.specs.History.{first_state, state_of}
-use Rattle.fdp_workers.specs.Hosting.{EndsAt, Expects, IsAt, IsIdleAt, ServesAt, StartsAt, StopsAt, WaitsAt, run_of}
-use Rattle.fdp_workers.specs.Queues.{Has, Progress, Serves, ServesWhole, begins, ended, served, so_far}
+use Rattle.fdp_workers.specs.Hosting.{EndsAt, Expects, IsAt, IsIdleAt, ServesSome, StartsAt, StopsAt, WaitsAt, run_of}
+use Rattle.fdp_workers.specs.Queues.{Has, NoOtherGoes, Progress, Serves, ServesWhole, ended, so_far}
 use Rattle.fdp_workers.specs.Run.{Run}
-use Rattle.fdp_workers.proofs.Progressing.{has-later}
 use Rattle.fdp_workers.proofs.Turning.{expects-has}
 
 module _ {S O I : Type 0} {g : _} (origin : S → O) (run : O → Run) (entry : I → Entry) (mark : I → Mark) (lock : GroupLock S O I) where
-  at-later : (p : Progress) (next : ℕ) (s : Seat S O I g) → p.next ≤ next → IsAt origin run entry mark lock p s → IsAt origin run entry mark lock (record p { next = next }) s
-  at-later p next s low at = record {
-    of_lock = at.of_lock;
-    no_turn = at.no_turn;
-    has = λ items goes_on own history. has-later (run_of origin run lock) (number_of s) p (map entry items) next low (at.has items goes_on own history);
-  }
-
-  -- the first step completed the command
-  pub serves-ended : (p : Progress) (number : ℕ) (command : Command) (s : Seat S O I g) (pass : Pass) (done : Done) (receipt : Receipt) → p.next ≤ number → receipt ≡ record { number = number; position = done.position; reply = done.reply } →
-      EndsAt origin run entry mark lock p number command s pass done → ServesAt origin run entry mark lock p number command s pass receipt
-  serves-ended p number command s pass done receipt low is e = record {
-    at = subst (λ (r : Receipt). IsAt origin run entry mark lock (served p number command r) s) (sym is) (at-later (ended p number command done.position done.reply) (number + 1) s (omega (arith, low)) e.at);
-    paced = e.paced;
-    shown = e.shown;
-  }
-
-  -- it started a write, which then ended
-  pub serves-started : (p : Progress) (number : ℕ) (command : Command) (s0 s : Seat S O I g) (ticket : Ticket) (pass : Pass) (done : Done) (receipt : Receipt) → receipt ≡ record { number = number; position = done.position; reply = done.reply } →
-      (b : StartsAt origin run entry mark lock p number command s0 ticket) → EndsAt origin run entry mark lock (begins p number b.going) b.going.number b.going.command s pass done → ServesAt origin run entry mark lock p number command s pass receipt
-  serves-started p number command s0 s ticket pass done receipt is b e =
-      let q : Progress = begins p number b.going in
-      let n : IsAt origin run entry mark lock (ended q number b.going.command done.position done.reply) s = subst (λ (k : ℕ). IsAt origin run entry mark lock (ended q k b.going.command done.position done.reply) s) b.number_is e.at in
-      let c : IsAt origin run entry mark lock (ended q number command done.position done.reply) s = subst (λ (x : Command). IsAt origin run entry mark lock (ended q number x done.position done.reply) s) b.command_is n in
-      record {
-        at = subst (λ (r : Receipt). IsAt origin run entry mark lock (served p number command r) s) (sym is) c;
-        paced = e.paced;
-        shown = e.shown;
-      }
-
-  -- it started a write, which is left going
-  pub stops-started : (p : Progress) (number : ℕ) (x : Going) (s : Seat S O I g) → StopsAt origin run entry mark lock (begins p number x) s → StopsAt origin run entry mark lock p s
-  stops-started p number x s b = record { left = b.left; commands_are = b.commands_are; receipts_are = b.receipts_are; at = b.at; turns = b.turns }
+  -- it started a write, which then ended, or is left going
+  pub goes-on : (p : Progress) (number : ℕ) (command : Command) (s0 s : Seat S O I g) (ticket : Ticket) (pass : Pass) (r : Result Done Stop) → (b : StartsAt origin run entry mark lock p number command s0 ticket) →
+      MatchResult r (λ done. EndsAt origin run entry mark lock p b.going.number b.going.command s pass done) (λ stop. StopsAt origin run entry mark lock p b.going.number b.going.command s) →
+      MatchResult r (λ done. EndsAt origin run entry mark lock p number command s pass done) (λ stop. StopsAt origin run entry mark lock p number command s)
+  goes-on p number command s0 s ticket pass r b h =
+      subst (λ (k : ℕ). MatchResult r (λ done. EndsAt origin run entry mark lock p k command s pass done) (λ stop. StopsAt origin run entry mark lock p k command s)) b.number_is
+      (subst (λ (x : Command). MatchResult r (λ done. EndsAt origin run entry mark lock p b.going.number x s pass done) (λ stop. StopsAt origin run entry mark lock p b.going.number x s)) b.command_is h)
 
   -- the pages of a well formed write that was started are still to be placed
   pub starts-waits : (p : Progress) (c : DriveConfig) (number : ℕ) (command : Command) (s : Seat S O I g) (ticket : Ticket) → IsWellFormed c command → (b : StartsAt origin run entry mark lock p number command s ticket) →
-      WaitsAt origin run entry mark lock (begins p number b.going) ticket b.going s
+      WaitsAt origin run entry mark lock p ticket b.going s
   starts-waits p c number command s ticket formed b =
       record {
         count = 0;
@@ -87,9 +64,9 @@ numbered-more trace n command low is =
     ∙ ap (λ (k : ℕ). numbered (take n trace) ++ (k, command) ∷ []) size
 
 -- what a queue has of a trace once it has served a command more
-pub so_far-more : (trace : List Command) (n : ℕ) (receipts : List Receipt) (command : Command) (receipt : Receipt) → n < length trace → command ≡ get_or trace n command → served (so_far trace n receipts) n command receipt ≡ so_far trace (n + 1) (receipts ++ receipt ∷ [])
-so_far-more trace n receipts command receipt low is =
-    ap (λ (cs : List (ℕ × Command)). record { commands = cs; receipts = receipts ++ receipt ∷ []; next = n + 1; going = None }) (sym (numbered-more trace n command low is))
+pub so_far-more : (trace : List Command) (n : ℕ) (receipts : List Receipt) (command : Command) (position : ℕ) → n < length trace → command ≡ get_or trace n command → ended (so_far trace n receipts) n command position ≡ so_far trace (n + 1) (receipts ++ record { number = n; position = position } ∷ [])
+so_far-more trace n receipts command position low is =
+    ap (λ (cs : List (ℕ × Command)). record { commands = cs; receipts = receipts ++ record { number = n; position = position } ∷ []; going = None }) (sym (numbered-more trace n command low is))
 
 -- the next command of a trace
 pub next-command : (trace : List Command) (n number : ℕ) (command : Command) → (n < length (enumerate_from 0 trace)) × ((number, command) ≡ get_or (enumerate_from 0 trace) n (number, command)) → (n < length trace) × (number ≡ n) × (command ≡ get_or trace n command)
@@ -101,16 +78,21 @@ next-command trace n number command t =
 
 module _ {S O I : Type 0} {g : _} (origin : S → O) (run : O → Run) (entry : I → Entry) (mark : I → Mark) (lock : GroupLock S O I) where
   -- a command more of a trace was served
-  pub first-more : (trace : List Command) (n number : ℕ) (receipts : List Receipt) (command : Command) (s : Seat S O I g) (pass : Pass) (receipt : Receipt) → (n < length trace) × (number ≡ n) × (command ≡ get_or trace n command) →
-      ServesAt origin run entry mark lock (so_far trace n receipts) number command s pass receipt → IsIdleAt origin run entry mark lock (so_far trace (n + 1) (receipts ++ receipt ∷ [])) (n + 1) s
-  first-more trace n number receipts command s pass receipt t h =
-      let at : IsAt origin run entry mark lock (served (so_far trace n receipts) n command receipt) s = subst (λ (k : ℕ). IsAt origin run entry mark lock (served (so_far trace n receipts) k command receipt) s) t.1 h.at in
+  pub first-more : (trace : List Command) (n number : ℕ) (receipts : List Receipt) (command : Command) (s : Seat S O I g) (pass : Pass) (done : Done) → (n < length trace) × (number ≡ n) × (command ≡ get_or trace n command) →
+      EndsAt origin run entry mark lock (so_far trace n receipts) number command s pass done → IsIdleAt origin run entry mark lock (so_far trace (n + 1) (receipts ++ record { number = number; position = done.position } ∷ [])) s
+  first-more trace n number receipts command s pass done t h =
+      let at : IsAt origin run entry mark lock (ended (so_far trace n receipts) n command done.position) s = subst (λ (k : ℕ). IsAt origin run entry mark lock (ended (so_far trace n receipts) k command done.position) s) t.1 h.at in
+      let more : IsAt origin run entry mark lock (so_far trace (n + 1) (receipts ++ record { number = n; position = done.position } ∷ [])) s = subst (λ (p : Progress). IsAt origin run entry mark lock p s) (so_far-more trace n receipts command done.position t.0 t.2) at in
       record {
-        at = subst (λ (p : Progress). IsAt origin run entry mark lock p s) (so_far-more trace n receipts command receipt t.0 t.2) at;
+        at = subst (λ (k : ℕ). IsAt origin run entry mark lock (so_far trace (n + 1) (receipts ++ record { number = k; position = done.position } ∷ [])) s) (sym t.1) more;
         idle = refl;
-        next = omega arith;
         paced = h.paced;
       }
+
+-- a number that is not none
+pub not-none : (n : ℕ) → (n == 0) ≡ false → 0 < n
+not-none zero e = absurd cc
+not-none (suc n) e = omega arith
 
 -- ---- the whole of it
 
@@ -119,14 +101,39 @@ rest-of n zero xs = (enumerate_from n xs, refl)
 rest-of n (suc count) [] = ([], refl)
 rest-of n (suc count) (x ∷ xs) = let r = rest-of (n + 1) count xs in (r.0, ap (λ (zs : List (ℕ × Command)). (n, x) ∷ zs) r.1)
 
--- a queue that has some commands of its trace serves it
-pub has-serves : (run : Run) (queue : ℕ) (trace : List Command) (count : ℕ) (receipts : List Receipt) (p : Progress) (es : List Entry) → p.commands ≡ numbered (take count trace) → p.receipts ≡ receipts → Has run queue p es → Serves run queue trace receipts es
-has-serves run queue trace count receipts p es commands got h =
+-- the first commands of a trace are some of it
+first-of : (trace : List Command) (count : ℕ) → Sublist (numbered (take count trace)) (numbered trace)
+first-of trace count = let r = rest-of 0 count trace in subst (Sublist (numbered (take count trace))) (sym r.1) (sublist-append_left (numbered (take count trace)) r.0)
+
+-- the first commands of a trace and what is going, which is of the next, are some of it
+starts-own : (trace : List Command) (count : ℕ) (command : Command) (going : Option Going) → count < length trace → command ≡ get_or trace count command → NoOtherGoes count command going →
+    Sublist (numbered (take count trace) ++ cons_option (option_map (λ (g : Going). (g.number, g.command)) going) []) (numbered trace)
+starts-own trace count command None low is only = subst (λ (xs : List (ℕ × Command)). Sublist xs (numbered trace)) (sym (append-nil (numbered (take count trace)))) (first-of trace count)
+starts-own trace count command (Some g) low is only =
+    let same : (g.number, g.command) ≡ (count, command) = ap (λ (n : ℕ). (n, g.command)) only.0 ∙ ap (λ (x : Command). (count, x)) only.1 in
+    let all : numbered (take count trace) ++ (g.number, g.command) ∷ [] ≡ numbered (take (count + 1) trace) = ap (λ (x : ℕ × Command). numbered (take count trace) ++ x ∷ []) same ∙ sym (numbered-more trace count command low is) in
+    subst (λ (xs : List (ℕ × Command)). Sublist xs (numbered trace)) (sym all) (first-of trace (count + 1))
+
+-- a queue that stopped at a command of its trace
+pub stopped-serves : (run : Run) (queue : ℕ) (trace : List Command) (count : ℕ) (command : Command) (receipts : List Receipt) (p : Progress) (es : List Entry) → count < length trace → command ≡ get_or trace count command →
+    p.commands ≡ numbered (take count trace) → p.receipts ≡ receipts → NoOtherGoes count command p.going → Has run queue p es → Serves run queue trace receipts es
+stopped-serves run queue trace count command receipts p es low is commands got only h =
     let r = rest-of 0 count trace in
+    let some = subst (λ (xs : List (ℕ × Command)). Sublist (xs ++ cons_option (option_map (λ (g : Going). (g.number, g.command)) p.going) []) (numbered trace)) (sym commands) (starts-own trace count command p.going low is only) in
     record {
       order = (r.0, r.1 ∙ ap (λ (zs : List (ℕ × Command)). zs ++ r.0) (sym (h.commands ∙ commands)));
       receipts_are = h.receipts ∙ got;
-      once = h.once;
+      starts = sublists.trans h.starts some;
+    }
+
+-- a queue without a write that is going, once some commands of its trace are completed
+pub idle-serves : (run : Run) (queue : ℕ) (trace : List Command) (count : ℕ) (receipts : List Receipt) (es : List Entry) → Has run queue (so_far trace count receipts) es → Serves run queue trace receipts es
+idle-serves run queue trace count receipts es h =
+    let r = rest-of 0 count trace in
+    record {
+      order = (r.0, r.1 ∙ ap (λ (zs : List (ℕ × Command)). zs ++ r.0) (sym h.commands));
+      receipts_are = h.receipts;
+      starts = sublists.trans (subst (Sublist (started_by queue es)) (append-nil (numbered (take count trace))) h.starts) (first-of trace count);
     }
 
 pub has-whole : (run : Run) (queue : ℕ) (trace : List Command) (receipts : List Receipt) (es : List Entry) → Has run queue (so_far trace (length trace) receipts) es → ServesWhole run queue trace es
@@ -134,11 +141,11 @@ has-whole run queue trace receipts es h = record { whole = h.commands ∙ ap num
 
 pub nothing-yet : (run : Run) (queue : ℕ) (trace : List Command) → Has run queue (so_far trace 0 []) []
 unfolding state_of first_state
-nothing-yet run queue trace = record { commands = refl; receipts = refl; once = λ number. omega arith; fresh = λ number low. refl; going = refl }
+nothing-yet run queue trace = record { commands = refl; receipts = refl; starts = sublists.refl []; going = refl }
 
 module _ {S O I : Type 0} {g : _} (origin : S → O) (run : O → Run) (entry : I → Entry) (mark : I → Mark) (lock : GroupLock S O I) where
   -- a new seat has served nothing
-  pub idle-first : (trace : List Command) (s : Seat S O I g) → IsSeatOf origin lock s → HoldsNoTurn s → turns_of s ≡ 0 → made_of s ≡ [] → IsIdleAt origin run entry mark lock (so_far trace 0 []) 0 s
+  pub idle-first : (trace : List Command) (s : Seat S O I g) → IsSeatOf origin lock s → HoldsNoTurn s → turns_of s ≡ 0 → made_of s ≡ [] → IsIdleAt origin run entry mark lock (so_far trace 0 []) s
   idle-first trace s of_lock no_turn turns made =
       let r : Run = run_of origin run lock in
       record {
@@ -148,17 +155,36 @@ module _ {S O I : Type 0} {g : _} (origin : S → O) (run : O → Run) (entry : 
           has = λ items goes_on own history. expects-has r entry mark (number_of s) (so_far trace 0 []) [] (made_of s) made (nothing-yet r (number_of s) trace) items (nil-prefix items) own history;
         };
         idle = refl;
-        next = omega arith;
         paced = record { paced = omega (arith, turns); few = omega (arith, turns) };
       }
 
   pub all-serves : (trace : List Command) (receipts : List Receipt) (s : Seat S O I g) → IsAt origin run entry mark lock (so_far trace (length trace) receipts) s → Expects (run_of origin run lock) entry mark (Serves (run_of origin run lock) (number_of s) trace receipts) s
   all-serves trace receipts s at = λ items goes_on own history.
-      has-serves (run_of origin run lock) (number_of s) trace (length trace) receipts (so_far trace (length trace) receipts) (map entry items) refl refl (at.has items goes_on own history)
+      idle-serves (run_of origin run lock) (number_of s) trace (length trace) receipts (map entry items) (at.has items goes_on own history)
 
   pub all-whole : (trace : List Command) (receipts : List Receipt) (s : Seat S O I g) → IsAt origin run entry mark lock (so_far trace (length trace) receipts) s → Expects (run_of origin run lock) entry mark (ServesWhole (run_of origin run lock) (number_of s) trace) s
   all-whole trace receipts s at = λ items goes_on own history. has-whole (run_of origin run lock) (number_of s) trace receipts (map entry items) (at.has items goes_on own history)
 
-  pub some-serves : (trace : List Command) (receipts : List Receipt) (s : Seat S O I g) (count : ℕ) → StopsAt origin run entry mark lock (so_far trace count receipts) s → Expects (run_of origin run lock) entry mark (Serves (run_of origin run lock) (number_of s) trace receipts) s
-  some-serves trace receipts s count b = λ items goes_on own history.
-      has-serves (run_of origin run lock) (number_of s) trace count receipts b.left (map entry items) b.commands_are b.receipts_are (b.at.has items goes_on own history)
+  pub some-serves : (trace : List Command) (receipts : List Receipt) (s : Seat S O I g) (count : ℕ) (command : Command) → count < length trace → command ≡ get_or trace count command →
+      StopsAt origin run entry mark lock (so_far trace count receipts) count command s → Expects (run_of origin run lock) entry mark (Serves (run_of origin run lock) (number_of s) trace receipts) s
+  some-serves trace receipts s count command low is b = λ items goes_on own history.
+      stopped-serves (run_of origin run lock) (number_of s) trace count command receipts b.left (map entry items) low is b.commands_are b.receipts_are b.going (b.at.has items goes_on own history)
+
+  -- nothing was begun
+  pub stops-first : (trace : List Command) (receipts : List Receipt) (s : Seat S O I g) (stop : Stop) → 0 < length trace → receipts ≡ [] → IsIdleAt origin run entry mark lock (so_far trace 0 []) s → ServesSome origin run entry mark lock trace receipts s stop
+  stops-first [] receipts s stop low none idle = absurd (omega (arith, low))
+  stops-first (command ∷ trace) receipts s stop low none idle = record {
+    count = 0;
+    few = low;
+    sized = ap length none;
+    command = command;
+    command_is = refl;
+    stopped = record {
+      left = so_far (command ∷ trace) 0 [];
+      commands_are = refl;
+      receipts_are = sym none;
+      going = tt;
+      at = idle.at;
+      turns = omega (arith, idle.paced.paced);
+    };
+  }

@@ -17,7 +17,7 @@ use Rattle.fdp_core.specs.fdp_book.declared.ticket.Ticket.{Ticket}
 use Rattle.fdp_rules.specs.Change.{started}
 use Rattle.fdp_rules.specs.PlainState.{Going}
 use Rattle.fdp_workers.specs.Hosting.{IsTicketIn}
-use Rattle.fdp_workers.specs.Queues.{Has, Progress, begins, ended, flying}
+use Rattle.fdp_workers.specs.Queues.{Has, NoOtherGoes, Progress, ended, flying}
 use Rattle.fdp_workers.specs.Run.{AreNext, IsHistory, Run, position_by, state_by}
 use Rattle.fdp_workers.specs.Turns.{AddsNone, AddsOwn, Completes, PlacesPage, Starts}
 use Rattle.fdp_workers.proofs.Nexts.{next-behind}
@@ -80,11 +80,11 @@ module _ {I : Type 0} (run : Run) (entry : I → Entry) (mark : I → Mark) (que
       }
 
   pub completes-has : (p : Progress) (old new : List I) (number : ℕ) (command : Command) (done : Done) → Completes run entry mark old new queue number command done → IsHistory run entry mark new → queue ≢ 0 →
-      (is_write command ≡ true) ⊎ (p.going ≡ None) → Has run queue p (map entry old) → Has run queue (ended p number command done.position done.reply) (map entry new)
-  completes-has p old new number command done c history nonzero either h =
+      (is_write command ≡ true) ⊎ (p.going ≡ None) → NoOtherGoes number command p.going → Has run queue p (map entry old) → Has run queue (ended p number command done.position) (map entry new)
+  completes-has p old new number command done c history nonzero either only h =
       let b = behind-own p old new _ c.adds history nonzero h in
       let at : done.position ≡ run.found.totals.position + (length b.es + 1) = c.position_is ∙ ap (λ (n : ℕ). run.found.totals.position + n) b.longer in
-      subst (Has run queue (ended p number command done.position done.reply)) (sym b.new_is) (has-host run queue p b.es number command done.reply done.moment done.position at either b.has)
+      subst (Has run queue (ended p number command done.position)) (sym b.new_is) (has-host run queue p b.es number command done.reply done.moment done.position at either only b.has)
 
   -- a write that was started, and its ticket
   pub record Started (p : Progress) (new : List I) (number : ℕ) (command : Command) (ticket : Ticket) : Type 0 where
@@ -92,11 +92,11 @@ module _ {I : Type 0} (run : Run) (entry : I → Entry) (mark : I → Mark) (que
     pub ticket_is : IsTicketIn queue ticket going
     pub number_is : going.number ≡ number
     pub command_is : going.command ≡ command
-    pub has : Has run queue (flying (begins p number going) going 0) (map entry new)
+    pub has : Has run queue (flying p going 0) (map entry new)
 
   pub starts-has : (p : Progress) (old new : List I) (number : ℕ) (command : Command) (ticket : Ticket) → Starts run entry mark old new queue number command ticket → IsHistory run entry mark new → queue ≢ 0 →
-      p.next ≤ number → Has run queue p (map entry old) → Started p new number command ticket
-  starts-has p old new number command ticket s history nonzero low h =
+      p.going ≡ None → Has run queue p (map entry old) → Started p new number command ticket
+  starts-has p old new number command ticket s history nonzero idle h =
       let b = behind-own p old new _ s.adds history nonzero h in
       let x : Going = started run.config (state_by run b.es) number command s.rg s.ruh s.pid_valid in
       let position : x.ticket ≡ position_by run (length new) = omega (arith, position-is run.config run.found b.es, b.longer) in
@@ -110,7 +110,7 @@ module _ {I : Type 0} (run : Run) (entry : I → Entry) (mark : I → Mark) (que
         };
         number_is = refl;
         command_is = refl;
-        has = subst (Has run queue (flying (begins p number x) x 0)) (sym b.new_is) (has-started run queue p b.es number command s.rg s.ruh s.pid_valid low b.has);
+        has = subst (Has run queue (flying p x 0)) (sym b.new_is) (has-started run queue p b.es number command s.rg s.ruh s.pid_valid idle b.has);
       }
 
   pub places-has : (p : Progress) (old new : List I) (ticket : Ticket) (x : Going) (count : ℕ) → ticket.queue ≡ queue → x.ticket ≡ ticket.position → PlacesPage entry mark old new ticket → IsHistory run entry mark new → queue ≢ 0 →

@@ -1,5 +1,5 @@
 -- What a seat knows of the record by the entries that carry its number.
-use Rattle.std.specs.Prelude.{◌≡◌, ◌≢◌, ℕ, ◌+◌, ◌^◌, ◌<◌, ◌≤◌, List, None, Ok, Err, Result, length, map, true}
+use Rattle.std.specs.Prelude.{◌≡◌, ◌≢◌, ℕ, ◌+◌, ◌^◌, ◌<◌, ◌≤◌, List, None, Ok, Err, Result, get_or, length, map, true}
 use mathlib.Core.List.{IsPrefix}
 use Rattle.fdp_base.specs.declared.command.Command.{Command}
 use Rattle.fdp_base.specs.declared.entry.Entry.{Entry}
@@ -22,7 +22,7 @@ use Rattle.fdp_rules.specs.PlainState.{Going}
 use Rattle.fdp_rules.specs.Step.{IsQueue}
 use Rattle.fdp_workers.specs.declared.stop.Stop.{Stop}
 use Rattle.fdp_workers.specs.declared.receipt.Receipt.{Receipt}
-use Rattle.fdp_workers.specs.Queues.{Has, Progress, begins, ended, flying, served, so_far}
+use Rattle.fdp_workers.specs.Queues.{Has, NoOtherGoes, Progress, ended, flying, so_far}
 use Rattle.fdp_workers.specs.Run.{IsHistory, Run}
 use Rattle.fdp_base.specs.declared.limits.TheConstants.{MOST_STEPS}
 
@@ -71,11 +71,10 @@ module _ {S O I : Type 0} {g : _} where
     pub paced : turns_of s ≤ length (seen_of s)
     pub few : turns_of s < 2 ^ 40
 
-  -- no write is going in its queue, and no command from this number on was started
-  pub record IsIdleAt (origin : S → O) (run : O → Run) (entry : I → Entry) (mark : I → Mark) (lock : GroupLock S O I) (p : Progress) (number : ℕ) (s : Seat S O I g) : Type 0 where
+  -- no write is going in its queue
+  pub record IsIdleAt (origin : S → O) (run : O → Run) (entry : I → Entry) (mark : I → Mark) (lock : GroupLock S O I) (p : Progress) (s : Seat S O I g) : Type 0 where
     pub at : IsAt origin run entry mark lock p s
     pub idle : p.going ≡ None
-    pub next : p.next ≤ number
     pub paced : IsPaced s
 
   -- so many pages of its write are placed
@@ -86,15 +85,16 @@ module _ {S O I : Type 0} {g : _} where
 
   -- its queue has completed a command, which the pass has seen
   pub record EndsAt (origin : S → O) (run : O → Run) (entry : I → Entry) (mark : I → Mark) (lock : GroupLock S O I) (p : Progress) (number : ℕ) (command : Command) (s : Seat S O I g) (pass : Pass) (done : Done) : Type 0 where
-    pub at : IsAt origin run entry mark lock (ended p number command done.position done.reply) s
+    pub at : IsAt origin run entry mark lock (ended p number command done.position) s
     pub paced : IsPaced s
     pub shown : IsShown mark s pass
 
-  -- no further step could be made. No command more was completed; a write may be left going
-  pub record StopsAt (origin : S → O) (run : O → Run) (entry : I → Entry) (mark : I → Mark) (lock : GroupLock S O I) (p : Progress) (s : Seat S O I g) : Type 0 where
+  -- no further step could be made for a command. No command more was completed; the write of this one may be left going
+  pub record StopsAt (origin : S → O) (run : O → Run) (entry : I → Entry) (mark : I → Mark) (lock : GroupLock S O I) (p : Progress) (number : ℕ) (command : Command) (s : Seat S O I g) : Type 0 where
     pub left : Progress
     pub commands_are : left.commands ≡ p.commands
     pub receipts_are : left.receipts ≡ p.receipts
+    pub going : NoOtherGoes number command left.going
     pub at : IsAt origin run entry mark lock left s
     pub turns : turns_of s ≤ length (seen_of s) + 1
 
@@ -110,7 +110,7 @@ module _ {S O I : Type 0} {g : _} where
     pub going : Going
     pub number_is : going.number ≡ number
     pub command_is : going.command ≡ command
-    pub flies : IsFlyingAt origin run entry mark lock (begins p number going) ticket going 0 s
+    pub flies : IsFlyingAt origin run entry mark lock p ticket going 0 s
 
   -- a command was begun: it is completed, or it is a write that goes on
   abbrev pub BeginsAt : (S → O) → (O → Run) → (I → Entry) → (I → Mark) → GroupLock S O I → Progress → ℕ → Command → Seat S O I g → Pass → Begun → Type 0
@@ -129,12 +129,6 @@ module _ {S O I : Type 0} {g : _} where
   PlacesAt origin run entry mark lock p x s pass (placed.Ready next) = IsFlyingAt origin run entry mark lock p next x (blocks_written x.command) s
   PlacesAt origin run entry mark lock p x s pass (placed.Ended done) = EndsAt origin run entry mark lock p x.number x.command s pass done
 
-  -- a command was served, with this receipt
-  pub record ServesAt (origin : S → O) (run : O → Run) (entry : I → Entry) (mark : I → Mark) (lock : GroupLock S O I) (p : Progress) (number : ℕ) (command : Command) (s : Seat S O I g) (pass : Pass) (receipt : Receipt) : Type 0 where
-    pub at : IsAt origin run entry mark lock (served p number command receipt) s
-    pub paced : IsPaced s
-    pub shown : IsShown mark s pass
-
   -- the whole trace was served, which the pass has seen where there was a command
   pub record ServesAll (origin : S → O) (run : O → Run) (entry : I → Entry) (mark : I → Mark) (lock : GroupLock S O I) (trace : List Command) (receipts : List Receipt) (s : Seat S O I g) (pass : Pass) : Type 0 where
     pub at : IsAt origin run entry mark lock (so_far trace (length trace) receipts) s
@@ -146,7 +140,9 @@ module _ {S O I : Type 0} {g : _} where
     pub count : ℕ
     pub few : count < length trace
     pub sized : length receipts ≡ count
-    pub stopped : StopsAt origin run entry mark lock (so_far trace count receipts) s
+    pub command : Command
+    pub command_is : command ≡ get_or trace count command
+    pub stopped : StopsAt origin run entry mark lock (so_far trace count receipts) count command s
 
   abbrev pub ServesTrace : (S → O) → (O → Run) → (I → Entry) → (I → Mark) → GroupLock S O I → List Command → List Receipt → Seat S O I g → Pass → Result (Unit {0}) Stop → Type 0
   ServesTrace origin run entry mark lock trace receipts s pass (Ok done) = ServesAll origin run entry mark lock trace receipts s pass

@@ -4,6 +4,7 @@ pub use Rattle.fdp_core.specs.fdp_collector as fdp_collector
 pub use Rattle.fdp_core.specs as fdp_core
 pub use Rattle.fdp_core.specs.fdp_isolation as fdp_isolation
 pub use Rattle.fdp_core.specs.fdp_ledger as fdp_ledger
+pub use Rattle.fdp_core.specs.fdp_loading as fdp_loading
 pub use Rattle.fdp_core.specs.fdp_recovery as fdp_recovery
 pub use Rattle.fdp_core.specs.fdp_relocation as fdp_relocation
 pub use Rattle.fdp_core.specs.fdp_roominess as fdp_roominess

@@ -9,7 +9,7 @@ ghost use Rattle.fdp_lock.specs.Seats.{turns_of, number_of, seen_of, made_of, Ho
 ghost use Rattle.fdp_rules.specs.PlainState.{Going};
 ghost use Rattle.fdp_workers.specs.declared.ends.End.TheVariants as ends;
 ghost use Rattle.fdp_workers.specs.declared.stop.Stop.TheVariants.{Turns};
-ghost use Rattle.fdp_workers.specs.Hosting.{EndsAt, Expects, IsFlyingAt, IsIdleAt, IsPost, IsShown, IsSpent, KeepsPost, ServesAt, ServesTrace, StopsAt, WaitsAt, run_of};
+ghost use Rattle.fdp_workers.specs.Hosting.{EndsAt, Expects, IsFlyingAt, IsIdleAt, IsPost, IsShown, IsSpent, KeepsPost, ServesTrace, StopsAt, WaitsAt, run_of};
 ghost use Rattle.fdp_workers.specs.Pairs.{IsIdlePair, IsReaped};
 ghost use Rattle.fdp_workers.specs.Queues.{Progress, Serves, ServesWhole, so_far};
 
@@ -45,7 +45,7 @@ fn end_write<V: Steps, G: Gate, R: Wait>(
     ensures ended { (p : Progress) (x : Going) → WaitsAt V.origin V.run V.entry V.mark lock.now p ticket x seat.old →
         MatchResult result
         (λ done. EndsAt V.origin V.run V.entry V.mark lock.now p x.number x.command seat.new pass.new done)
-        (λ stop. StopsAt V.origin V.run V.entry V.mark lock.now p seat.new) }
+        (λ stop. StopsAt V.origin V.run V.entry V.mark lock.now p x.number x.command seat.new) }
     ensures cause { IfErr result (λ stop. stop ≡ Turns → IsSpent V.origin V.entries V.spent lock.now seat.new) }
 {
     let queue = seat.number();
@@ -80,16 +80,16 @@ pub fn serve<V: Steps, G: Gate, R: Wait>(
     pass: &mut Pass,
     number: u16,
     command: Command,
-) -> Result<Receipt, Stop>
+) -> Result<Done, Stop>
     requires post { IsPost (run_of V.origin V.run lock.now) gauge.now seat.old pass.old }
     requires config { config.now ≡ (run_of V.origin V.run lock.now).config }
     requires formed { IsWellFormed config.now command }
-    requires idle { (p : Progress) × IsIdleAt V.origin V.run V.entry V.mark lock.now p number seat.old }
+    requires idle { (p : Progress) × IsIdleAt V.origin V.run V.entry V.mark lock.now p seat.old }
     ensures post { KeepsPost gauge.now seat.old seat.new pass.old pass.new }
-    ensures served { (p : Progress) → IsIdleAt V.origin V.run V.entry V.mark lock.now p number seat.old →
+    ensures served { (p : Progress) → IsIdleAt V.origin V.run V.entry V.mark lock.now p seat.old →
         MatchResult result
-        (λ receipt. ServesAt V.origin V.run V.entry V.mark lock.now p number command seat.new pass.new receipt)
-        (λ stop. StopsAt V.origin V.run V.entry V.mark lock.now p seat.new) }
+        (λ done. EndsAt V.origin V.run V.entry V.mark lock.now p number command seat.new pass.new done)
+        (λ stop. StopsAt V.origin V.run V.entry V.mark lock.now p number command seat.new) }
     ensures cause { IfErr result (λ stop. stop ≡ Turns → IsSpent V.origin V.entries V.spent lock.now seat.new) }
 {
     let room = match Room::new(alloc, &command, config) {
@@ -102,33 +102,15 @@ pub fn serve<V: Steps, G: Gate, R: Wait>(
         Err(stop) => return Err(stop),
     };
     match begun {
-        Begun::Ended(done) => Ok(receipt_of(number, done)),
-        Begun::Going(ticket) => match end_write(rt, lock, gauge, gate, seat, pass, ticket) {
-            Ok(done) => Ok(receipt_of(number, done)),
-            Err(stop) => Err(stop),
-        },
+        Begun::Ended(done) => Ok(done),
+        Begun::Going(ticket) => end_write(rt, lock, gauge, gate, seat, pass, ticket),
     }
 }
 
-fn receipt_of(number: u16, done: Done) -> Receipt
-    ensures { result ≡ record { number = number; position = done.position; reply = done.reply } }
-{
-    let Done {
-        position,
-        moment: _,
-        reply,
-    } = done;
-    Receipt {
-        number,
-        position,
-        reply,
-    }
-}
-
-/// A command that was served through its queue pair: its receipt, and its completion as it was reaped.
+/// A command that was served through its queue pair: how it was completed, and its completion as it was reaped.
 #[derive(Drop)]
 struct Exchanged {
-    receipt: Receipt,
+    done: Done,
     completion: Cqe,
 }
 
@@ -149,27 +131,24 @@ fn exchange<V: Steps, G: Gate, R: Wait>(
     requires post { IsPost (run_of V.origin V.run lock.now) gauge.now seat.old pass.old }
     requires config { config.now ≡ (run_of V.origin V.run lock.now).config }
     requires formed { IsWellFormed config.now command }
-    requires idle { (p : Progress) × IsIdleAt V.origin V.run V.entry V.mark lock.now p number seat.old }
+    requires idle { (p : Progress) × IsIdleAt V.origin V.run V.entry V.mark lock.now p seat.old }
     requires pair { IsIdlePair config.now.queue_depth number number pair.old }
     ensures post { KeepsPost gauge.now seat.old seat.new pass.old pass.new }
-    ensures served { (p : Progress) → IsIdleAt V.origin V.run V.entry V.mark lock.now p number seat.old →
+    ensures served { (p : Progress) → IsIdleAt V.origin V.run V.entry V.mark lock.now p seat.old →
         MatchResult result
-        (λ e. ServesAt V.origin V.run V.entry V.mark lock.now p number command seat.new pass.new e.receipt)
-        (λ stop. StopsAt V.origin V.run V.entry V.mark lock.now p seat.new) }
+        (λ e. EndsAt V.origin V.run V.entry V.mark lock.now p number command seat.new pass.new e.done)
+        (λ stop. StopsAt V.origin V.run V.entry V.mark lock.now p number command seat.new) }
     ensures cause { IfErr result (λ stop. stop ≡ Turns → IsSpent V.origin V.entries V.spent lock.now seat.new) }
     ensures pair { OnOk result (IsIdlePair config.now.queue_depth (number + 1) (number + 1) pair.new) }
-    ensures reaped { IfOk result (λ e. IsReaped config.now.queue_depth (number_of seat.new) number e.receipt.reply e.completion) }
+    ensures reaped { IfOk result (λ e. IsReaped config.now.queue_depth (number_of seat.new) number e.done.reply e.completion) }
 {
     let named = deliver(pair, &command, number);
     match serve(
         rt, alloc, lock, gauge, gate, config, seat, pass, named, command,
     ) {
-        Ok(receipt) => {
-            let completion = complete(pair, seat.number(), named, &receipt.reply);
-            Ok(Exchanged {
-                receipt,
-                completion,
-            })
+        Ok(done) => {
+            let completion = complete(pair, seat.number(), named, &done.reply);
+            Ok(Exchanged { done, completion })
         }
         Err(stop) => Err(stop),
     }
@@ -193,7 +172,7 @@ fn serve_all<V: Steps, G: Gate, R: Wait>(
     requires config { config.now ≡ (run_of V.origin V.run lock.now).config }
     requires formed { All (IsWellFormed config.now) trace.items }
     requires few { length trace.items ≤ MOST_TRACE_COMMANDS }
-    requires idle { IsIdleAt V.origin V.run V.entry V.mark lock.now (so_far trace.items 0 []) 0 seat.old }
+    requires idle { IsIdleAt V.origin V.run V.entry V.mark lock.now (so_far trace.items 0 []) seat.old }
     requires pair { IsIdlePair config.now.queue_depth 0 0 pair.old }
     requires room { length trace.items ≤ vec_capacity receipts.old }
     requires none { receipts.old.items ≡ [] }
@@ -215,7 +194,10 @@ fn serve_all<V: Steps, G: Gate, R: Wait>(
             number as u16,
             command,
         ) {
-            Ok(exchanged) => receipts.push_reserved(exchanged.receipt),
+            Ok(exchanged) => receipts.push_reserved(Receipt {
+                number: number as u16,
+                position: exchanged.done.position,
+            }),
             Err(stop) => return Err(stop),
         }
         gate.at(seat.number(), Point::Ended);
@@ -243,7 +225,7 @@ pub fn serve_trace<V: Steps, G: Gate, R: Wait>(
     requires valid { IsValidConfig config.now }
     requires formed { All (IsWellFormed config.now) trace.items }
     requires few { length trace.items ≤ MOST_TRACE_COMMANDS }
-    requires idle { IsIdleAt V.origin V.run V.entry V.mark lock.now (so_far trace.items 0 []) 0 seat.old }
+    requires idle { IsIdleAt V.origin V.run V.entry V.mark lock.now (so_far trace.items 0 []) seat.old }
     requires none { receipts.old.items ≡ [] }
     ensures post { KeepsPost gauge.now seat.old seat.new pass.old pass.new }
     ensures serves { ServesTrace V.origin V.run V.entry V.mark lock.now trace.items receipts.new.items seat.new pass.new result }

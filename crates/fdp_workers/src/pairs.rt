@@ -13,9 +13,11 @@ pub fn deliver(pair: &mut QueuePair, command: &Command, number: u16) -> u16
     ensures named { result ≡ number }
     ensures fetched { pair.new ≡ record pair.old { head = (pair.old.head + 1) % pair.old.depth } }
 {
+    // One command is in the pair at a time, and each ring holds one at least.
     let Ok(()) = pair.submit(work_of(command, number)) else {
         unreachable!()
     };
+    // It was put there just now.
     let Some(work) = pair.fetch() else {
         unreachable!()
     };
@@ -29,9 +31,11 @@ pub fn complete(pair: &mut QueuePair, queue: u8, number: u16, reply: &Reply) -> 
     ensures idle { IsIdlePair pair.old.depth (number + 1) (number + 1) pair.new }
 {
     let cqe = completion_of(queue, pair.head(), number, reply);
+    // One command is in the pair at a time, and each ring holds one at least.
     let Ok(()) = pair.post(cqe) else {
         unreachable!()
     };
+    // It was put there just now.
     let Some(reaped) = pair.reap() else {
         unreachable!()
     };

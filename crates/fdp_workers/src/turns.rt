@@ -45,17 +45,17 @@ pub(crate) fn begin<V: Steps, R: Wait>(
     requires post { IsPost (run_of V.origin V.run lock.now) gauge.now seat.old pass.old }
     requires formed { IsWellFormed (run_of V.origin V.run lock.now).config command }
     requires room { room ≡ room_for command (run_of V.origin V.run lock.now).config }
-    requires idle { (p : Progress) × IsIdleAt V.origin V.run V.entry V.mark lock.now p number seat.old }
+    requires idle { (p : Progress) × IsIdleAt V.origin V.run V.entry V.mark lock.now p seat.old }
     ensures post { KeepsPost gauge.now seat.old seat.new pass.old pass.new }
     ensures turns { turns_of seat.new ≡ turns_of seat.old + 1 }
-    ensures begun { (p : Progress) → IsIdleAt V.origin V.run V.entry V.mark lock.now p number seat.old →
+    ensures begun { (p : Progress) → IsIdleAt V.origin V.run V.entry V.mark lock.now p seat.old →
         MatchResult result
         (λ b. BeginsAt V.origin V.run V.entry V.mark lock.now p number command seat.new pass.new b)
-        (λ stop. StopsAt V.origin V.run V.entry V.mark lock.now p seat.new) }
+        (λ stop. StopsAt V.origin V.run V.entry V.mark lock.now p number command seat.new) }
     ensures cause { IfErr result (λ stop. stop ≡ Turns → IsSpent V.origin V.entries V.spent lock.now seat.new) }
 {
     let mut turn = lock.enter(rt, seat);
-    turn.value.known();
+    turn.value.known(); // proof
     if let Err(stop) = take_room(&mut turn.value) {
         lock.leave(turn, seat);
         return Err(stop);
@@ -64,12 +64,12 @@ pub(crate) fn begin<V: Steps, R: Wait>(
     match turn.value.start(queue, number, command, room) {
         Begun::Ended(done) => {
             turn.value.publish(rt, gauge, pass);
-            turn.value.known();
+            turn.value.known(); // proof
             lock.leave(turn, seat);
             Ok(Begun::Ended(done))
         }
         Begun::Going(ticket) => {
-            turn.value.known();
+            turn.value.known(); // proof
             lock.leave(turn, seat);
             Ok(Begun::Going(ticket))
         }
@@ -92,11 +92,11 @@ pub(crate) fn place<V: Steps, R: Wait>(
     ensures placed { (p : Progress) (x : Going) → WaitsAt V.origin V.run V.entry V.mark lock.now p ticket x seat.old →
         MatchResult result
         (λ b. PlacesAt V.origin V.run V.entry V.mark lock.now p x seat.new pass.new b)
-        (λ stop. StopsAt V.origin V.run V.entry V.mark lock.now p seat.new) }
+        (λ stop. StopsAt V.origin V.run V.entry V.mark lock.now p x.number x.command seat.new) }
     ensures cause { IfErr result (λ stop. stop ≡ Turns → IsSpent V.origin V.entries V.spent lock.now seat.new) }
 {
     let mut turn = lock.enter(rt, seat);
-    turn.value.known();
+    turn.value.known(); // proof
     if let Err(stop) = take_room(&mut turn.value) {
         turn.value.abandon(ticket);
         lock.leave(turn, seat);
@@ -105,17 +105,17 @@ pub(crate) fn place<V: Steps, R: Wait>(
     match turn.value.place(ticket) {
         Placed::Ended(done) => {
             turn.value.publish(rt, gauge, pass);
-            turn.value.known();
+            turn.value.known(); // proof
             lock.leave(turn, seat);
             Ok(Placed::Ended(done))
         }
         Placed::More(next) => {
-            turn.value.known();
+            turn.value.known(); // proof
             lock.leave(turn, seat);
             Ok(Placed::More(next))
         }
         Placed::Ready(next) => {
-            turn.value.known();
+            turn.value.known(); // proof
             lock.leave(turn, seat);
             Ok(Placed::Ready(next))
         }
@@ -138,11 +138,11 @@ pub(crate) fn end<V: Steps, R: Wait>(
     ensures ended { (p : Progress) (x : Going) → IsFlyingAt V.origin V.run V.entry V.mark lock.now p ticket x (blocks_written x.command) seat.old →
         MatchResult result
         (λ done. EndsAt V.origin V.run V.entry V.mark lock.now p x.number x.command seat.new pass.new done)
-        (λ stop. StopsAt V.origin V.run V.entry V.mark lock.now p seat.new) }
+        (λ stop. StopsAt V.origin V.run V.entry V.mark lock.now p x.number x.command seat.new) }
     ensures cause { IfErr result (λ stop. stop ≡ Turns → IsSpent V.origin V.entries V.spent lock.now seat.new) }
 {
     let mut turn = lock.enter(rt, seat);
-    turn.value.known();
+    turn.value.known(); // proof
     if let Err(stop) = take_room(&mut turn.value) {
         turn.value.abandon(ticket);
         lock.leave(turn, seat);
@@ -150,7 +150,7 @@ pub(crate) fn end<V: Steps, R: Wait>(
     }
     let done = turn.value.commit(ticket);
     turn.value.publish(rt, gauge, pass);
-    turn.value.known();
+    turn.value.known(); // proof
     lock.leave(turn, seat);
     Ok(done)
 }

@@ -42,8 +42,7 @@ impl Book {
     {
         let dword0 = self.dword0_of(&command, status);
         let birth = self.log.position() + 1;
-        // Read, so that it is known how few steps were made.
-        let _ = self.log.spent();
+        let _ = self.log.spent(); // proof: few steps were made
         let (places, replies) = room.into_places(status, dword0, true);
         make_change(&mut self.tables, &self.config, &command, birth, places);
         push_host(&mut self.log, queue, number, command, replies, moment)

@@ -19,7 +19,7 @@ pub(super) fn clear_ranges(map: &mut Map, pages: &mut Pages, nsid: u32, ranges: 
     requires pointers { HasPointers map.old pages.old }
     ensures { Clears nsid (is_in_ranges ranges.now) map.old map.new pages.old pages.new }
 {
-    pages.joined();
+    pages.joined(); // proof
     for index in 0..ranges.len() {
         let range = ranges[index];
         clear_blocks(map, pages, nsid, range.slba, range.length);
@@ -32,9 +32,8 @@ pub(super) fn clear_blocks(map: &mut Map, pages: &mut Pages, nsid: u32, slba: u6
     requires pointers { HasPointers map.old pages.old }
     ensures { Clears nsid (is_among slba count) map.old map.new pages.old pages.new }
 {
-    pages.joined();
-    // Read, so that the end of the namespace is known to be small.
-    let _ = map.size(nsid);
+    pages.joined(); // proof
+    let _ = map.size(nsid); // proof: the end of the namespace is small
     for index in 0..count {
         clear_block(map, pages, nsid, slba + u64::from(index));
     }

@@ -93,7 +93,7 @@ fn put_pages(map: &mut Map, pages: &mut Pages, nsid: u32, slba: u64, spots: &[Sp
     ensures owners { (at : Behind Page) (queue : ℕ) → MayTake at map.old pages.old queue nsid slba spots.now → AreOwners (owner_at pages.new.owners) (renamed (taken_first queue nsid slba (length spots.now)) at) }
     ensures pages { ChangesOwners pages.old pages.new }
 {
-    pages.joined();
+    pages.joined(); // proof
     for index in 0..spots.len() {
         let lba = slba + index as u64;
         put_page(map, pages, nsid, lba, spots[index]);

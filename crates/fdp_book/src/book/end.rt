@@ -60,8 +60,8 @@ impl Book {
         requires room { 0 < self.old.room }
         ensures { (g : Going) → IsTicketOf (state_in self.old) ticket.now g → Shuts self.old self.new ticket.now g rg ruh spot }
     {
-        let _ = ticket;
-        self.tables.pages.joined();
+        let _ = ticket; // proof
+        self.tables.pages.joined(); // proof
         self.tables.pages.shut(rg, ruh, spot);
         self.log.push(Entry::Shut(Shut { rg, ruh }));
     }

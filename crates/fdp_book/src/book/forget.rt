@@ -52,6 +52,7 @@ pub(super) fn drop_flight(tables: &mut Tables, queue: u8)
     requires { MayForget tables.old queue }
     ensures { Forgets tables.old tables.new queue (flight_in tables.old.flights.items queue) }
 {
+    // Its pages are released; what it was, nobody asks.
     let _ = forget(tables, queue);
 }
 
@@ -64,6 +65,6 @@ pub(super) fn end_in(tables: &mut Tables, queue: u8, command: &Command)
     if extent_of(command).is_some() {
         drop_flight(tables, queue);
     } else {
-        tables.pages.joined();
+        tables.pages.joined(); // proof
     }
 }

@@ -43,7 +43,7 @@ fn fresh_origin<J: Began>(alloc: Global, config: &DriveConfig) -> Result<Origin,
     requires { J.opening ≡ fresh_opening config.now }
     ensures { IfOk result (λ origin. origin ≡ fresh_opening config.now) }
 {
-    let _ = config;
+    let _ = config; // proof
     Origin::keep::<J>(alloc)
 }
 
@@ -56,7 +56,7 @@ fn configured_tables(alloc: Global, config: &DriveConfig) -> Result<Tables, Allo
 {
     let classes = config.classes(config.enabled, config.index);
     let pages = Pages::new(alloc, classes, config.geometry())?;
-    pages.joined();
+    pages.joined(); // proof
     Ok(Tables {
         setting: Setting {
             enabled: config.enabled,

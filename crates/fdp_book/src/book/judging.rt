@@ -60,7 +60,7 @@ impl Book {
         requires range { IfSome (read_of command.now) (λ read. read.slba + read.count < 2 ^ 64) }
         ensures { ComesFirstTo self.now command.now result }
     {
-        let _ = self;
+        let _ = self; // proof
         match command {
             Command::Read(read) => FirstStep::Read(*read),
             Command::Dealloc(dealloc) => first_of_deallocation(dealloc),

@@ -28,26 +28,24 @@ impl Book {
         ensures led { IsLed self.now }
         ensures generation { (state_in self.now).generation < 2 ^ 32 }
     {
-        // Read, so that its range is known.
-        let _generation = self.tables.setting.generation;
-        self.tables.pages.joined();
+        let _generation = self.tables.setting.generation; // proof: its range
+        self.tables.pages.joined(); // proof
     }
 
     /// The position and the sums leave room for those of an entry more.
     pub fn counted(&self)
         ensures { AreSmall (totals_of self.now.found self.now.entries) }
     {
-        let _sums = self.tables.sums;
-        let _position = self.log.position();
+        let _sums = self.tables.sums; // proof
+        let _position = self.log.position(); // proof
     }
 
     /// The generation has a number for another placement setting.
     pub fn numbered(&self)
         ensures { (state_in self.now).generation + 1 < 2 ^ 32 }
     {
-        // Read, so that it is known how few steps there are.
-        let _steps = self.log.spent();
-        self.tables.pages.joined();
+        let _steps = self.log.spent(); // proof: there are few steps
+        self.tables.pages.joined(); // proof
     }
 
     /// A group in which relocation gains nothing, and at most two units are free, has no room: each write to it exceeds its budget.
@@ -55,7 +53,7 @@ impl Book {
         requires { rg < self.now.config.groups }
         ensures { HasNoVictim self.now.pages.units rg → count_in self.now.pages.units rg is_free ≤ 2 → IsCrowded self.now.pages.units self.now.config (state_in self.now) rg }
     {
-        let _ = rg;
-        self.tables.pages.joined();
+        let _ = rg; // proof
+        self.tables.pages.joined(); // proof
     }
 }

@@ -26,7 +26,7 @@ impl Book {
         requires due { IsDue (passes_at self.old.pages rg) self.old.pages.units self.old.pages.owners rg Move }
         ensures moved { MovesPass self.old self.new rg }
     {
-        self.tables.pages.joined();
+        self.tables.pages.joined(); // proof
         let mut names = self.log.take_list();
         move_copies(&mut self.tables, rg, &mut names);
         self.tables.pages.end_move(rg);
@@ -50,7 +50,7 @@ fn move_copies(tables: &mut Tables, rg: u16, names: &mut Vec<BlockName>)
     ensures tables { MovesCopies tables.old tables.new rg (length (copies_at tables.old.pages rg)) }
     ensures names { names.new.items ≡ names_of (owner_at tables.old.pages.owners) (copies_at tables.old.pages rg) }
 {
-    tables.pages.joined();
+    tables.pages.joined(); // proof
     let count = tables.pages.copies(rg).len() as u32;
     for index in 0..count {
         move_copy(tables, rg, index, names);
@@ -69,7 +69,7 @@ fn move_copy(tables: &mut Tables, rg: u16, index: u32, names: &mut Vec<BlockName
     ensures names { NamesCopy tables.old rg index names.old.items names.new.items }
     ensures room { vec_capacity names.new ≡ vec_capacity names.old }
 {
-    tables.pages.joined();
+    tables.pages.joined(); // proof
     tables.map.placed();
     let to = tables.pages.copies(rg)[index as usize].to;
     if let Some(owner) = tables.pages.move_copy(rg, index) {
@@ -117,6 +117,7 @@ fn put_block(map: &mut Map, nsid: u32, lba: u64, to: Spot)
 {
     match map.get(nsid, lba) {
         Some(_) => map.put(nsid, lba, to),
+        // What is moved stands in the map.
         None => unreachable!(),
     }
 }
@@ -131,6 +132,7 @@ fn put_page(flight: &mut Option<Flight>, index: u16, to: Spot)
             let pages = flight.pages.as_mut_slice();
             pages[usize::from(index)] = to;
         }
+        // It belongs to a write that is going.
         None => unreachable!(),
     }
 }

@@ -36,7 +36,7 @@ fn release_writes(spaces: &Spaces, flights: &[Option<Flight>], pages: &mut Pages
     requires { HasFlights spaces.now flights.now pages.old }
     ensures { Releases spaces.now flights.now nsid (length flights.now) pages.old pages.new }
 {
-    pages.joined();
+    pages.joined(); // proof
     for queue in 0..flights.len() {
         release_write(spaces, &flights[queue], pages, nsid);
     }

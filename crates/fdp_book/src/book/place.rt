@@ -27,7 +27,7 @@ impl Book {
         requires { IsWaiting self.now ticket.now }
         ensures { (g : Going) → IsTicketOf (state_in self.now) ticket.now g → ComesTo self.now ticket.now g result }
     {
-        self.known();
+        self.known(); // proof
         let flight = self.flight(ticket);
         if !self.is_there(flight) {
             return NextPage::Gone;
@@ -65,7 +65,7 @@ impl Book {
         requires room { 0 < self.old.room }
         ensures { (g : Going) → IsTicketOf (state_in self.old) ticket.now g → Places self.old self.new ticket.now g spot result }
     {
-        self.tables.pages.joined();
+        self.tables.pages.joined(); // proof
         let flight = self.flight(ticket);
         let (rg, ruh) = (flight.rg, flight.ruh);
         let index = flight.pages.len() as u32;
@@ -91,6 +91,7 @@ impl Book {
     {
         match &self.tables.flights[usize::from(ticket.queue)] {
             Some(flight) => flight,
+            // A ticket is that of a write that is going.
             None => unreachable!(),
         }
     }
@@ -156,6 +157,7 @@ fn push_page(flight: &mut Option<Flight>, spot: Spot) -> bool
             flight.pages.push(spot);
             flight.pages.len() == flight.extent.count as usize
         }
+        // A ticket is that of a write that is going.
         None => unreachable!(),
     }
 }

@@ -16,13 +16,14 @@ impl Book {
     pub fn page_of(&self, nsid: u32, lba: u64) -> Option<Page>
         ensures { StandsAt self.now ((state_in self.now).blocks nsid lba) result }
     {
-        self.tables.pages.joined();
+        self.tables.pages.joined(); // proof
         match self.tables.map.get(nsid, lba) {
             Some(mapped) => match self.tables.pages.owner(mapped.spot) {
                 Some(owner) => Some(Page {
                     spot: mapped.spot,
                     spare: owner.spare.encode(),
                 }),
+                // A page where a block stands has an owner.
                 None => unreachable!(),
             },
             None => None,

@@ -33,7 +33,7 @@ impl Book {
         ensures stored { IsTrue (F.state flash.old).told → HoldsWritten (F.state flash.old).geometry (F.state flash.new).cells (written_in self.new) self.new.pages.units }
         ensures block { length block.new ≡ length block.old }
     {
-        self.tables.pages.joined();
+        self.tables.pages.joined(); // proof
         let step = self.tables.pages.advance(flash, block, rg, may_erase);
         tell(&mut self.log, &mut self.tables.sums, rg, step);
         step

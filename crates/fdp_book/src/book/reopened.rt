@@ -43,7 +43,7 @@ impl Book {
         ensures summary { IfOk result (λ made. made.1 ≡ state.summary) }
         ensures valid { IfOk result (λ made. IsValid config.now (cells_found config.now (F.state flash.now) pages) (reading_of_state state)) }
     {
-        pages.joined();
+        pages.joined(); // proof
         let origin = found_origin::<Brand, F>(alloc, flash, config, &state, &pages)?;
         let log = Log::reopened(alloc, state.summary.totals.position, config.unit_pages)?;
         let (tables, summary) = found_tables(alloc, flash, config, state, pages)?;
@@ -68,10 +68,10 @@ fn found_origin<J: Began, F: Flash>(
     requires { J.opening ≡ opening_found config.now (F.state flash.now) state.now pages.now }
     ensures { IfOk result (λ origin. origin ≡ opening_found config.now (F.state flash.now) state.now pages.now) }
 {
-    let _ = flash;
-    let _ = config;
-    let _ = state;
-    let _ = pages;
+    let _ = flash; // proof
+    let _ = config; // proof
+    let _ = state; // proof
+    let _ = pages; // proof
     Origin::keep::<J>(alloc)
 }
 
@@ -90,8 +90,8 @@ fn found_tables<F: Flash>(
     ensures summary { IfOk result (λ made. made.1 ≡ state.summary) }
     ensures generation { IfOk result (λ made. made.0.setting.generation ≡ state.summary.generation) }
 {
-    let _ = flash;
-    pages.joined();
+    let _ = flash; // proof
+    pages.joined(); // proof
     let (summary, map) = take_map(config, state);
     let totals = summary.totals;
     let tables = Tables {

@@ -29,7 +29,7 @@ impl<F: Flash> Group<F> {
                 let done = self
                     .book
                     .apply(queue, number, command, room, Status::SUCCESS, moment);
-                self.book.known();
+                self.book.known(); // proof
                 done
             }
             Saved::Doubtful { moment: _ } => {
@@ -37,13 +37,13 @@ impl<F: Flash> Group<F> {
                 let done = self
                     .book
                     .apply(queue, number, command, room, status, moment);
-                self.book.known();
+                self.book.known(); // proof
                 done
             }
             Saved::Unsaved { moment: _ } => {
                 let (_, replies) = room.end(Status::WRITE_FAULT, false);
                 let done = self.book.complete(queue, number, command, replies, moment);
-                self.book.known();
+                self.book.known(); // proof
                 done
             }
         }

@@ -42,17 +42,17 @@ impl<F: Flash> Group<F> {
         match saved {
             Saved::Done => {
                 let done = self.book.commit(ticket, Status::SUCCESS, moment);
-                self.book.known();
+                self.book.known(); // proof
                 done
             }
             Saved::Doubtful { moment: _ } => {
                 let done = self.book.commit(ticket, Status::WRITE_FAULT, moment);
-                self.book.known();
+                self.book.known(); // proof
                 done
             }
             Saved::Unsaved { moment: _ } => {
                 let done = self.book.end(ticket, Status::WRITE_FAULT, moment);
-                self.book.known();
+                self.book.known(); // proof
                 done
             }
         }

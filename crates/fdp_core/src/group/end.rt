@@ -42,9 +42,9 @@ impl<F: Flash> Group<F> {
         ensures safe { IsSafeNow (F.state self.new.flash) self.new.book self.new.keeper }
     {
         let moment = self.flash.moment();
-        self.book.known();
+        self.book.known(); // proof
         let done = self.book.end(ticket, status, moment);
-        self.book.known();
+        self.book.known(); // proof
         done
     }
 }

@@ -71,7 +71,7 @@ impl<F: Flash> Group<F> {
         ensures config { result.config ≡ self.now.book.config }
         ensures tells { Tells result (point_in self.now.book) }
     {
-        self.book.known();
+        self.book.known(); // proof
         LogView::new(
             self.book.config(),
             self.keeper.summary(),

@@ -57,6 +57,7 @@ impl<F: Flash> Group<F> {
                 Advance::Copied => {}
                 Advance::Moved => {}
                 Advance::Erased => return PassEnd::Made,
+                // A pass is under way, so a step is due.
                 Advance::Nothing => unreachable!(),
                 Advance::Starved => return PassEnd::Starved,
                 Advance::Fault => return PassEnd::Fault,
@@ -87,7 +88,7 @@ impl<F: Flash> Group<F> {
             &mut self.block,
             rg,
         );
-        self.book.known();
+        self.book.known(); // proof
         advance
     }
 }

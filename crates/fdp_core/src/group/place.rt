@@ -39,9 +39,9 @@ impl<F: Flash> Group<F> {
         ensures step { (g : Going) → IsTicketOf (state_in self.old.book) ticket g → Places F.state self.old self.new ticket g result }
         ensures stops { OutlastsStops F.state self.old self.new }
     {
-        self.book.known();
+        self.book.known(); // proof
         let rg = self.book.group(&ticket);
-        self.book.crowded(rg);
+        self.book.crowded(rg); // proof
         self.book.begin();
         match self.make_pass(rg) {
             PassEnd::Made => Placed::More(ticket),
@@ -73,7 +73,7 @@ impl<F: Flash> Group<F> {
             Ok(()) => {
                 self.book.begin();
                 let last = self.book.place(&ticket, spot);
-                self.book.known();
+                self.book.known(); // proof
                 if last {
                     Placed::Ready(ticket)
                 } else {
@@ -88,7 +88,7 @@ impl<F: Flash> Group<F> {
                 self.book.begin();
                 let status = Status::WRITE_FAULT;
                 let done = self.book.end_shut(ticket, spot, status, moment);
-                self.book.known();
+                self.book.known(); // proof
                 Placed::Ended(done)
             }
         }

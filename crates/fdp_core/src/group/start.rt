@@ -19,7 +19,7 @@ impl<F: Flash> Group<F> {
         ensures step { Begins F.state self.old self.new queue number command result }
         ensures stops { OutlastsStops F.state self.old self.new }
     {
-        self.book.known();
+        self.book.known(); // proof
         match self.book.first_step(&command) {
             FirstStep::Refused(status) => {
                 Begun::Ended(self.refuse(queue, number, command, status, room))
@@ -31,7 +31,7 @@ impl<F: Flash> Group<F> {
             FirstStep::Write(admission) => {
                 self.book.begin();
                 let ticket = self.book.start(queue, number, command, admission, room);
-                self.book.known();
+                self.book.known(); // proof
                 Begun::Going(ticket)
             }
         }

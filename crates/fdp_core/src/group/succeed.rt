@@ -32,11 +32,11 @@ impl<F: Flash> Group<F> {
         ensures step { EndsAtOnce F.state self.old self.new queue number command result }
         ensures stops { OutlastsStops F.state self.old self.new }
     {
-        self.book.known();
+        self.book.known(); // proof
         let moment = self.flash.moment();
         self.book.begin();
         let done = self.book.complete(queue, number, command, replies, moment);
-        self.book.known();
+        self.book.known(); // proof
         done
     }
 }

@@ -155,6 +155,7 @@ pub fn write(
     ensures cells { cells.new ≡ slice_set cells.old page (Whole spare.now bytes.now) }
     ensures blocks { HasBlocks (length bytes.now) cells.new blocks.new }
 {
+    // A page that is blank has its block ready.
     let Some(block) = blocks[page].take() else {
         unreachable!();
     };

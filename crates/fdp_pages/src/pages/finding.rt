@@ -29,7 +29,7 @@ impl Pages {
         ensures owners { owner_at self.new.owners ≡ with_owner (owner_at self.old.owners) spot (Some (of_found spare)) }
         ensures rest { ChangesOwners self.old self.new }
     {
-        self.joined();
+        self.joined(); // proof
         self.fill(
             spot,
             Owner {
@@ -45,7 +45,7 @@ impl Pages {
         requires handle { ruh < length self.now.handles.classes }
         ensures { Decides result (GoWith self.now unit ruh) }
     {
-        self.joined();
+        self.joined(); // proof
         match self.first_owner(unit) {
             Some(owner) => self.slot(owner.spare.ruh) == self.slot(ruh),
             None => true,
@@ -71,7 +71,7 @@ impl Pages {
         requires { ruh < length self.now.handles.classes }
         ensures { result ≡ slot_of (lane_of_handle self.now.handles.classes ruh) }
     {
-        let _ = &self.handles;
+        let _ = &self.handles; // proof
         Lane::of(self.handles.class(ruh), ruh).slot()
     }
 }

@@ -23,7 +23,7 @@ impl Pages {
         ensures owners { owner_at self.new.owners ≡ without (owner_at self.old.owners) spots.now }
         ensures rest { ChangesOwners self.old self.new }
     {
-        self.joined();
+        self.joined(); // proof
         for spot in spots {
             self.clear(*spot);
         }

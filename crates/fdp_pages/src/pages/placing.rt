@@ -42,6 +42,7 @@ impl Pages {
                 close_open(&mut self.units, unit);
                 self.handles.shut(rg, ruh);
             }
+            // It is asked of a handle with an open unit.
             None => unreachable!(),
         }
     }
@@ -53,7 +54,7 @@ impl Pages {
         requires handle { ruh < length self.old.handles.classes }
         ensures { UpdatesHandle self.old self.new rg ruh }
     {
-        self.joined();
+        self.joined(); // proof
         if self.handles.unit(rg, ruh).is_some() {
             self.close(rg, ruh);
         }

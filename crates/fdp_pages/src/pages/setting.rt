@@ -25,7 +25,7 @@ impl Pages {
         requires { HasNoOwner self.old }
         ensures { LeavesGroups self.old self.new (length self.old.units.groups) }
     {
-        self.joined();
+        self.joined(); // proof
         for rg in 0..self.units.groups() {
             self.leave_group(rg);
         }
@@ -46,7 +46,7 @@ impl Pages {
         requires { IsGroup self.old.units rg }
         ensures { LeavesHandles self.old self.new rg (length self.old.handles.classes) }
     {
-        self.joined();
+        self.joined(); // proof
         for ruh in 0..self.handles.classes().len() as u8 {
             self.update(rg, ruh);
         }

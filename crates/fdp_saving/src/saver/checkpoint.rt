@@ -43,6 +43,7 @@ impl Saver {
     {
         let count = match page_count(&flash.geometry(), summary) {
             Some(count) => count,
+            // A valid configuration has room for a checkpoint in an area.
             None => unreachable!(),
         };
         let area = 1 - self.journal.area();

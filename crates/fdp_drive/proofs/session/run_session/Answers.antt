@@ -41,4 +41,4 @@ returns g c =
     let few : length traces ≤ c.new-board.result.group.book.config.queues = omega (arith, length-map c.args.traces.items (λ trace. trace.items), c.requires.queues, ap (λ (b : BoardSeen g.row.F.Denot). b.group.book.config.queues) c.new-board.ensures) in
     subst (λ (b : BoardSeen g.row.F.Denot). IsSession g.F.Flash.state b.group p.result.0 traces receipts s.result.end) c.new-board.ensures
     (subst (λ (x : Seen g.row.F.Denot). IsSession g.F.Flash.state c.new-board.result.group x traces receipts s.result.end) (sym p.ensures.group)
-    (session-made g.F.Flash.state c.new-board.result s.result.value traces receipts s.result.end few s.ensures.origin s.ensures.goes_on s.ensures.shift p.ensures.safe p.ensures.roomy p.ensures.charged p.ensures.unfailing))
+    (session-made g.F.Flash.state c.new-board.result s.result.value traces receipts s.result.end few s.ensures.origin s.ensures.goes_on s.ensures.shift p.ensures.safe p.ensures.roomy p.ensures.charged p.ensures.unfailing p.ensures.steps p.ensures.emptied))

@@ -3,12 +3,12 @@ use Rattle.fdp_base.specs.declared.entry.Entry.{Entry}
 use Rattle.fdp_base.specs.declared.entry.Totals.{Totals}
 use Rattle.fdp_book.specs.Book.{point_in}
 use Rattle.fdp_outline.specs.Outline.{IsOutlineOf}
-use Rattle.fdp_durability.specs.fdp_readings.Changes.{Saves, completed}
+use Rattle.fdp_durability.specs.fdp_readings.Changes.{FitsDrawn, Saves, completed}
 use Rattle.fdp_durability.specs.fdp_readings.Drawn.{drawn}
 use Rattle.fdp_rules.specs.History.{point_of}
 use Rattle.fdp_rules.specs.Next.{totals_with}
 use Rattle.fdp_snapshot.specs.declared.state.Summary.{Summary}
-use Rattle.fdp_keeper.proofs.Behind.{can-be-kept, change-saves, generation-said, outline-behind, totals-other}
+use Rattle.fdp_keeper.proofs.Behind.{can-be-kept, change-fits, change-saves, generation-said, outline-behind, totals-other}
 use Rattle.fdp_keeper.proofs.Parts.{can-give, with-totals}
 use Rattle.fdp_keeper.proofs.command.save_command.Goals as goal
 
@@ -48,12 +48,13 @@ returns-clause-saves g c queue number reply moment applied =
     let may = c.requires.may in
     let change = c.change_of-change.result in
     let saves : Saves b.config p change e = change-saves b.config p queue number command reply moment change c.known.ensures.orderly applied may.saved may.other c.change_of-change.ensures.change in
+    let fits : FitsDrawn b.config p change e = change-fits b.config p command change e c.known.ensures.config c.known.ensures.orderly may.accepted may.saved may.other c.change_of-change.ensures.change in
     let before : c.totals-totals.result ≡ p.totals = c.totals-totals.ensures.totals in
     let after : record c.totals-totals.result { position = c.totals-totals.result.position + 1 } ≡ totals_with p.totals e =
     totals-other c.totals-totals.result queue number command reply moment may.other ∙ ap (λ (t : Totals). totals_with t e) before in
     let was : IsOutlineOf b.config (drawn b.config p) c.set_totals.new.self = with-totals b.config (drawn b.config p) c.args.outline.now c.set_totals.new.self c.totals-totals.result c.set_totals.ensures c.requires.can.outline in
     record {
-      saves = c.save-saved.ensures.saves e saves after;
-      outline = outline-behind b.config p e change c.set_totals.new.self c.keep_saved.new.outline c.save-saved.result saves was (c.keep_saved.ensures (totals_with p.totals e) (ap (λ (t : Totals). t.position + 1) (sym before)) was);
+      saves = c.save-saved.ensures.saves e saves fits after;
+      outline = outline-behind b.config p e change c.set_totals.new.self c.keep_saved.new.outline c.save-saved.result saves was (c.keep_saved.ensures (totals_with p.totals e) (ap (λ (t : Totals). t.position + 1) (sym before)) fits was);
       geometry = c.save-saved.ensures.geometry;
     }

@@ -11,6 +11,7 @@ pub returns-clause-change : goal.returns-clause-change
 returns-clause-change c = record {
   mask = c.mask_of.result;
   kinds = λ kind. c.mask_of.ensures.kinds kind ∙ ap (list_any (λ code. code == kind_code kind)) c.as_slice.ensures;
+  known = c.mask_of.ensures.low;
   change_is = ap (λ (n : ℕ). changes.SetEvents n c.args.set.now.enable c.mask_of.result) c.handle_of.ensures;
 }
 

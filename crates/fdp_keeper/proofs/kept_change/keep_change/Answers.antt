@@ -1,8 +1,11 @@
 use Rattle.std.proofs.Common.{List, ℕ, length, ◌≤◌, arith, subst, sym}
+use Rattle.std.specs.Prelude.{IsTrue}
 use Rattle.fdp_book.specs.Book.{point_in}
+use Rattle.fdp_image.specs.Fits.{fits}
 use Rattle.fdp_keeper.proofs.Behind.{kept-created, kept-updated}
 use Rattle.fdp_outline.proofs.Applying.{outline-cleared}
 use Rattle.fdp_durability.specs.fdp_readings.Drawn.{drawn}
+use Rattle.fdp_records.specs.declared.change.Change.{Change}
 use Rattle.fdp_keeper.proofs.kept_change.keep_change.Goals as goal
 
 pub keep_closed-requires : goal.keep_closed-requires
@@ -32,26 +35,27 @@ pub keep_kinds-requires : goal.keep_kinds-requires
 keep_kinds-requires c = rw c.in-SetEvents.is at c.requires.kept
 
 pub returns-in-Clear : goal.returns-in-Clear
-returns-in-Clear c totals at h = rw c.in-Clear.is (outline-cleared c.args.book.now.config (drawn c.args.book.now.config (point_in c.args.book.now)) c.args.outline.now totals _ _ c.known.ensures.summary h)
+returns-in-Clear c totals at fit h = rw c.in-Clear.is (outline-cleared c.args.book.now.config (drawn c.args.book.now.config (point_in c.args.book.now)) c.args.outline.now totals _ _ c.known.ensures.summary h)
 
 pub returns-in-Update : goal.returns-in-Update
-returns-in-Update c totals at h =
+returns-in-Update c totals at fit h =
     rw c.in-Update.is
     (kept-updated c.args.book.now.config (point_in c.args.book.now) c.args.outline.now c.keep_closed.new.outline totals c.in-Update.nsid c.in-Update.closed c.args.position c.as_slice.result.now c.in-Update.pids c.as_slice.ensures at c.requires.position c.keep_closed.ensures h)
 
 pub returns-in-Create : goal.returns-in-Create
-returns-in-Create c totals at h =
+returns-in-Create c totals at fit h =
     rw c.in-Create.is
     (kept-created c.args.book.now.config (drawn c.args.book.now.config (point_in c.args.book.now)) c.keep_created.new.self totals c.in-Create.nsid c.in-Create.size c.in-Create.given c.as_slice-in-Create.result.now c.in-Create.handles c.as_slice-in-Create.ensures (c.keep_created.ensures c.args.book.now.config (drawn c.args.book.now.config (point_in c.args.book.now)) totals at h))
 
 pub returns-in-Delete : goal.returns-in-Delete
-returns-in-Delete c totals at h = rw c.in-Delete.is (c.keep_deleted.ensures c.args.book.now.config (drawn c.args.book.now.config (point_in c.args.book.now)) totals h)
+returns-in-Delete c totals at fit h = rw c.in-Delete.is (c.keep_deleted.ensures c.args.book.now.config (drawn c.args.book.now.config (point_in c.args.book.now)) totals h)
 
 pub returns-in-SetFdp : goal.returns-in-SetFdp
-returns-in-SetFdp c totals at h = rw c.in-SetFdp.is (c.keep_setting.ensures c.args.book.now.config (drawn c.args.book.now.config (point_in c.args.book.now)) totals h)
+returns-in-SetFdp c totals at fit h = rw c.in-SetFdp.is (c.keep_setting.ensures c.args.book.now.config (drawn c.args.book.now.config (point_in c.args.book.now)) totals h)
 
 pub returns-in-SetEvents : goal.returns-in-SetEvents
-returns-in-SetEvents c totals at h = rw c.in-SetEvents.is (c.keep_kinds.ensures c.args.book.now.config (drawn c.args.book.now.config (point_in c.args.book.now)) totals h)
+returns-in-SetEvents c totals at fit h = rw c.in-SetEvents.is (c.keep_kinds.ensures c.args.book.now.config (drawn c.args.book.now.config (point_in c.args.book.now)) totals
+    (subst (λ (x : Change). IsTrue (fits c.args.book.now.config (drawn c.args.book.now.config (point_in c.args.book.now)) (x, totals))) c.in-SetEvents.is fit) h)
 
 pub unreachable-requires : goal.unreachable-requires
 unreachable-requires c = rw c.in-Write.is at c.requires.kept

@@ -11,7 +11,7 @@ use Rattle.fdp_outline.specs.Outline.{IsOutlineOf}
 use Rattle.fdp_outline.proofs.Saying.{outline-more, outline-totals}
 use Rattle.fdp_owners.specs.OwnerTable.{owner_at}
 use Rattle.fdp_durability.specs.fdp_pages.PageTables.{PageTables, copies_at}
-use Rattle.fdp_durability.specs.fdp_readings.Changes.{Saves, copies_of_blocks}
+use Rattle.fdp_durability.specs.fdp_readings.Changes.{FitsDrawn, Saves, copies_of_blocks}
 use Rattle.fdp_durability.specs.fdp_readings.Drawn.{drawn}
 use Rattle.fdp_base.specs.Placement.{handle_count}
 use Rattle.fdp_image.specs.Changed.{changed}
@@ -24,7 +24,7 @@ use Rattle.fdp_rules.specs.Sites.{moved_blocks}
 use Rattle.fdp_snapshot.specs.declared.state.Summary.{Summary}
 use Rattle.fdp_units.specs.UnitTable.{Cut}
 use Rattle.fdp_keeper.specs.Moves.{CanBeNamed, IsMoveOf, moved_of}
-use Rattle.fdp_keeper.proofs.Naming.{blocks-moved, can-be-named, copies-are, events-moved, move-saved, none-counted, none-moved, some-counted, some-moved, totals-moved}
+use Rattle.fdp_keeper.proofs.Naming.{blocks-moved, can-be-named, copies-are, events-moved, move-named-fits, move-saved, none-counted, none-moved, some-counted, some-moved, totals-moved}
 use Rattle.fdp_keeper.proofs.Parts.{adds, can-give, handles-said, index-said}
 use Rattle.fdp_keeper.proofs.saved_move.save_move.Goals as goal
 
@@ -97,6 +97,7 @@ returns-clause-some g c =
     (subst (λ (bs : List MovedBlock). IsMoveOf c.as_slice-2.result.now (map (λ (x : MovedBlock). x.ruh) bs) c.move_change-change.result) (c.as_slice-3.ensures.value ∙ blocks) c.move_change-change.ensures.change) in
     let e : Entry = entries.Moved (record { rg = rg; blocks = moved_blocks p rg }) in
     let saves : Saves b.config p c.move_change-change.result e = move-saved b.config p _ _ t rg pass c.move_change-change.result c.known.ensures.orderly c.known.ensures.standing c.known.ensures.led.led c.requires.group c.known.ensures.units.cut c.known.ensures.joined group is some can move in
+    let fits : FitsDrawn b.config p c.move_change-change.result e = move-named-fits b.config p t rg pass _ c.move_change-change.result e c.known.ensures.orderly c.known.ensures.units.cut c.known.ensures.joined group is move in
     let before : c.totals-totals.result ≡ p.totals = c.totals-totals.ensures.totals in
     let after : record c.totals-totals.result { position = c.totals-totals.result.position + 1 } ≡ totals_with p.totals e = totals-moved c.totals-totals.result rg (moved_blocks p rg) ∙ ap (λ (x : Totals). totals_with x e) before in
     let position : p.state.position + 1 ≡ c.totals-totals.result.position + 1 = ap (λ n. n + 1) (sym c.known.ensures.orderly.positions ∙ sym (ap (λ (x : Totals). x.position) before)) in
@@ -108,7 +109,7 @@ returns-clause-some g c =
     c.keep_moved.ensures p.state position ∙ ap (with_events c.set_totals.new.self) (events-moved b.config p _ _ t rg c.handle_count-count.result pass c.as_slice-4.result.now c.known.ensures.standing c.known.ensures.led.led names (c.as_slice-4.ensures.value ∙ blocks) count) in (
       λ none. some-moved owners pass.copies found (sym names ∙ none),
       record {
-        saves = c.save-saved.ensures.saves e saves after;
+        saves = c.save-saved.ensures.saves e saves fits after;
         outline = subst (λ (x : Summary). IsOutlineOf b.config (drawn b.config (next b.config p e)) x) (sym kept) (outline-more b.config (drawn b.config p) (drawn b.config (next b.config p e)) (events_of_entry b.config p.state e) c.set_totals.new.self was (adds b.config p c.move_change-change.result e (λ r at. ap (λ (x : Change). changed b.config r at x) move.change_is) saves));
         geometry = c.save-saved.ensures.geometry;
       },

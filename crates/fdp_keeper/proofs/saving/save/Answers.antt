@@ -1,15 +1,21 @@
-use Rattle.std.proofs.Common.{◌≡◌, ◌∙◌, ap, subst, sym}
+use Rattle.std.proofs.Common.{◌≡◌, ◌∙◌, IsTrue, ap, subst, sym}
 use Rattle.fdp_book.specs.Book.{point_in}
 use Rattle.fdp_outline.specs.Outline.{IsOutlineOf}
 use Rattle.fdp_durability.specs.fdp_readings.Drawn.{drawn}
+use Rattle.fdp_rules.specs.Next.{totals_with}
 use Rattle.fdp_snapshot.specs.declared.state.Summary.{Summary}
 use Rattle.fdp_keeper.proofs.Given.{IsGiven, drawn-pages, given, room-for-record}
 use Rattle.fdp_base.specs.declared.entry.Totals.{Totals}
+use Rattle.fdp_durability.specs.Durable.{SaysDrawn}
 use Rattle.fdp_durability.specs.fdp_checkpoint.Writing.{with_pages}
+use Rattle.fdp_durability.proofs.Said.{base-fits}
+use Rattle.fdp_image.specs.Fits.{fits}
+use Rattle.fdp_image.specs.Reading.{Reading}
 use Rattle.fdp_flash.specs.Runs.{Holds}
 use Rattle.fdp_durability.specs.fdp_saving.Said.{ReadsAsOneOf}
 use Rattle.fdp_durability.specs.fdp_saving.Saver.{needs_checkpoint}
 use Rattle.fdp_durability.specs.fdp_saving.Saving.{IsOfDrive, SayAfterSaving, base_of, within_saved}
+use Rattle.fdp_rules.specs.Next.{totals_with}
 use Rattle.fdp_keeper.proofs.saving.save.Goals as goal
 
 pub save-requires-clause-state : goal.save-requires-clause-state
@@ -35,7 +41,7 @@ save-requires-clause-room g c =
     room-for-record b.config c.args.saver.now.geometry s c.requires.given.of_drive g_.room
 
 pub returns-clause-saves : goal.returns-clause-saves
-returns-clause-saves g c e saves same =
+returns-clause-saves g c e saves fit same =
     let b = c.args.book.now in
     let s = c.summary.result.now in
     let lists = c.page_lists.result.now in
@@ -43,7 +49,10 @@ returns-clause-saves g c e saves same =
     let totals : s.totals ≡ (point_in b).totals = ap (λ (x : Summary). x.totals) c.summary.ensures.summary ∙ c.requires.given.totals in
     let pages = drawn-pages b.config (point_in b) lists c.known.ensures.config c.page_lists.ensures.rows c.page_lists.ensures.sizes c.page_lists.ensures.blocks c.page_lists.ensures.places in
     let g_ : IsGiven b.config (point_in b) s lists = given b.config (point_in b) s lists c.known.ensures.config c.known.ensures.orderly c.known.ensures.listed outline totals c.summary.ensures.writable pages in
-    let is_of : IsOfDrive b.config c.args.saver.now (with_pages s lists) = record { geometry = sym c.requires.given.of_drive; sizes = g_.sizes } in
+    let is_of : IsOfDrive b.config c.args.saver.now (with_pages s lists) = record { geometry = sym c.requires.given.of_drive; saved = g_.saved } in
+    let fits-then : (own : Reading) → SaysDrawn b.config (point_in b) c.args.saver.now own → IsTrue (fits b.config (base_of (needs_checkpoint c.args.saver.now) own (with_pages s lists)) (c.args.change.now, c.args.totals.now)) =
+    λ own sure. subst (λ (t : Totals). IsTrue (fits b.config (base_of (needs_checkpoint c.args.saver.now) own (with_pages s lists)) (c.args.change.now, t))) (sym same)
+    (base-fits b.config (point_in b) c.args.saver.now own (with_pages s lists) (c.args.change.now, totals_with (point_in b).totals e) g_.drive sure fit) in
     record {
       given = with_pages s lists;
       change = c.args.change.now;
@@ -52,8 +61,8 @@ returns-clause-saves g c e saves same =
       saves = saves;
       saver_is = c.save.ensures.saver;
       stands = c.save.ensures.stands;
-      stops = λ own tried say. subst (λ (t : Totals). Holds (ReadsAsOneOf b.config (g.F.Flash.state c.args.flash.now).cells (within_saved b.config (needs_checkpoint c.args.saver.now) own tried (with_pages s lists) (c.args.change.now, t) c.save.result)) (g.F.Flash.state c.args.flash.now) (g.F.Flash.state c.save.new.flash)) same (c.save.ensures.stops b.config own tried is_of say);
-      said = λ own tried told say. subst (λ (t : Totals). SayAfterSaving b.config c.save.new.self (g.F.Flash.state c.save.new.flash).cells own tried (with_pages s lists) (base_of (needs_checkpoint c.args.saver.now) own (with_pages s lists)) (c.args.change.now, t) c.save.result) same (c.save.ensures.said b.config own tried is_of told say);
+      stops = λ own tried say sure. subst (λ (t : Totals). Holds (ReadsAsOneOf b.config (g.F.Flash.state c.args.flash.now).cells (within_saved b.config (needs_checkpoint c.args.saver.now) own tried (with_pages s lists) (c.args.change.now, t) c.save.result)) (g.F.Flash.state c.args.flash.now) (g.F.Flash.state c.save.new.flash)) same (c.save.ensures.stops b.config own tried is_of say (λ told. fits-then own (sure told)));
+      said = λ own tried told say sure. subst (λ (t : Totals). SayAfterSaving b.config c.save.new.self (g.F.Flash.state c.save.new.flash).cells own tried (with_pages s lists) (base_of (needs_checkpoint c.args.saver.now) own (with_pages s lists)) (c.args.change.now, t) c.save.result) same (c.save.ensures.said b.config own tried is_of told say (fits-then own sure));
       calls = c.save.ensures.calls;
       ends = c.save.ensures.ends;
     }

@@ -39,7 +39,7 @@ returns-clause-saves g c =
     let totals : s.totals ≡ (point_in b).totals = ap (λ (x : Summary). x.totals) c.summary.ensures.summary ∙ c.requires.totals in
     let pages = drawn-pages b.config (point_in b) lists c.known.ensures.config c.page_lists.ensures.rows c.page_lists.ensures.sizes c.page_lists.ensures.blocks c.page_lists.ensures.places in
     let g_ : IsGiven b.config (point_in b) s lists = given b.config (point_in b) s lists c.known.ensures.config c.known.ensures.orderly c.known.ensures.listed outline totals c.summary.ensures.writable pages in
-    let is_of : IsOfDrive b.config c.args.saver.now (with_pages s lists) = record { geometry = sym c.requires.of_drive; sizes = g_.sizes } in
+    let is_of : IsOfDrive b.config c.args.saver.now (with_pages s lists) = record { geometry = sym c.requires.of_drive; saved = g_.saved } in
     record {
       given = with_pages s lists;
       drive = g_.drive;

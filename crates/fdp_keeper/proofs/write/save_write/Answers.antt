@@ -9,8 +9,9 @@ use Rattle.fdp_book.specs.Book.{point_in}
 use Rattle.fdp_flash.specs.Layout.{page_number}
 use Rattle.fdp_outline.specs.Outline.{IsOutlineOf}
 use Rattle.fdp_outline.proofs.Saying.{outline-totals}
-use Rattle.fdp_durability.specs.fdp_readings.Changes.{Saves, change_of_write, completed}
+use Rattle.fdp_durability.specs.fdp_readings.Changes.{FitsDrawn, Saves, change_of_write, completed}
 use Rattle.fdp_durability.specs.fdp_readings.Drawn.{drawn}
+use Rattle.fdp_durability.proofs.fdp_readings.Fitting.{write-fits}
 use Rattle.fdp_durability.proofs.fdp_readings.Saving.{write-drawn}
 use Rattle.fdp_records.specs.declared.change.Change.{Change}
 use Rattle.fdp_rules.specs.History.{point_of}
@@ -36,6 +37,8 @@ returns-clause-saves g c going w reply moment tk cmd applied =
     let is = c.write_change-change.ensures.change going w tk cmd in
     let drawn_is : Saves b.config p (change_of_write b.config w going is.spots) e = write-drawn b.config p queue number w reply moment going is.spots c.known.ensures.orderly c.known.ensures.standing tk.going_is cmd (c.requires.may going tk) is.pages applied in
     let saves : Saves b.config p c.write_change-change.result e = subst (λ (x : Change). Saves b.config p x e) (sym is.change_is) drawn_is in
+    let fits : FitsDrawn b.config p c.write_change-change.result e =
+    subst (λ (x : Change). FitsDrawn b.config p x e) (sym is.change_is) (write-fits b.config p queue w going is.spots c.known.ensures.orderly tk.going_is cmd (c.requires.may going tk) is.pages e) in
     let before : c.totals-totals.result ≡ p.totals = c.totals-totals.ensures.totals in
     let count : c.count_in.result ≡ w.count =
     c.count_in.ensures ∙ ap (λ (x : Change). length (numbers_in x)) is.change_is ∙ length-map is.spots (page_number (geometry_of b.config)) ∙ is.pages.size ∙ ap blocks_written cmd in
@@ -44,7 +47,7 @@ returns-clause-saves g c going w reply moment tk cmd applied =
     let position : p.state.position + 1 ≡ c.totals-totals.result.position + 1 = ap (λ n. n + 1) (sym c.known.ensures.orderly.positions ∙ sym (ap (λ (t : Totals). t.position) before)) in
     let was : IsOutlineOf b.config (drawn b.config p) c.set_totals.new.self = subst (λ (x : Summary). IsOutlineOf b.config (drawn b.config p) x) (sym c.set_totals.ensures) (outline-totals b.config (drawn b.config p) c.args.outline.now c.totals-totals.result c.requires.can.outline) in
     record {
-      saves = c.save-saved.ensures.saves e saves after;
+      saves = c.save-saved.ensures.saves e saves fits after;
       outline = outline-written b.config p queue number w reply moment going c.set_totals.new.self c.keep_write.new.outline c.save-saved.result tk.going_is applied was (c.keep_write.ensures going w tk cmd position) (adds b.config p (change_of_write b.config w going is.spots) e (λ r position. refl) drawn_is);
       geometry = c.save-saved.ensures.geometry;
     }

@@ -9,7 +9,8 @@ use Rattle.fdp_pages.specs.PageTables.{no_targets}
 use Rattle.fdp_opening.specs.Found.{IsFirstAstray}
 use Rattle.fdp_opening.specs.declared.fault.PagesFault.TheVariants as faults
 use Rattle.fdp_recovery.proofs.fdp_state.Loadable.{loadable}
-use Rattle.fdp_opening.proofs.Owning.{classes-are, found-all, found-first, index-known, none-astray, some-classes}
+use Rattle.fdp_opening.proofs.Owning.{classes-are, found-all, found-first, index-known, some-classes}
+use Rattle.fdp_opening.proofs.Ways.{none-astray}
 use Rattle.fdp_opening.proofs.opening.find_pages.Goals as goal
 
 pub classes-classes-requires : goal.classes-classes-requires
@@ -53,5 +54,5 @@ returns-in-Err-find_blocks-clause-bad g c page same told =
 pub returns-in-Err-find_blocks-clause-kept : goal.returns-in-Err-find_blocks-clause-kept
 returns-in-Err-find_blocks-clause-kept g c keeps page same =
     let bad : c.in-Err-find_blocks.fault ≡ faults.BadImage page = cc in
-    none-astray c.args.config.now (reading_of_state c.args.state.now) (g.F.Flash.state c.args.flash.now) page keeps
+    none-astray c.args.config.now (g.F.Flash.state c.args.flash.now).cells (reading_of_state c.args.state.now) page keeps.kept keeps.ways
     (before_reads _ _ _ (λ (cells : List Cell). IsFirstAstray c.args.config.now cells (reading_of_state c.args.state.now) page) c.in-Ok-find_units.ensures.looks (c.in-Err-find_blocks.ensures.bad page (ap Err bad)) keeps.told)

@@ -5,7 +5,7 @@ use Rattle.fdp_flash.specs.Layout.{first_page}
 use Rattle.fdp_image.specs.Areas.{area_unit}
 use Rattle.fdp_state.specs.fdp_replay.declared.replayed.ReplayFault.{ReplayFault}
 use Rattle.fdp_state.specs.fdp_replay.Replay.{TellsJournal}
-use Rattle.fdp_state.specs.Fits.{fits}
+use Rattle.fdp_image.specs.Fits.{fits}
 use Rattle.fdp_state.specs.Loaded.{IsDriveState, said_by}
 use Rattle.fdp_state.proofs.Loadable.{loadable}
 use Rattle.fdp_recovery.specs.declared.opened.OpenFault.{OpenFault}

@@ -4,7 +4,7 @@ use Rattle.fdp_base.specs.declared.event.Event.{Event}
 use Rattle.fdp_base.specs.Placement.{full_budget}
 use Rattle.fdp_rules.specs.Events.{is_host_event}
 use Rattle.fdp_snapshot.specs.declared.space.Space.{Space}
-use Rattle.fdp_recovery.specs.Fields.{bad_row, bad_space, has_any_bit, has_stray_bit, or_else, row_at}
+use Rattle.fdp_image.specs.BadFields.{bad_row, bad_space, has_any_bit, has_stray_bit, or_else, row_at}
 use Rattle.fdp_recovery.proofs.Bounds.{few_of}
 use Rattle.fdp_recovery.proofs.fields.bad_row.Goals as goal
 

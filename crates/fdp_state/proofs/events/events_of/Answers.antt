@@ -2,7 +2,7 @@ use Rattle.std.proofs.Common.{◌∙◌, ◌<◌, ℕ, List, ap, subst, sym}
 use Rattle.std.specs.Prelude.{slice_index}
 use Rattle.fdp_base.specs.Placement.{geometry_of}
 use Rattle.fdp_image.specs.Areas.{data_pages}
-use Rattle.fdp_state.specs.Fits.{names_what_is}
+use Rattle.fdp_image.specs.Fits.{names_what_is}
 use Rattle.fdp_state.specs.Parts.{reading_of}
 use Rattle.fdp_state.proofs.Named.{first_page_good, moved_victim, some_pages, write_pages}
 use Rattle.fdp_state.proofs.events.events_of.Goals as goal

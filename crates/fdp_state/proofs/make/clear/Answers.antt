@@ -14,11 +14,11 @@ pub clear_row-requires-clause-sound : goal.clear_row-requires-clause-sound
 clear_row-requires-clause-sound c = c.loop-range.invariant.sound
 
 pub clear_row-requires-clause-within : goal.clear_row-requires-clause-within
-clear_row-requires-clause-within c =
+clear_row-requires-clause-within c some =
     let r = get_or c.args.ranges.now c.loop-range.range-index (record { slba = 0; length = 0 }) in
     let there = slice_get-get_or c.args.ranges.now c.loop-range.range-index (record { slba = 0; length = 0 }) c.loop-range-test.true in
     let fits : r.slba + r.length ≤ listed c.args.parts.now.pages.items c.args.nsid =
-    ranges_within c.args.parts.now c.args.nsid c.args.ranges.now c.requires.sound c.requires.within r c.loop-range.range-index there in
+    ranges_within c.args.parts.now c.args.nsid c.args.ranges.now c.requires.sound c.requires.within r c.loop-range.range-index there (omega (arith, some, c.from.ensures)) in
     omega (arith, fits, c.from.ensures, c.loop-range.invariant.sizes c.args.nsid)
 
 pub loop-range-init : goal.loop-range-init

@@ -8,7 +8,7 @@ use Rattle.fdp_state.proofs.Spacing.{cleared_all, empty_pages, made_place, there
 use Rattle.fdp_state.proofs.make.delete.Goals as goal
 
 pub clear_row-requires-clause-within : goal.clear_row-requires-clause-within
-clear_row-requires-clause-within c = omega (arith, c.size_of-size.ensures, c.requires.sound.sizes c.args.nsid)
+clear_row-requires-clause-within c some = omega (arith, c.size_of-size.ensures, c.requires.sound.sizes c.args.nsid)
 
 pub set_space-requires-clause-id : goal.set_space-requires-clause-id
 set_space-requires-clause-id c = there_good c.args.parts.now c.args.nsid c.requires.there

@@ -3,7 +3,7 @@ use Rattle.fdp_base.specs.declared.command.Range.{Range}
 use Rattle.fdp_records.specs.declared.change.Change.{Change}
 use Rattle.fdp_records.specs.declared.change.Change.TheVariants as changes
 use Rattle.std.specs.Prelude.{OnOk}
-use Rattle.fdp_state.specs.Fits.{lie_within, lies_within, names_what_is}
+use Rattle.fdp_image.specs.Fits.{lie_within, lies_within, names_what_is}
 use Rattle.fdp_state.specs.Made.{IsMade}
 use Rattle.fdp_state.specs.Parts.{reading_of}
 use Rattle.fdp_state.proofs.Making.{made_shut, made_update}

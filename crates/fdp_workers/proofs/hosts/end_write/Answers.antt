@@ -1,4 +1,4 @@
-use Rattle.std.proofs.Common.{subst}
+use Rattle.std.proofs.Common.{arith, subst}
 use Rattle.fdp_workers.specs.Hosting.{PlacesAt}
 use Rattle.fdp_workers.proofs.Posts.{post-first}
 use Rattle.fdp_workers.proofs.hosts.end_write.Goals as goal
@@ -22,3 +22,9 @@ returns-in-Ended-clause-ended g c = λ p x waits. subst (PlacesAt g.V.Recorded.o
 
 pub returns-in-Err-clause-ended : goal.returns-in-Err-clause-ended
 returns-in-Err-clause-ended g c = λ p x waits. c.in-Err.ensures.placed p x (c.loop-placed.invariant.waits p x waits)
+
+pub loop-placed-smaller : goal.loop-placed-smaller
+loop-placed-smaller g c =
+    let flies = c.requires.flies in
+    let waits = c.loop-placed.invariant.waits flies.0 flies.1 flies.2 in
+    omega (arith, waits.flies.paced.few, c.place.ensures.turns)

@@ -1,4 +1,5 @@
-use Rattle.std.proofs.Common.{inr, refl, ◌∙◌}
+use Rattle.std.proofs.Common.{inr, refl, subst, sym, ◌∙◌}
+use Rattle.fdp_workers.specs.Queues.{NoOtherGoes}
 use Rattle.fdp_workers.proofs.Seating.{leaves-own, nonzero, turned-ends, turned-starts}
 use Rattle.fdp_workers.proofs.Turning.{by-own}
 use Rattle.fdp_workers.proofs.turns.begin.Goals as goal
@@ -39,7 +40,7 @@ returns-in-Ended-clause-begun g c = λ p idle.
       turns = c.leave-in-Ended.ensures.turns;
       place = c.leave-in-Ended.ensures.place;
     })
-    p c.number-queue.result c.args.number c.args.command c.in-Ended.done c.publish.new.pass (c.number-queue.ensures ∙ c.enter-turn.ensures.place.number) (inr idle.idle) idle.at c.in-Ended.ensures.step c.publish.ensures.shown
+    p c.number-queue.result c.args.number c.args.command c.in-Ended.done c.publish.new.pass (c.number-queue.ensures ∙ c.enter-turn.ensures.place.number) (inr idle.idle) (subst (NoOtherGoes c.args.number c.args.command) (sym idle.idle) tt) idle.at c.in-Ended.ensures.step c.publish.ensures.shown
 
 pub returns-in-Going-clause-begun : goal.returns-in-Going-clause-begun
 returns-in-Going-clause-begun g c = λ p idle.
@@ -65,4 +66,4 @@ returns-in-Going-clause-begun g c = λ p idle.
       turns = c.leave-in-Going.ensures.turns;
       place = c.leave-in-Going.ensures.place;
     })
-    p c.number-queue.result c.args.number c.args.command c.in-Going.ticket (c.number-queue.ensures ∙ c.enter-turn.ensures.place.number) idle.next idle.at c.in-Going.ensures.step
+    p c.number-queue.result c.args.number c.args.command c.in-Going.ticket (c.number-queue.ensures ∙ c.enter-turn.ensures.place.number) idle.idle idle.at c.in-Going.ensures.step

@@ -32,7 +32,7 @@ returns-in-Err-clause-ended g c = λ p x flies.
       turns = c.leave.ensures.turns;
       place = c.leave.ensures.place;
     })
-    p (flying p x (blocks_written x.command)) refl refl (ap g.V.Recorded.entries c.abandon.ensures.same) flies.at
+    p (flying p x (blocks_written x.command)) x.number x.command refl refl (refl, refl) (ap g.V.Recorded.entries c.abandon.ensures.same) flies.at
 
 pub returns-in-Err-clause-cause : goal.returns-in-Err-clause-cause
 returns-in-Err-clause-cause g c = λ turns.

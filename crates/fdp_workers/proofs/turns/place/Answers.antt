@@ -32,7 +32,7 @@ returns-in-Err-clause-placed g c = λ p x waits.
       turns = c.leave.ensures.turns;
       place = c.leave.ensures.place;
     })
-    p (flying p x waits.count) refl refl (ap g.V.Recorded.entries c.abandon.ensures.same) waits.flies.at
+    p (flying p x waits.count) x.number x.command refl refl (refl, refl) (ap g.V.Recorded.entries c.abandon.ensures.same) waits.flies.at
 
 pub returns-in-Err-clause-cause : goal.returns-in-Err-clause-cause
 returns-in-Err-clause-cause g c = λ turns.

@@ -1,5 +1,5 @@
 use Rattle.std.proofs.Common.{subst}
-use Rattle.fdp_board.specs.Board.{AreCharged, BoardSeen, IsRoomySince, IsSafeSince, IsUnfailing}
+use Rattle.fdp_board.specs.Board.{AreCharged, BoardSeen, EmptiedAreTold, IsRoomySince, IsSafeSince, IsUnfailing, StepsAreTold}
 use Rattle.fdp_board.proofs.board.Board.into_parts.Goals as goal
 
 pub returns-clause-safe : goal.returns-clause-safe
@@ -17,3 +17,9 @@ returns-clause-charged g c =
 pub returns-clause-unfailing : goal.returns-clause-unfailing
 returns-clause-unfailing g c =
     subst (λ (b : BoardSeen g.row.F.Denot). IsUnfailing b.group.handed (g.F.Flash.state b.group.flash)) c.self.view_is c.self.invariant.unfailing
+
+pub returns-clause-steps : goal.returns-clause-steps
+returns-clause-steps g c = subst (λ (b : BoardSeen g.row.F.Denot). StepsAreTold b.group.book) c.self.view_is c.self.invariant.steps
+
+pub returns-clause-emptied : goal.returns-clause-emptied
+returns-clause-emptied g c = subst (λ (b : BoardSeen g.row.F.Denot). EmptiedAreTold (g.F.Flash.state b.group.flash) b.group.book) c.self.view_is c.self.invariant.emptied

@@ -35,4 +35,6 @@ invariant_of-result g c =
       later = c.entries.ensures.counted.moment;
       charged = none-charged c.args.group.handed.moment (g.F.Flash.state c.args.group.flash) b.entries c.requires.unserved.none;
       unfailing = c.requires.unserved.unfailing;
+      steps = c.requires.unserved.steps;
+      emptied = c.requires.unserved.emptied;
     }

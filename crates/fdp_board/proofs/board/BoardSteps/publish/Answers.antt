@@ -33,4 +33,6 @@ invariant_of-self g c =
       later = was.later;
       charged = was.charged;
       unfailing = was.unfailing;
+      steps = was.steps;
+      emptied = was.emptied;
     }

@@ -8,4 +8,4 @@ pub invariant_of-self : goal.invariant_of-self
 invariant_of-self g c =
     let was = c.self.invariant in
     subst (λ (s : Seen g.row.F.Denot). IsBoard g.F.Flash.state s c.self.inside.before (told_of c.self.inside.teller)) (sym c.reserve.ensures.kept)
-    (record { opens = was.opens; shown = was.shown; sums = was.sums; safe = was.safe; roomy = was.roomy; later = was.later; charged = was.charged; unfailing = was.unfailing })
+    (record { opens = was.opens; shown = was.shown; sums = was.sums; safe = was.safe; roomy = was.roomy; later = was.later; charged = was.charged; unfailing = was.unfailing; steps = was.steps; emptied = record { cut = was.emptied.cut; only = was.emptied.only } })

@@ -29,7 +29,7 @@ pub collect-advance-requires-clause-can : goal.collect-advance-requires-clause-c
 collect-advance-requires-clause-can g c = subst (λ (s : Seen g.row.F.Denot). CanSave s.book s.keeper (g.F.Flash.state s.flash)) (sym c.self.view_is) c.can_save.ensures.can
 
 pub collect-advance-requires-clause-said : goal.collect-advance-requires-clause-said
-collect-advance-requires-clause-said g c told = let durable = c.self.invariant.kept.safe.at.durable told in record { own = durable.own; tried = durable.tried; say = durable.say }
+collect-advance-requires-clause-said g c told = let durable = c.self.invariant.kept.safe.at.durable told in record { own = durable.own; tried = durable.tried; say = durable.say; sure = durable.sure }
 
 module _ (g : Over) (c : goal.After-known g) where
   abbrev old : Seen g.row.F.Denot

@@ -1,6 +1,6 @@
-use Rattle.std.proofs.Common.{◌≡◌, ◌<◌, ℕ, true, false, refl, sym, subst, ap, ◌∙◌, List}
+use Rattle.std.proofs.Common.{◌≡◌, ◌<◌, ⊎_elim, ℕ, true, false, refl, sym, subst, ap, ◌∙◌, List, []}
 use Rattle.std.specs.Prelude.{IsTrue, ◌==◌, ◌+◌, ◌≤◌, length}
-use Rattle.fdp_relocation.specs.fdp_book.Book.{BookSeen, IsLonger, state_in}
+use Rattle.fdp_relocation.specs.fdp_book.Book.{BookSeen, IsLonger, point_in, state_in}
 use Rattle.fdp_core.specs.Advancing.{Advances, TellsMore}
 use Rattle.fdp_core.specs.Answers as answers
 use Rattle.fdp_core.specs.Seen.{Seen, stage_of}
@@ -13,8 +13,12 @@ use Rattle.fdp_core.proofs.Rooms.{begun_seen}
 use Rattle.fdp_core.proofs.Sound.{begun}
 use Rattle.fdp_core.proofs.Wholes.{whole-begun}
 use Rattle.fdp_relocation.specs.declared.advance.Advance.{Advance}
-use Rattle.fdp_relocation.specs.Collected.{Collects}
+use Rattle.fdp_relocation.specs.declared.advance.Advance.TheVariants as advances
+use Rattle.fdp_relocation.specs.fdp_saving.declared.saved.Saved.TheVariants as saved
+use Rattle.fdp_rules.specs.Sites.{moved_blocks}
+use Rattle.fdp_relocation.specs.Collected.{Collects, Moves}
 use Rattle.fdp_loading.specs.fdp_survival.Apart.{IsStopApart}
+use Rattle.fdp_loading.specs.Opens.{LeavesOpen}
 use Rattle.fdp_core.proofs.group.Group.collect.Goals as goal
 use Rattle.fdp_image.specs.Kept.{AreFirm, IsStopSafe}
 use Rattle.fdp_base.specs.declared.entry.Entry.{Entry}
@@ -30,6 +34,12 @@ invariant_of-self g c =
     let inside = c.self.inside in
     let f = g.F.Flash.state inside.flash in
     subst (λ (b : BookSeen). IsWhole inside.handed f b inside.keeper inside.block.items) (sym c.begin.ensures) (whole-begun inside.handed f inside.book inside.keeper inside.block.items c.self.invariant)
+
+-- a move of blocks that was made is firm
+firm-moved : {F : Type 0} (state : F → FlashState) (old mid : Seen F) (rg : ℕ) (x : Advance) → x ≡ advances.Moved → (moved_blocks (point_in old.book) rg ≡ [] → ⊥) → Collects state (stage_of (begun_seen old)) (stage_of mid) rg x → mid.keeper.firm ≡ length mid.book.entries
+firm-moved state old mid rg x is some came =
+    let m : Moves state (stage_of (begun_seen old)) (stage_of mid) rg saved.Done = subst (Collects state (stage_of (begun_seen old)) (stage_of mid) rg) is came in
+    ⊎_elim (λ none. absurd (some none.0)) (λ kept. kept.1.firm_is ∙ sym (ap (λ (es : List Entry). length es) m.moved.longer.entries_are)) m.saved
 
 -- ---- nothing was added
 
@@ -65,6 +75,7 @@ stops-mid {F} state old mid new keeper flash book h = record {
   isolated = λ opened.
       subst (λ (x : F). Runs (state old.flash) (state x) (λ m image. IsIsolatedBy new.book image)) (sym flash)
       (subst (λ (b : BookSeen). Runs (state old.flash) (state mid.flash) (λ m image. IsIsolatedBy b image)) (sym book) (h.isolated opened));
+  opens = subst (λ (x : F). LeavesOpen old.book.config (state old.flash) (state x)) (sym flash) h.opens;
   more = subst (λ (k : KeeperSeen). old.keeper.firm ≤ k.firm) (sym keeper) h.more;
   firm = subst (λ (k : KeeperSeen). AreFirm new.book.entries k.firm) (sym keeper) (subst (λ (es : List Entry). AreFirm es mid.keeper.firm) (sym entries_are) h.firm);
 } where
@@ -141,3 +152,26 @@ returns-else-has_added_nothing-clause-stops g c =
     let old : Seen g.row.F.Denot = record { book = inside.book; keeper = inside.keeper; handed = inside.handed; flash = inside.flash } in
     subst (λ (s : Seen g.row.F.Denot). OutlastsStops state s mid) c.self.view_is
     (collect-stops state old mid c.begin.new.self c.begin.ensures c.advance-advance.ensures.stops c.self.invariant.kept.safe c.advance-advance.ensures.safe)
+
+pub returns-then-has_added_nothing-clause-firm : goal.returns-then-has_added_nothing-clause-firm
+returns-then-has_added_nothing-clause-firm g c =
+    let state = g.F.Flash.state in
+    let inside = c.self.inside in
+    let mid = c.advance-advance.new.self in
+    let old : Seen g.row.F.Denot = record { book = inside.book; keeper = inside.keeper; handed = inside.handed; flash = inside.flash } in
+    let keeper : c.self-2.inside.keeper ≡ mid.keeper = ap (λ (s : Seen g.row.F.Denot). s.keeper) c.self-2.view_is in
+    let final : c.cancel.new.self ≡ cancelled mid.book = c.cancel.ensures ∙ ap cancelled (ap (λ (s : Seen g.row.F.Denot). s.book) c.self-2.view_is) in
+    subst (λ (s : Seen g.row.F.Denot). c.advance-advance.result ≡ advances.Moved → (moved_blocks (point_in s.book) c.args.rg ≡ [] → ⊥) → c.self-2.inside.keeper.firm ≡ length c.cancel.new.self.entries) c.self.view_is
+    (λ is some.
+    ap (λ (k : KeeperSeen). k.firm) keeper
+    ∙ firm-moved state old mid c.args.rg c.advance-advance.result is some (from-begun old c.begin.new.self (λ s. Collects state (stage_of s) (stage_of mid) c.args.rg c.advance-advance.result) c.begin.ensures c.advance-advance.ensures.collects)
+    ∙ sym (ap (λ (b : BookSeen). length b.entries) final))
+
+pub returns-else-has_added_nothing-clause-firm : goal.returns-else-has_added_nothing-clause-firm
+returns-else-has_added_nothing-clause-firm g c =
+    let state = g.F.Flash.state in
+    let inside = c.self.inside in
+    let mid = c.advance-advance.new.self in
+    let old : Seen g.row.F.Denot = record { book = inside.book; keeper = inside.keeper; handed = inside.handed; flash = inside.flash } in
+    subst (λ (s : Seen g.row.F.Denot). c.advance-advance.result ≡ advances.Moved → (moved_blocks (point_in s.book) c.args.rg ≡ [] → ⊥) → mid.keeper.firm ≡ length mid.book.entries) c.self.view_is
+    (λ is some. firm-moved state old mid c.args.rg c.advance-advance.result is some (from-begun old c.begin.new.self (λ s. Collects state (stage_of s) (stage_of mid) c.args.rg c.advance-advance.result) c.begin.ensures c.advance-advance.ensures.collects))

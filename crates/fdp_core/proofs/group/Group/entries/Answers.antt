@@ -1,6 +1,7 @@
-use Rattle.std.proofs.Common.{subst}
+use Rattle.std.proofs.Common.{◌≡◌, false, subst, true}
+use Rattle.fdp_base.specs.Counts.{Rose}
 use Rattle.std.specs.Prelude.{IsTrue}
-use Rattle.fdp_core.specs.Seen.{Seen}
+use Rattle.fdp_core.specs.Seen.{ReadsAsEnd, Seen}
 use Rattle.fdp_core.proofs.Apart.{sound-isolated, whole-reads}
 use Rattle.fdp_relocation.proofs.fdp_durability.Durable.{durable-stands}
 use Rattle.fdp_image.specs.Kept.{AreFirm, StandsForBeginning}
@@ -8,6 +9,7 @@ use Rattle.fdp_loading.specs.fdp_isolation.Begun.{OpenedApart}
 use Rattle.fdp_loading.specs.fdp_isolation.Laned.{IsKnown}
 use Rattle.fdp_loading.specs.fdp_survival.Books.{KeepsIsolated}
 use Rattle.fdp_loading.specs.fdp_survival.Apart.{ReadsIsolated}
+use Rattle.fdp_core.proofs.Sure.{kept-reads}
 use Rattle.fdp_core.proofs.Roomy.{whole-roomy}
 use Rattle.fdp_roominess.specs.Run.{StaysRoomy, WearsByFailure}
 use Rattle.fdp_core.proofs.group.Group.entries.Goals as goal
@@ -42,3 +44,12 @@ returns-clause-roomy g c =
     let known : IsKnown c.self.inside.book = record { config = c.known.ensures.config; orderly = c.known.ensures.orderly; units = c.known.ensures.units; joined = c.known.ensures.joined; led = c.known.ensures.led; generation = c.known.ensures.generation } in
     subst (λ (s : Seen g.row.F.Denot). IsTrue (g.F.Flash.state s.flash).told → StaysRoomy s.handed.faults (g.F.Flash.state s.flash).faults (g.F.Flash.state s.flash).told s.book (g.F.Flash.state s.flash).cells) c.self.view_is
     (whole-roomy c.self.inside.handed (g.F.Flash.state c.self.inside.flash) c.self.inside.book c.self.inside.keeper c.self.inside.block.items known c.self.invariant)
+
+pub returns-clause-sure : goal.returns-clause-sure
+returns-clause-sure g c =
+    let old = c.self.inside in
+    subst (λ (s : Seen g.row.F.Denot). IsTrue (g.F.Flash.state s.flash).told → s.keeper.saver.in_doubt ≡ false → ReadsAsEnd (g.F.Flash.state s.flash) s.book) c.self.view_is
+    (λ told sure. kept-reads old.handed (g.F.Flash.state old.flash) old.book old.keeper c.self.invariant.kept told sure)
+
+pub returns-clause-doubt : goal.returns-clause-doubt
+returns-clause-doubt g c = subst (λ (s : Seen g.row.F.Denot). s.keeper.saver.in_doubt ≡ true → Rose s.handed.faults (g.F.Flash.state s.flash).faults) c.self.view_is c.self.invariant.kept.doubt

@@ -3,7 +3,7 @@ use Rattle.fdp_base.specs.declared.entry.Entry.TheVariants as entries
 use Rattle.fdp_base.specs.declared.status.TheConstants.Status as statuses
 use Rattle.fdp_base.specs.Pattern.{HasBlock, payload_block}
 use Rattle.fdp_relocation.specs.fdp_book.declared.next_page.NextPage.TheVariants as next
-use Rattle.fdp_relocation.specs.fdp_book.Book.{BookSeen, state_in}
+use Rattle.fdp_relocation.specs.fdp_book.Book.{BookSeen, point_in, state_in}
 use Rattle.fdp_relocation.specs.fdp_book.Shutting.{ShutsAndEnds}
 use Rattle.fdp_relocation.specs.fdp_book.Steps as book
 use Rattle.fdp_relocation.specs.fdp_book.Tickets.{ComesTo, IsNextSpot, IsTicketOf}
@@ -20,6 +20,7 @@ use Rattle.fdp_flash.specs.Layout.{page_number}
 use Rattle.fdp_loading.specs.fdp_isolation.Laned.{IsKnown}
 use Rattle.fdp_loading.proofs.fdp_ledger.Blank.{emptied-placed, emptied-shut}
 use Rattle.fdp_rules.specs.PlainState.{Going}
+use Rattle.fdp_rules.specs.Step.{IsHandle}
 use Rattle.fdp_core.proofs.group.Group.place_at.Given.{Over}
 use Rattle.fdp_core.proofs.Apart.{safe-now}
 use Rattle.fdp_core.proofs.group.Group.place_at.Goals as goal
@@ -125,8 +126,8 @@ returns-after-last-clause-stops g c =
 
 -- ---- that failed
 
-pub save_shut-saved-requires : goal.save_shut-saved-requires
-save_shut-saved-requires g c =
+pub save_shut-saved-requires-clause-can : goal.save_shut-saved-requires-clause-can
+save_shut-saved-requires-clause-can g c =
     let old = c.self.inside in
     let can = subst (λ (s : Seen g.row.F.Denot). CanSave s.book s.keeper (g.F.Flash.state s.flash)) (sym c.self.view_is) c.can_save.ensures.can in
     let comes = subst (λ (s : Seen g.row.F.Denot). ComesTo s.book c.args.ticket c.requires.ticket.going (next.At c.args.spot c.args.index c.args.spare.now)) (sym c.self.view_is) (c.requires.next c.requires.ticket.going c.requires.ticket.ticket_is) in
@@ -134,6 +135,16 @@ save_shut-saved-requires g c =
     at-unplaced old.book c.args.ticket c.requires.ticket.going c.args.spot c.args.spare.now _ old.keeper.saver old.keeper.firm (g.F.Flash.state old.flash) (g.F.Flash.state c.program-programmed.new.flash) c.self.invariant.sound.geometry c.self.invariant.sound.stored comes.0 c.self.invariant.kept.safe.at
     c.in-Err.ensures.failed.run.told c.in-Err.ensures.left in
     record { keeper = can.keeper; geometry = c.in-Err.ensures.failed.run.geometry ∙ can.geometry; epoch = can.epoch; saver = λ told. (safe.durable told).saver }
+
+pub save_shut-saved-requires-clause-handle : goal.save_shut-saved-requires-clause-handle
+save_shut-saved-requires-clause-handle g c =
+    let b = c.self.inside.book in
+    let going = c.requires.ticket.going in
+    let order = subst (λ (s : Seen g.row.F.Denot). IsInOrder s.book) (sym c.self.view_is) c.can_save.ensures.order in
+    let here = subst (λ (s : Seen g.row.F.Denot). IsTicketOf (state_in s.book) c.args.ticket going) (sym c.self.view_is) c.requires.ticket.ticket_is in
+    let comes = subst (λ (s : Seen g.row.F.Denot). ComesTo s.book c.args.ticket going (next.At c.args.spot c.args.index c.args.spare.now)) (sym c.self.view_is) (c.requires.next going c.requires.ticket.ticket_is) in
+    let write = order.known.orderly.state.writes c.args.ticket.queue going here.going_is in
+    subst (λ (x : WritePlace). IsHandle b.config (point_in b) x.rg x.ruh) (sym (c.place_of_write-rg.ensures going here)) (record { group = write.group; handle = write.in_force comes.0.there })
 
 module _ (g : Over) (c : goal.After-known-in-Err g) where
   abbrev before : Seen g.row.F.Denot

@@ -26,10 +26,10 @@ pub returns-clause-stands : goal.returns-clause-stands
 returns-clause-stands g c told = append_stands _ _ _ _ _ _ (here g c) told
 
 pub returns-clause-stops : goal.returns-clause-stops
-returns-clause-stops g c d own same read = append_stops d _ _ own _ _ _ _ (here g c) same read
+returns-clause-stops g c d own same read fit = append_stops d _ _ own _ _ _ _ (here g c) same read fit
 
 pub returns-clause-said : goal.returns-clause-said
-returns-clause-said g c d own same told read = append_says d _ _ own _ _ _ _ (here g c) same told read
+returns-clause-said g c d own same told read fit = append_says d _ _ own _ _ _ _ (here g c) same told read fit
 
 pub returns-clause-calls : goal.returns-clause-calls
 returns-clause-calls g c = append_made _ _ _ _ _ _ (here g c) (g.met.F.Flash.well_formed c.args.flash.now)

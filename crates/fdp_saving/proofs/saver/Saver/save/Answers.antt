@@ -6,7 +6,7 @@ use Rattle.fdp_saving.proofs.Joined.{doubtful_calls, readied, ready_at, ready_re
 use Rattle.fdp_saving.proofs.saver.Saver.save.Goals as goal
 
 pub returns-in-Done-append-clause-stops : goal.returns-in-Done-append-clause-stops
-returns-in-Done-append-clause-stops g c d own tried drive says =
+returns-in-Done-append-clause-stops g c d own tried drive says fit =
     let s = c.args.self.now in
     let given = with_pages c.args.summary.now c.args.pages.now in
     let base = base_of (needs_checkpoint s) own given in
@@ -16,10 +16,10 @@ returns-in-Done-append-clause-stops g c d own tried drive says =
     readied d s c.make_ready.new.self c.args.summary.now base a b c.in-Done.ensures.saver drive.geometry c.in-Done.ensures.calls.made.run.told c.in-Done.ensures.stands
     (λ told. c.in-Done.ensures.said d own tried drive told (says told)) in
     saving_stops d (needs_checkpoint s) own tried given _ a b _ (c.in-Done.ensures.stops d own tried drive says)
-    (c.in-Done-append.ensures.stops d base (ready_at d s _ _ base b ready) (λ told. ready_read d s _ _ base b ready told))
+    (c.in-Done-append.ensures.stops d base (ready_at d s _ _ base b ready) (λ told. ready_read d s _ _ base b ready told) (λ told. fit (subst IsTrue c.in-Done.ensures.calls.made.run.told told)))
 
 pub returns-in-Done-append-clause-said : goal.returns-in-Done-append-clause-said
-returns-in-Done-append-clause-said g c d own tried drive told says =
+returns-in-Done-append-clause-said g c d own tried drive told says fit =
     let s = c.args.self.now in
     let given = with_pages c.args.summary.now c.args.pages.now in
     let base = base_of (needs_checkpoint s) own given in
@@ -29,14 +29,14 @@ returns-in-Done-append-clause-said g c d own tried drive told says =
     readied d s c.make_ready.new.self c.args.summary.now base a b c.in-Done.ensures.saver drive.geometry c.in-Done.ensures.calls.made.run.told c.in-Done.ensures.stands
     (λ t. c.in-Done.ensures.said d own tried drive t says) in
     let after : IsTrue b.told = subst IsTrue (sym c.in-Done.ensures.calls.made.run.told) told in
-    c.in-Done-append.ensures.said d base (ready_at d s _ _ base b ready) after (ready_read d s _ _ base b ready after)
+    c.in-Done-append.ensures.said d base (ready_at d s _ _ base b ready) after (ready_read d s _ _ base b ready after) fit
 
 pub returns-in-Done-append-clause-calls : goal.returns-in-Done-append-clause-calls
 returns-in-Done-append-clause-calls g c =
     saved_calls c.args.self.now _ c.args.summary.now (g.F.Flash.state c.args.flash.now) (g.F.Flash.state c.make_ready.new.flash) _ c.in-Done.ensures.saver c.in-Done.ensures.calls c.in-Done-append.ensures.calls
 
 pub returns-in-Failed-append-clause-stops : goal.returns-in-Failed-append-clause-stops
-returns-in-Failed-append-clause-stops g c d own tried drive says =
+returns-in-Failed-append-clause-stops g c d own tried drive says fit =
     let s = c.args.self.now in
     let given = with_pages c.args.summary.now c.args.pages.now in
     let base = base_of (needs_checkpoint s) own given in
@@ -46,10 +46,10 @@ returns-in-Failed-append-clause-stops g c d own tried drive says =
     readied d s c.make_ready.new.self c.args.summary.now base a b c.in-Done.ensures.saver drive.geometry c.in-Done.ensures.calls.made.run.told c.in-Done.ensures.stands
     (λ told. c.in-Done.ensures.said d own tried drive told (says told)) in
     saving_stops d (needs_checkpoint s) own tried given _ a b _ (c.in-Done.ensures.stops d own tried drive says)
-    (c.in-Failed-append.ensures.stops d base (ready_at d s _ _ base b ready) (λ told. ready_read d s _ _ base b ready told))
+    (c.in-Failed-append.ensures.stops d base (ready_at d s _ _ base b ready) (λ told. ready_read d s _ _ base b ready told) (λ told. fit (subst IsTrue c.in-Done.ensures.calls.made.run.told told)))
 
 pub returns-in-Failed-append-clause-said : goal.returns-in-Failed-append-clause-said
-returns-in-Failed-append-clause-said g c d own tried drive told says =
+returns-in-Failed-append-clause-said g c d own tried drive told says fit =
     let s = c.args.self.now in
     let given = with_pages c.args.summary.now c.args.pages.now in
     let base = base_of (needs_checkpoint s) own given in
@@ -59,12 +59,12 @@ returns-in-Failed-append-clause-said g c d own tried drive told says =
     readied d s c.make_ready.new.self c.args.summary.now base a b c.in-Done.ensures.saver drive.geometry c.in-Done.ensures.calls.made.run.told c.in-Done.ensures.stands
     (λ t. c.in-Done.ensures.said d own tried drive t says) in
     let after : IsTrue b.told = subst IsTrue (sym c.in-Done.ensures.calls.made.run.told) told in
-    c.in-Failed-append.ensures.said d base (ready_at d s _ _ base b ready) after (ready_read d s _ _ base b ready after)
+    c.in-Failed-append.ensures.said d base (ready_at d s _ _ base b ready) after (ready_read d s _ _ base b ready after) fit
 
 pub returns-in-Failed-append-clause-calls : goal.returns-in-Failed-append-clause-calls
 returns-in-Failed-append-clause-calls g c =
     doubtful_calls c.args.self.now _ c.args.summary.now (g.F.Flash.state c.append.new.flash).moment (g.F.Flash.state c.args.flash.now) (g.F.Flash.state c.make_ready.new.flash) _ c.in-Done.ensures.saver c.in-Done.ensures.calls c.in-Failed-append.ensures.calls
 
 pub returns-in-Failed-clause-stops : goal.returns-in-Failed-clause-stops
-returns-in-Failed-clause-stops g c d own tried drive says =
+returns-in-Failed-clause-stops g c d own tried drive says fit =
     unsaved_stops d (needs_checkpoint c.args.self.now) own tried (with_pages c.args.summary.now c.args.pages.now) c.args.self.now _ _ c.in-Failed.ensures.calls (c.in-Failed.ensures.stops d own tried drive says)

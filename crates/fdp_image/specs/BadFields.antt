@@ -1,12 +1,12 @@
 -- What a checkpoint says that no drive of a configuration would save.
-use Rattle.std.specs.Prelude.{ℕ, ◌+◌, ◌-◌, ◌*◌, suc, Bool, not, ◌&&◌, List, [], ◌∷◌, ◌==◌, drop, take, length, nat_le, nat_lt, position, Option, Some, None, if◌then◌else◌, option_map}
+use Rattle.std.specs.Prelude.{◌≡◌, ℕ, ◌+◌, ◌-◌, ◌*◌, ◌<◌, ◌≤◌, suc, Bool, IsTrue, not, ◌&&◌, All, List, [], ◌∷◌, ◌==◌, drop, take, length, nat_le, nat_lt, position, slice_index, Option, Some, None, if◌then◌else◌, option_map}
 use Rattle.fdp_base.specs.declared.config.DriveConfig.{DriveConfig}
 use Rattle.fdp_base.specs.declared.event.Event.{Event}
 use Rattle.fdp_base.specs.Placement.{full_budget, handle_count}
 use Rattle.fdp_rules.specs.Events.{is_host_event}
 use Rattle.fdp_snapshot.specs.declared.space.Space.{Space}
 use Rattle.fdp_snapshot.specs.declared.state.Summary.{Summary}
-use Rattle.fdp_state.specs.Fits.{is_handle_list}
+use Rattle.fdp_image.specs.Fits.{is_handle_list}
 
 -- a mask has a bit that is that of no kind of event
 abbrev pub has_stray_bit : ℕ → Bool
@@ -47,3 +47,18 @@ bad_row c count s =
 -- the offset of the first field that no drive of the configuration saves so: its index, or a row
 unfoldable pub bad_field : DriveConfig → Summary → Option ℕ
 bad_field c s = if nat_lt s.index (length c.fdp) then bad_row c (handle_count c s.enabled s.index) s else Some 49
+
+-- the masks are of kinds that there are, and behind so many handles they are empty
+pub record AreKnownMasks (count : ℕ) (masks : List ℕ) : Type 0 where
+  pub kinds : (ruh : ℕ) → slice_index masks ruh < 64
+  pub absent : (ruh : ℕ) → count ≤ ruh → slice_index masks ruh ≡ 0
+
+-- each event stands in the list of its class
+pub record StandByClass (host_events controller_events : List Event) : Type 0 where
+  pub host : All (λ (e : Event). IsTrue (is_host_event e)) host_events
+  pub controller : All (λ (e : Event). IsTrue (not (is_host_event e))) controller_events
+
+-- the rows of a summary are such as a drive of so many handles has: its masks and its events
+pub record HasKnownRows (count : ℕ) (s : Summary) : Type 0 where
+  pub masks : AreKnownMasks count s.masks
+  pub events : StandByClass s.host_events s.controller_events

@@ -1,5 +1,5 @@
 -- Which changes fit what an image says: those that a drive which says so may save next.
-use Rattle.std.specs.Prelude.{ℕ, ◌+◌, ◌*◌, Bool, true, not, ◌&&◌, List, length, nat_le, nat_lt, Option, is_some, sum_by}
+use Rattle.std.specs.Prelude.{ℕ, ◌+◌, ◌*◌, Bool, true, not, ◌&&◌, ◌||◌, ◌==◌, List, [], ◌∷◌, length, nat_le, nat_lt, Option, is_some, sum_by}
 use Rattle.std.specs.List.{list_all, list_any}
 use Rattle.std.specs.Option.{option_map_or}
 use Rattle.fdp_base.specs.declared.command.Range.{Range}
@@ -13,6 +13,7 @@ use Rattle.fdp_rules.specs.Room.{namespace_ids}
 use Rattle.fdp_records.specs.declared.change.Change.{Change}
 use Rattle.fdp_records.specs.declared.change.Change.TheVariants as changes
 use Rattle.fdp_records.specs.declared.change.UnitPages.{UnitPages}
+use Rattle.fdp_image.specs.Applied.{applied}
 use Rattle.fdp_image.specs.Areas.{data_pages}
 use Rattle.fdp_image.specs.Changed.{page_numbers}
 use Rattle.fdp_image.specs.CheckpointRows.{is_namespace_id}
@@ -30,9 +31,13 @@ has_namespace r nsid = is_some (r.namespaces nsid)
 abbrev pub lies_within : Reading → ℕ → ℕ → ℕ → Bool
 lies_within r nsid slba count = has_namespace r nsid && nat_le (slba + count) (size_in r nsid)
 
+-- a range lies within the namespace; one of no blocks names none, and lies anywhere
+abbrev pub is_range_within : Reading → ℕ → Range → Bool
+is_range_within r nsid x = x.length == 0 || lies_within r nsid x.slba x.length
+
 -- each range lies within the namespace
 abbrev pub lie_within : Reading → ℕ → List Range → Bool
-lie_within r nsid ranges = list_all (λ (x : Range). lies_within r nsid x.slba x.length) ranges
+lie_within r nsid ranges = list_all (is_range_within r nsid) ranges
 
 -- how many blocks the namespaces have together
 abbrev pub blocks_of_all : Reading → ℕ
@@ -93,3 +98,12 @@ names_what_is c r (changes.Shut rg ruh) = nat_lt rg c.groups && nat_lt ruh (hand
 -- a change fits what is said before it, at a position that no namespace was created after
 abbrev pub fits : DriveConfig → Reading → Change × Totals → Bool
 fits c r x = are_born r x.1.position && names_what_is c r x.0
+
+-- whether a change fits what was said before it
+abbrev pub Fitting : Type 0
+Fitting = DriveConfig → Reading → Change × Totals → Bool
+
+-- each change fits what was said before it
+unfoldable pub all_fit : Fitting → DriveConfig → Reading → List (Change × Totals) → Bool
+all_fit fits c r [] = true
+all_fit fits c r (x ∷ xs) = fits c r x && all_fit fits c (applied c r x) xs
