@@ -2,10 +2,11 @@
 # Measures runs of 8,192 commands: on drive S 64 writes of a block, and reads of what they wrote; on the large drive 4,096
 # writes of a block, and reads of what they wrote. Prints commands per second, the start of the program, the reading of the
 # texts, the making of the drive in a new file and the printing included.
-# Usage: bench/commands.sh [RUNS]: the best of so many runs, 5 if not given.
+# Usage: bench/commands.sh [RUNS]: the best of so many runs, 5 if not given. The program is the one that ./fdpdrive runs.
 set -eu
 runs=${1:-5}
 top=$(cd "$(dirname "$0")/.." && pwd)
+program=$("$top/fdpdrive" program)
 work=$(mktemp -d)
 trap 'rm -rf "$work"' EXIT
 
@@ -23,7 +24,7 @@ measure() {
     for run in $(seq "$runs"); do
         rm -f "$work/drive.img"
         start=$(date +%s%N)
-        "$top/fdpdrive" run "$top/examples/$1" "$work/drive.img" "$2" > "$work/output"
+        "$program" run "$top/examples/$1" "$work/drive.img" "$2" > "$work/output"
         end=$(date +%s%N)
         took=$((end - start))
         if [ -z "$best" ] || [ "$took" -lt "$best" ]; then best=$took; fi
@@ -33,6 +34,6 @@ measure() {
 
 trace 64 52 > "$work/small.trace"
 trace 4096 4096 > "$work/large.trace"
-"$top/fdpdrive" run "$top/examples/drive-s.toml" "$work/first.img" "$work/small.trace" > "$work/output"
+"$program" run "$top/examples/drive-s.toml" "$work/first.img" "$work/small.trace" > "$work/output"
 measure drive-s.toml "$work/small.trace"
 measure large.toml "$work/large.trace"

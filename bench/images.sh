@@ -3,12 +3,15 @@
 # - a block that one run wrote is read by the next, and the sums go on; a drive of another configuration does not open the image;
 # - a page of the newer checkpoint is torn: the drive is that of the older one; a page of each is torn: there is no drive;
 # - 2,000 writes in one run, and in ten runs over one file: all blocks are the same;
-# - a file that is no flash, one that is cut short, a folder, a device: status 5, a reason on standard error, and the file stays as it is.
-# Usage: bench/images.sh. The program is proved and built on first use.
+# - a file that is no flash, one that is cut short, a folder, a device: status 5, a reason on standard error, and the file stays as it is;
+# - 2,000 random traces over every command, with numbers at each edge and behind it, four on an image: what each run reads at its end the next one reads.
+# Usage: bench/images.sh [SEED]: the seed of the random traces, 1 if not given. The program is the one that ./fdpdrive runs.
 set -eu
 top=$(cd "$(dirname "$0")/.." && pwd)
 work=$(mktemp -d)
 trap 'rm -rf "$work"' EXIT
+program=$("$top/fdpdrive" program)
+seed=${1:-1}
 cd "$work"
 cp "$top/examples/drive-s.toml" s.toml
 sed 's/^units = 12$/units = 13/' s.toml > other.toml
@@ -17,7 +20,7 @@ echo "read 1 0 1" > read.trace
 # a run with these words: its status and what it prints but for handles and events, in `got`
 run() {
     ended=0
-    "$top/fdpdrive" run "$@" > printed 2> said || ended=$?
+    "$program" run "$@" > printed 2> said || ended=$?
     { echo "status $ended"; sed '/^ruh /d; /^event /d' printed; } > got
 }
 
@@ -88,7 +91,7 @@ refused() {
     run s.toml "$1" read.trace
     if [ ! -s said ]; then echo "NOT as expected: no reason was told: $2"; exit 1; fi
     cmp before "$1"
-    printf 'status 5\nfault 5 flash\n' | expect "$2 ($(cat said))"
+    printf 'status 5\nfault 5 flash\n' | expect "$2 ($(head -n 1 said))"
 }
 
 echo "no flash at all, but a text that is longer than its head" > text.img
@@ -99,6 +102,101 @@ head -c 5000 drive.img > short.img
 refused short.img "a file that is cut short"
 mkdir folder.img
 run s.toml folder.img read.trace
-printf 'status 5\nfault 5 flash\n' | expect "a folder ($(cat said))"
+printf 'status 5\nfault 5 flash\n' | expect "a folder ($(head -n 1 said))"
 run s.toml /dev/null read.trace
-printf 'status 5\nfault 5 flash\n' | expect "a device ($(cat said))"
+printf 'status 5\nfault 5 flash\n' | expect "a device ($(head -n 1 said))"
+
+# Random traces. The drive has room for further namespaces; every other image begins nearly full of blocks that were overwritten.
+cat > random.toml <<'OUT'
+block = 512
+unit_pages = 8
+groups = 2
+units = 20
+area_units = 4
+queues = 1
+blocks_per_command = 4
+fdp = [["initial", "initial", "persistent"], ["initial"]]
+enabled = true
+index = 0
+queue_depth = 64
+collectors = 0
+turns = 0
+namespaces = [{ blocks = 100, handles = [0, 1, 2] }]
+OUT
+awk 'BEGIN {
+    for (i = 0; i < 100; i += 4) print "write 1", i, 4, i, "pid", i % 3
+    for (i = 0; i < 90; i++) print "write 1", (i * 37) % 100, 1, 1000 + i, "pid", 32768 * (i % 2) + i % 3
+}' > full.trace
+# the reads behind each trace
+awk 'BEGIN {
+    for (i = 0; i < 100; i += 4) print "read 1", i, 4
+    for (n = 1; n < 5; n++) { for (i = 0; i < 8; i++) print "read", n, i, 1; print "read", n, 59, 1; print "read", n, 99, 1 }
+    print "get-fdp"
+}' > behind.trace
+
+# A trace for each number from 1 on, in a file of that name: one to eight commands.
+awk -v seed="$seed" -v traces=2000 '
+    function below(n) { state = (state * 16807) % 2147483647; return state % n }
+    function one(words,   list, n) { n = split(words, list, " "); return list[1 + below(n)] }
+    function some(words, most,   line, n) { line = one(words); for (n = below(most); n > 0; n--) line = line " " one(words); return line }
+    function many(word, n,   line) { line = word; while (--n > 0) line = line " " word; return line }
+    function space() { return one("1 1 1 1 1 1 2 2 3 0 4 16 17 4294967294 4294967295") }
+    function address() { return one("0 1 2 7 50 59 60 61 96 98 99 100 101 4294967295 4294967296 18446744073709551614 18446744073709551615") }
+    function count() { return one("1 1 2 4 4 5 64 65 100 101 65535 65536") }
+    function length_of() { return one("0 0 1 2 8 50 99 100 101 4294967294 4294967295") }
+    function ranges(  line, n) { line = address() " " length_of(); for (n = one("0 0 1 2 15 16 255"); n > 0; n--) line = line " " address() " " length_of(); return line }
+    function seed_of() { return one("0 1 2147483648 4294967295") }
+    function pid() { return one("0 1 2 3 255 256 32767 32768 32769 32770 32771 65535") }
+    function dwords() { return one("1 2 3 4 16 1023 1024 1025 65535 65536") }
+    function written(word) { return word " " space() " " address() " " count() }
+    function command(kind) {
+        if (kind < 5) return written("write") " " seed_of() (below(2) ? " pid " pid() : "")
+        if (kind == 5) return written("write") " " seed_of() "\nwrite 1 " address() " " count() " " seed_of() " pid " pid()
+        if (kind == 6) return "read " space() " " address() " " one("1 2 4 5 64 100 101 900")
+        if (kind == 7) return written("zero")
+        if (kind < 10) return "dealloc " space() " " ranges()
+        if (kind == 10) return "flush " space()
+        if (kind == 11) return "delete " space()
+        if (kind == 12) return "status " space() " " dwords()
+        if (kind == 13) return "update " space() " " (below(4) ? some("0 1 2 3 32768 32769 32770 32771 65535", 4) : many(pid(), one("63 64 65 256")))
+        if (kind == 14) return "log " one("0 0x20 0x21 0x22 0x23 0x24 255") " " one("0 1 4 8 64 4294967296 18446744073709551612 18446744073709551615") " " dwords() one("\\_ _host _ctrl")
+        if (kind == 15) return "set-fdp " one("on off") " " one("0 0 1 1 2 3 255") (below(2) ? "\nget-fdp" : "")
+        if (kind == 16) return "set-events " space() " " one("0 1 2 3 65535") " " one("on off") " " (below(4) ? some("0 1 2 3 0x80 0x81", 6) : some("0 3 4 0x7f 0x82 255", 6))
+        return "create " one("0 1 2 8 59 60 61 100 160 161 4294967296 18446744073709551615") (below(3) ? " " some("0 1 2", 3) : below(2) ? " " many(one("0 3 65535"), one("15 16 17 32")) : "")
+    }
+    BEGIN {
+        state = 1 + seed % 2147483646
+        for (n = 0; n < 10; n++) below(1)
+        for (t = 1; t <= traces; t++) {
+            for (n = 1 + below(8); n > 0; n--) { line = command(below(18)); gsub(/\\_/, "", line); gsub(/_/, " ", line); print line > t }
+            close(t)
+        }
+    }'
+
+# what the last run answered to the commands from this number on, without their numbers
+answers() { awk -v first="$1" '/^stats/ { exit } /^[0-9]/ { on = ($1 >= first); sub(/^[0-9]+ /, "") } on' printed; }
+
+for trace in $(seq 2000); do
+    if [ $((trace % 4)) = 1 ]; then
+        rm -f random.img
+        row=
+        if [ $((trace % 8)) = 5 ]; then
+            run random.toml random.img full.trace
+            row=" full.trace"
+        fi
+    fi
+    row="$row $trace"
+    cat "$trace" behind.trace > whole.trace
+    run random.toml random.img whole.trace
+    first=$ended
+    answers "$(wc -l < "$trace")" > wanted
+    run random.toml random.img behind.trace
+    answers 0 > got
+    if [ "$first $ended" != "0 0" ] || ! cmp -s wanted got; then
+        echo "NOT as expected: seed $seed, trace $trace: status $first, and then $ended, $(head -n 1 printed); on that image stood$row:"
+        for part in $row; do if [ "$part" != full.trace ]; then cat "$part"; fi; done
+        diff wanted got | head -n 10
+        exit 1
+    fi
+done
+echo "as expected: 2,000 random traces of seed $seed: what each run read at its end the next one read"

@@ -2,9 +2,10 @@
 # Kills runs over one image at random moments, opens what each left, and looks whether the blocks that are there are those of a beginning of the
 # run: of the writes that it was to make the first so many were made, and none behind them. It is tried, not proved, that a file keeps what was
 # written to it when its process is killed; what power loss leaves of a file is not tried.
-# Usage: bench/kills.sh [RUNS [WRITES]]: so many runs of so many writes, 300 of 8000 if not given. The program is proved and built on first use.
+# Usage: bench/kills.sh [RUNS [WRITES]]: so many runs of so many writes, 300 of 8000 if not given. The program is the one that ./fdpdrive runs.
 set -eu
 top=$(cd "$(dirname "$0")/.." && pwd)
+program=$("$top/fdpdrive" program)
 runs=${1:-300}
 writes=${2:-8000}
 work=$(mktemp -d)
@@ -15,22 +16,22 @@ blocks=52
 # Each write has a number of its own, so that a block tells which write it is of.
 awk -v b=$blocks -v w="$writes" 'BEGIN { for (i = 1; i <= w; i++) print "write 1", (i * 7) % b, 1, i }' > long.trace
 awk -v b=$blocks 'BEGIN { for (i = 0; i < b; i++) print "read 1", i, 1 }' > blocks.trace
-"$top/fdpdrive" run s.toml first.img blocks.trace > /dev/null
+"$program" run s.toml first.img blocks.trace > /dev/null
 start=$(date +%s%N)
 cp first.img whole.img
-"$top/fdpdrive" run s.toml whole.img long.trace > /dev/null
+"$program" run s.toml whole.img long.trace > /dev/null
 took=$(( ($(date +%s%N) - start) / 1000 ))
 echo "a whole run takes $took microseconds"
 killed=0 ended=0 least= most=
 for run in $(seq "$runs"); do
     cp first.img drive.img
-    "$top/crates/fdpdrive/out/fdpdrive" run s.toml drive.img long.trace > /dev/null &
+    "$program" run s.toml drive.img long.trace > /dev/null &
     pid=$!
     wait_for=$(awk -v t="$took" -v s="$run" 'BEGIN { srand(s); printf "%.6f", rand() * t / 1000000 }')
     sleep "$wait_for"
     if kill -9 "$pid" 2> /dev/null; then killed=$((killed + 1)); else ended=$((ended + 1)); fi
     wait "$pid" 2> /dev/null || true
-    if ! "$top/fdpdrive" run s.toml drive.img blocks.trace > printed; then
+    if ! "$program" run s.toml drive.img blocks.trace > printed; then
         echo "NOT as expected: run $run left an image that does not open: $(cat printed)"
         exit 1
     fi

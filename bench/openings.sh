@@ -2,10 +2,11 @@
 # Measures openings: runs of an empty trace over images of drives of one group, of growing size up to the largest flash (262,144 pages), first
 # without a block and then filled to the budget with blocks of 64 a command. Each run opens the image, writes the checkpoint that ends the opening,
 # and puts the flash back; the start of the program is included. Prints milliseconds, and microseconds for each page of the flash.
-# Usage: bench/openings.sh [RUNS]: the best of so many runs, 5 if not given. The program is proved and built on first use.
+# Usage: bench/openings.sh [RUNS]: the best of so many runs, 5 if not given. The program is the one that ./fdpdrive runs.
 set -eu
 runs=${1:-5}
 top=$(cd "$(dirname "$0")/.." && pwd)
+program=$("$top/fdpdrive" program)
 work=$(mktemp -d)
 trap 'rm -rf "$work"' EXIT
 cd "$work"
@@ -39,7 +40,7 @@ measure() {
     best=
     for run in $(seq "$runs"); do
         start=$(date +%s%N)
-        "$top/fdpdrive" run drive.toml drive.img empty.trace > output
+        "$program" run drive.toml drive.img empty.trace > output
         took=$(($(date +%s%N) - start))
         if [ -z "$best" ] || [ "$took" -lt "$best" ]; then best=$took; fi
     done
@@ -56,10 +57,10 @@ openings() {
     blocks=$((64 * ($2 - 5) - 64))
     pages=$((64 * ($2 + 2 * $3)))
     rm -f drive.img
-    "$top/fdpdrive" run drive.toml drive.img empty.trace > output
+    "$program" run drive.toml drive.img empty.trace > output
     tell "$pages pages of $1 bytes, no block" "$pages" "$(measure)"
     awk -v blocks="$blocks" 'BEGIN { for (at = 0; at < blocks; at += 64) print "write 1", at, 64, at }' > fill.trace
-    "$top/fdpdrive" run drive.toml drive.img fill.trace > output
+    "$program" run drive.toml drive.img fill.trace > output
     written=$(grep -c '^[0-9]* write 0/00 00000000$' output)
     if [ "$written" -ne $((blocks / 64)) ]; then
         echo "NOT as expected: $written of $((blocks / 64)) writes succeeded"

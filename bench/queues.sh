@@ -2,10 +2,11 @@
 # Measures a session of sixteen traces of 8,192 commands, three writes of a block to one read, each in its queue and over blocks of its own, on a drive
 # of two groups whose units it empties and fills again: as a run, and as a record. Prints commands per second, the start of the program, the
 # texts, the making of the drive in a new file and the printing included, and looks that each queue has completed each of its commands with success.
-# Usage: bench/queues.sh [RUNS]: the best of so many runs, 5 if not given.
+# Usage: bench/queues.sh [RUNS]: the best of so many runs, 5 if not given. The program is the one that ./fdpdrive runs.
 set -eu
 runs=${1:-5}
 top=$(cd "$(dirname "$0")/.." && pwd)
+program=$("$top/fdpdrive" program)
 work=$(mktemp -d)
 trap 'rm -rf "$work"' EXIT
 cat > "$work/drive.toml" <<'END'
@@ -46,7 +47,7 @@ measure() {
     for run in $(seq "$runs"); do
         rm -f "$work/drive.img"
         start=$(date +%s%N)
-        "$top/fdpdrive" "$form" "$work/drive.toml" "$work/drive.img" "$@" > "$work/output"
+        "$program" "$form" "$work/drive.toml" "$work/drive.img" "$@" > "$work/output"
         end=$(date +%s%N)
         took=$((end - start))
         if [ -z "$best" ] || [ "$took" -lt "$best" ]; then best=$took; fi
@@ -60,6 +61,6 @@ measure() {
         printf "%s: %d commands per second (%d milliseconds for 131072, %d bytes printed)\n", form, 131072 / (took / 1e9), took / 1e6, bytes }'
 }
 
-"$top/fdpdrive" run "$work/drive.toml" "$work/drive.img" "$1" > "$work/output"
+"$program" run "$work/drive.toml" "$work/drive.img" "$1" > "$work/output"
 measure run "$@"
 measure record "$@"
