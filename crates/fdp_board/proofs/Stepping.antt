@@ -22,6 +22,7 @@ use Rattle.fdp_image.specs.Kept.{StandsForKept}
 use Rattle.fdp_workers.specs.fdp_isolation.Begun.{OpenedApart}
 use Rattle.fdp_workers.specs.fdp_roominess.Run.{BeganRoomy, IsRoomyImage}
 use Rattle.fdp_workers.specs.fdp_survival.Apart.{StandsApart}
+use Rattle.fdp_workers.proofs.fdp_survival.Apart.{own-apart}
 use Rattle.fdp_workers.proofs.fdp_survival.Images.{grown-apart, less-apart}
 use Rattle.fdp_workers.specs.fdp_ledger.declared.counts.Counts.{Counts}
 use Rattle.fdp_workers.specs.fdp_ledger.Emptied.{OnlyErasesEmpty}
@@ -82,15 +83,19 @@ goes state old new es calls a later late charged = record {
 -- an image by the fields of the book before a step is one by those of the book behind it
 book-after : {F : Type 0} (state : F → FlashState) (old new : Seen F) (es : List Entry) (m : ℕ) (image : List Cell) → Goes state old new es → StandsForKept old.book.config old.book.found new.book.entries 0 m image
     → (OpenedApart old.book.config old.book.found old.book.opened → StandsApart old.book.config old.book.found new.book.entries 0 image) → IsKeptImage new.book.config new.book.found new.book.opened new.book.entries m image
-book-after state old new es m image g stands apart = record {
-  stands =
-      subst (λ (c : DriveConfig). StandsForKept c new.book.found new.book.entries 0 m image) (sym g.config_is)
-      (subst (λ (f : Found). StandsForKept old.book.config f new.book.entries 0 m image) (sym g.found_is) stands);
-  apart =
-      subst (λ (c : DriveConfig). OpenedApart c new.book.found new.book.opened → StandsApart c new.book.found new.book.entries 0 image) (sym g.config_is)
-      (subst (λ (f : Found). OpenedApart old.book.config f new.book.opened → StandsApart old.book.config f new.book.entries 0 image) (sym g.found_is)
-      (subst (λ (cells : List Cell). OpenedApart old.book.config old.book.found cells → StandsApart old.book.config old.book.found new.book.entries 0 image) (sym g.opened_is) apart));
-}
+book-after state old new es m image g stands apart =
+    let stands_then =
+    subst (λ (c : DriveConfig). StandsForKept c new.book.found new.book.entries 0 m image) (sym g.config_is)
+    (subst (λ (f : Found). StandsForKept old.book.config f new.book.entries 0 m image) (sym g.found_is) stands) in
+    let apart_then =
+    subst (λ (c : DriveConfig). OpenedApart c new.book.found new.book.opened → StandsApart c new.book.found new.book.entries 0 image) (sym g.config_is)
+    (subst (λ (f : Found). OpenedApart old.book.config f new.book.opened → StandsApart old.book.config f new.book.entries 0 image) (sym g.found_is)
+    (subst (λ (cells : List Cell). OpenedApart old.book.config old.book.found cells → StandsApart old.book.config old.book.found new.book.entries 0 image) (sym g.opened_is) apart)) in
+    record {
+      stands = stands_then;
+      apart = apart_then;
+      own = λ opened. own-apart new.book.config new.book.found image stands_then.beginning.kept stands_then.beginning.stands (apart_then opened).read;
+    }
 
 -- an image of the history before a step is one of the history behind it
 image-after : {F : Type 0} (state : F → FlashState) (old new : Seen F) (es : List Entry) (m : ℕ) (image : List Cell) → Goes state old new es → AreLate m es → IsKeptImage old.book.config old.book.found old.book.opened old.book.entries m image → IsKeptImage new.book.config new.book.found new.book.opened new.book.entries m image

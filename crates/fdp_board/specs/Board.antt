@@ -18,7 +18,7 @@ use Rattle.fdp_flash.specs.FlashState.{Call, FlashState}
 use Rattle.fdp_image.specs.Kept.{StandsForKept}
 use Rattle.fdp_workers.specs.fdp_isolation.Begun.{OpenedApart}
 use Rattle.fdp_workers.specs.fdp_roominess.Run.{BeganRoomy, IsRoomyImage}
-use Rattle.fdp_workers.specs.fdp_survival.Apart.{StandsApart}
+use Rattle.fdp_workers.specs.fdp_survival.Apart.{IsApartBy, StandsApart}
 use Rattle.fdp_workers.specs.fdp_ledger.declared.counts.Counts.{Counts}
 use Rattle.fdp_workers.specs.fdp_ledger.Emptied.{OnlyErasesEmpty}
 use Rattle.fdp_workers.specs.fdp_ledger.Told.{is_media_reply}
@@ -95,10 +95,11 @@ began_with state b = record {
 -- ---- what stands between turns
 
 -- What a stop at a moment may have left stands for a beginning of a history in which each change is that was completed at an earlier moment; and
--- data stands apart in it, where the cells that were opened kept it apart.
+-- data stands apart in it, where the cells that were opened kept it apart, and by that very beginning, too.
 pub record IsKeptImage (c : DriveConfig) (f : Found) (opened : List Cell) (es : List Entry) (m : ℕ) (image : List Cell) : Type 0 where
   pub stands : StandsForKept c f es 0 m image
   pub apart : OpenedApart c f opened → StandsApart c f es 0 image
+  pub own : OpenedApart c f opened → IsApartBy c f image stands.beginning.kept stands.beginning.stands
 
 -- where the cells are told, so it is with whatever a stop in a call since a moment may have left, by the history of a book
 abbrev pub IsSafeSince : ℕ → FlashState → BookSeen → Type 0

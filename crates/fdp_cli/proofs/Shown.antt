@@ -14,7 +14,7 @@ use Rattle.fdp_base.specs.Counts.{Rose}
 use Rattle.fdp_base.specs.Placement.{geometry_of}
 use Rattle.fdp_drive.specs.fdp_book.Book.{BookSeen, point_in}
 use Rattle.fdp_drive.specs.fdp_core.Loading.{IsLoaded, IsNewDrive, IsNotLoaded, IsOpenedDrive}
-use Rattle.fdp_drive.specs.fdp_core.Seen.{HasMoments, HoldsHistory, IsLegalOver, ReadsAsEnd, Seen}
+use Rattle.fdp_drive.specs.fdp_core.Seen.{HasMoments, HoldsHistory, IsLegalOver, LeavesOpened, ReadsAsEnd, Seen}
 use Rattle.fdp_drive.specs.fdp_board.Board.{AreCharged, EmptiedAreTold, HasServedNothing, IsRoomySince, IsSafeSince}
 use Rattle.fdp_drive.proofs.fdp_board.Outlasting.{AreLate}
 use Rattle.fdp_drive.specs.fdp_crews.Crews.{IsTrace}
@@ -32,9 +32,10 @@ use Rattle.fdp_flash.specs.Runs.{Runs}
 use Rattle.fdp_image.specs.Kept.{AreFirm, StandsForBeginning, StandsForKept, is_owed}
 use Rattle.fdp_io.specs.Sink.{HoldsFront, SinkState}
 use Rattle.fdp_drive.specs.fdp_isolation.Begun.{OpenedApart}
-use Rattle.fdp_drive.specs.fdp_isolation.Isolated.{IsIsolatedDrive}
+use Rattle.fdp_drive.specs.fdp_isolation.Isolated.{IsIsolatedDrive, LeavesUsed}
 use Rattle.fdp_drive.specs.fdp_survival.Apart.{ReadsIsolated, StandsApart}
 use Rattle.fdp_drive.proofs.fdp_loading.Opens.{beginning-opens}
+use Rattle.fdp_drive.proofs.fdp_survival.Apart.{own-apart}
 use Rattle.fdp_drive.proofs.fdp_survival.Images.{less-apart}
 use Rattle.fdp_drive.specs.fdp_ledger.declared.counts.Counts.{Counts}
 use Rattle.fdp_drive.specs.fdp_ledger.Counted.{CountedSince}
@@ -83,6 +84,7 @@ pub record HasServed {F : Type 0} (state : F → FlashState) (c : DriveConfig) (
   pub cells : HoldsHistory (state new.flash) new.book
   pub apart : IsTrue (state new.flash).told → OpenedApart new.book.config new.book.found new.book.opened → IsIsolatedDrive new.book.config (point_in new.book) new.book.entries (state new.flash).cells
   pub reads : IsTrue (state new.flash).told → OpenedApart new.book.config new.book.found new.book.opened → ReadsIsolated new.book.config (state new.flash).cells
+  pub used : LeavesOpened (state new.flash) new.book
   pub counted : CountedSince new.handed (state new.flash) (start_of new.book) new.book.entries
   pub worn : WearsByFailure new.handed.faults (state new.flash).faults (state new.flash).told new.book
   pub roomy : IsTrue (state new.flash).told → StaysRoomy new.handed.faults (state new.flash).faults (state new.flash).told new.book (state new.flash).cells
@@ -140,13 +142,16 @@ served-nothing state c handed old loaded = record {
   none = opened-none old.book.entries (entries-begun state c handed old loaded);
   safe = λ told m image above most there.
       let since = subst (λ (h : Counts). h.moment < m) loaded.handed_is above in
+      let stands =
+      subst (λ (x : DriveConfig). StandsForKept x old.book.found old.book.entries 0 m image) (sym loaded.config_is)
+      (kept-first c old.book.found old.book.entries m image (entries-begun state c handed old loaded) (run.images (sym run.told ∙ told) m image since most there)) in
+      let apart =
+      subst (λ (x : DriveConfig). OpenedApart x old.book.found old.book.opened → StandsApart x old.book.found old.book.entries 0 image) (sym loaded.config_is)
+      (λ opened. less-apart c old.book.found old.book.entries (length old.book.entries) 0 image (omega arith) ((loaded.apart opened).images.images (sym run.told ∙ told) m image since most there)) in
       record {
-        stands =
-            subst (λ (x : DriveConfig). StandsForKept x old.book.found old.book.entries 0 m image) (sym loaded.config_is)
-            (kept-first c old.book.found old.book.entries m image (entries-begun state c handed old loaded) (run.images (sym run.told ∙ told) m image since most there));
-        apart =
-            subst (λ (x : DriveConfig). OpenedApart x old.book.found old.book.opened → StandsApart x old.book.found old.book.entries 0 image) (sym loaded.config_is)
-            (λ opened. less-apart c old.book.found old.book.entries (length old.book.entries) 0 image (omega arith) ((loaded.apart opened).images.images (sym run.told ∙ told) m image since most there));
+        stands = stands;
+        apart = apart;
+        own = λ opened. own-apart old.book.config old.book.found image stands.beginning.kept stands.beginning.stands (apart opened).read;
       };
   roomy = λ told began well m image above most there.
       subst (λ (x : DriveConfig). IsRoomyImage x image) (sym loaded.config_is)
@@ -200,6 +205,15 @@ emptied-since state c handed old new has same emptied told is_image =
     let tells : IsTrue (state new.flash).told = same.told_is ∙ has.loaded.stops.told ∙ told in
     let was : IsTrue old.book.found.is_image = ap (λ (f : Found). f.is_image) (sym same.found_is) ∙ is_image in
     subst (λ (cells : List Cell). OnlyErasesEmpty (geometry_of new.book.config) cells (state new.flash).cells new.book.entries) (same.opened_is ∙ opened-image state c handed old has.loaded told was) (emptied.only tells is_image)
+
+-- a unit that had been used by the opening gets no page before it is erased
+used-since : {F : Type 0} (state : F → FlashState) (c : DriveConfig) (handed : F) (old new : Seen F) → HasServed state c handed old new → IsSameDrive state old new → IsTrue (state handed).told → IsTrue new.book.found.is_image → ReadsIsolated new.book.config (state handed).cells
+    → LeavesUsed new.book.config (state handed).cells new.book.entries (state new.flash).cells
+used-since state c handed old new has same told is_image reads =
+    let tells : IsTrue (state new.flash).told = same.told_is ∙ has.loaded.stops.told ∙ told in
+    let was : IsTrue old.book.found.is_image = ap (λ (f : Found). f.is_image) (sym same.found_is) ∙ is_image in
+    subst (λ (cells : List Cell). LeavesUsed new.book.config cells new.book.entries (state new.flash).cells) (same.opened_is ∙ opened-image state c handed old has.loaded told was)
+    (has.used tells (opened-by state c handed old new has same told reads))
 
 -- it began with room where the image was roomy
 began-by : {F : Type 0} (state : F → FlashState) (c : DriveConfig) (handed : F) (old new : Seen F) → HasServed state c handed old new → IsSameDrive state old new → IsTrue (state handed).told → IsRoomyImage new.book.config (state handed).cells → BeganRoomy (state new.flash).told new.book
@@ -277,6 +291,7 @@ run_by {F} state c traces receipts end handed given old new has same served =
         emptied = emptied-since state c handed old new has served.same served.emptied;
         apart = has.apart;
         opened = opened-by state c handed old new has served.same;
+        used = used-since state c handed old new has served.same;
         isolated = stays-isolated state c handed old new has served.same served.safe;
         began = began-by state c handed old new has served.same;
         worn = subst (λ (k : Counts). WearsByFailure k.faults (state new.flash).faults (state new.flash).told new.book) is has.worn;

@@ -16,7 +16,7 @@ use Rattle.fdp_flash.specs.FlashState.{FlashState}
 use Rattle.fdp_image.specs.Kept.{AreFirm, StandsForBeginning}
 use Rattle.fdp_drive.specs.fdp_loading.Opens.{Opens}
 use Rattle.fdp_drive.specs.fdp_isolation.Begun.{OpenedApart}
-use Rattle.fdp_drive.specs.fdp_isolation.Isolated.{IsIsolatedDrive}
+use Rattle.fdp_drive.specs.fdp_isolation.Isolated.{IsIsolatedDrive, LeavesUsed}
 use Rattle.fdp_drive.specs.fdp_survival.Apart.{ReadsIsolated}
 use Rattle.fdp_drive.specs.fdp_ledger.Counted.{CountedSince, counts_of}
 use Rattle.fdp_drive.specs.fdp_ledger.Emptied.{OnlyErasesEmpty}
@@ -47,8 +47,8 @@ pub record StaysOpen (c : DriveConfig) (handed given : FlashState) : Type 0 wher
 -- it tells its cells, these stand for a beginning of the history in which each completed change is: what the next run goes on from. Whatever a stop in
 -- a call of the run may have left stands for a beginning with each change that was completed at an earlier moment, and data stands apart there as well.
 -- All of this the next run takes. While no saving is in doubt, which one is only where a call failed, it reads just what the whole history left, but for the sums.
--- Where the flash that was handed in was isolated, whatever it read as, what was opened keeps data apart, and the flash stays isolated. Where it was roomy,
--- the run began with room; one that did wore a group only where a call failed, and where none did it leaves a roomy image, as does a stop in any
+-- Where the flash that was handed in was isolated, whatever it read as, what was opened keeps data apart, and the flash stays isolated; over an image a unit that
+-- had been used gets no page before it is erased. Where it was roomy, the run began with room; one that did wore a group only where a call failed, and where none did it leaves a roomy image, as does a stop in any
 -- call of it, and with one group it ended no command with Capacity Exceeded
 pub record HoldsRecord {F : Type 0} (state : F → FlashState) (handed : F) (group : Seen F) : Type 0 where
   pub told_is : (state group.flash).told ≡ (state handed).told
@@ -59,6 +59,7 @@ pub record HoldsRecord {F : Type 0} (state : F → FlashState) (handed : F) (gro
   pub emptied : IsTrue (state handed).told → IsTrue group.book.found.is_image → OnlyErasesEmpty (geometry_of group.book.config) (state handed).cells (state group.flash).cells group.book.entries
   pub apart : IsTrue (state group.flash).told → OpenedApart group.book.config group.book.found group.book.opened → IsIsolatedDrive group.book.config (point_in group.book) group.book.entries (state group.flash).cells
   pub opened : IsTrue (state handed).told → ReadsIsolated group.book.config (state handed).cells → OpenedApart group.book.config group.book.found group.book.opened
+  pub used : IsTrue (state handed).told → IsTrue group.book.found.is_image → ReadsIsolated group.book.config (state handed).cells → LeavesUsed group.book.config (state handed).cells group.book.entries (state group.flash).cells
   pub isolated : IsTrue (state handed).told → ReadsIsolated group.book.config (state handed).cells → StaysIsolated group.book.config (state handed) (state group.flash)
   pub began : IsTrue (state handed).told → IsRoomyImage group.book.config (state handed).cells → BeganRoomy (state group.flash).told group.book
   pub worn : WearsByFailure (state handed).faults (state group.flash).faults (state group.flash).told group.book

@@ -25,17 +25,15 @@ use Rattle.fdp_core.proofs.Sound.{IsSameFlash, begun, same-flash}
 use Rattle.fdp_flash.specs.Cells.{ProgramMayLeave}
 use Rattle.fdp_flash.specs.FlashState.{FlashState}
 use Rattle.fdp_loading.specs.fdp_survival.Books.{KeepsApart, KeepsIsolated}
-use Rattle.fdp_loading.specs.fdp_isolation.Laned.{AreLaned, IsKnown, StandsOver}
-use Rattle.fdp_loading.proofs.fdp_isolation.Answered.{laned-answered, laned-commanded, laned-committed, laned-set}
+use Rattle.fdp_loading.specs.fdp_isolation.Apart.{AreApart}
+use Rattle.fdp_loading.specs.fdp_isolation.Laned.{IsKnown, StandsOver}
+use Rattle.fdp_loading.proofs.fdp_isolation.Apart as isolation
 use Rattle.fdp_loading.proofs.fdp_isolation.Keeping.{FillsNoMore, FillsNone}
-use Rattle.fdp_loading.proofs.fdp_isolation.Moved.{laned-moved}
-use Rattle.fdp_loading.proofs.fdp_isolation.Placed.{laned-placed, laned-shut}
+use Rattle.fdp_loading.proofs.fdp_isolation.LeftAlone.{KeepsShut}
 use Rattle.fdp_loading.specs.fdp_survival.Apart.{ReadsIsolated}
 use Rattle.fdp_loading.proofs.fdp_survival.Steps.{cells-apart, keeps-isolated}
 use Rattle.fdp_loading.specs.fdp_ledger.declared.counts.Counts.{Counts}
 use Rattle.fdp_relocation.specs.fdp_keeper.Keeper.{KeeperSeen}
-use Rattle.fdp_loading.proofs.fdp_isolation.Relocated.{laned-relocated}
-use Rattle.fdp_loading.proofs.fdp_isolation.Started.{laned-started}
 use Rattle.fdp_relocation.specs.fdp_locations.Stored.{HoldsWritten}
 use Rattle.fdp_relocation.specs.fdp_locations.Written.{next_spare}
 use Rattle.fdp_relocation.specs.fdp_pages.Steps.{ChangesOwners}
@@ -61,41 +59,41 @@ opened-back b d es longer opened =
     (subst (λ (f : Found). OpenedApart d.config f b.opened) longer.found_is
     (subst (OpenedApart d.config d.found) longer.opened_is opened))
 
-moved-along : (f n : FlashState) (b d : BookSeen) (es : List Entry) → IsSameFlash f n → IsLonger b d es → (AreLaned b f.cells → AreLaned d f.cells) → KeepsApart f b → KeepsApart n d
+moved-along : (f n : FlashState) (b d : BookSeen) (es : List Entry) → IsSameFlash f n → IsLonger b d es → (AreApart b f.cells → AreApart d f.cells) → KeepsApart f b → KeepsApart n d
 moved-along f n b d es same longer step h tells opened =
     let told : IsTrue f.told = sym same.told ∙ tells in
-    subst (AreLaned d) (sym (same.cells told)) (step (h told (opened-back b d es longer opened)))
+    subst (AreApart d) (sym (same.cells told)) (step (h told (opened-back b d es longer opened)))
 
 pub apart-answered : (f n : FlashState) (b d : BookSeen) (queue number : ℕ) (command : Command) (reply : Reply) (moment : ℕ) (done : Done) → IsKnown b → IsLed d → IsSameFlash f n →
     Completes b d [] queue number command reply moment done → ChangesOwners b.pages d.pages → reply.applied ≡ false → KeepsApart f b → KeepsApart n d
 apart-answered f n b d queue number command reply moment done known led same ends owners unapplied h =
-    moved-along f n b d _ same ends.step (λ laned. laned-answered b d queue number command reply moment done f.cells known led ends owners unapplied laned) h
+    moved-along f n b d _ same ends.step (λ apart. isolation.answered b d queue number command reply moment done f.cells known led ends owners unapplied apart) h
 
 -- a command was made that is neither a write nor a setting, whether it was told to be saved or not
 pub apart-commanded : (f : FlashState) (b d : BookSeen) (queue number : ℕ) (command : Command) (reply : Reply) (moment : ℕ) (done : Done) → IsKnown b → IsLed d →
-    Completes b d [] queue number command reply moment done → FillsNoMore b.pages d.pages → is_write command ≡ false → is_setting command ≡ false → KeepsApart f b → KeepsApart f d
-apart-commanded f b d queue number command reply moment done known led ends fills other unset h =
-    moved-along f f b d _ (same-flash f) ends.step (λ laned. laned-commanded b d queue number command reply moment done f.cells known led ends fills other unset laned) h
+    Completes b d [] queue number command reply moment done → FillsNoMore b.pages d.pages → KeepsShut b.pages d.pages → is_write command ≡ false → is_setting command ≡ false → KeepsApart f b → KeepsApart f d
+apart-commanded f b d queue number command reply moment done known led ends fills keeps other unset h =
+    moved-along f f b d _ (same-flash f) ends.step (λ apart. isolation.commanded b d queue number command reply moment done f.cells known led ends fills keeps other unset apart) h
 
 -- a placement setting was made
 pub apart-set : (f : FlashState) (b d : BookSeen) (queue number : ℕ) (command : Command) (reply : Reply) (moment : ℕ) (done : Done) → IsKnown b → IsLed d →
-    Completes b d [] queue number command reply moment done → FillsNone d.pages → is_setting command ≡ true → reply.applied ≡ true → KeepsApart f b → KeepsApart f d
-apart-set f b d queue number command reply moment done known led ends none sets made h =
-    moved-along f f b d _ (same-flash f) ends.step (λ laned. laned-set b d queue number command reply moment done f.cells known led ends none sets made laned) h
+    Completes b d [] queue number command reply moment done → FillsNone d.pages → KeepsShut b.pages d.pages → is_setting command ≡ true → reply.applied ≡ true → KeepsApart f b → KeepsApart f d
+apart-set f b d queue number command reply moment done known led ends none keeps sets made h =
+    moved-along f f b d _ (same-flash f) ends.step (λ apart. isolation.set b d queue number command reply moment done f.cells known led ends none keeps sets made apart) h
 
 -- a write was made, whether it was told to be saved or not
 pub apart-committed : (f : FlashState) (b d : BookSeen) (queue moment : ℕ) (g : Going) (status : Status) (done : Done) → IsKnown b → IsLed d → (state_in b).going queue ≡ Some g → MaySucceed b.config (point_in b) g →
     Completes b d [] queue g.number g.command (bare status true) moment done → ChangesOwners b.pages d.pages → KeepsApart f b → KeepsApart f d
 apart-committed f b d queue moment g status done known led going may ends owners h =
-    moved-along f f b d _ (same-flash f) ends.step (λ laned. laned-committed b d queue moment g status done f.cells known led going may ends owners laned) h
+    moved-along f f b d _ (same-flash f) ends.step (λ apart. isolation.committed b d queue moment g status done f.cells known led going may ends owners apart) h
 
 pub apart-started : (f : FlashState) (b d : BookSeen) (queue number : ℕ) (command : Command) (ticket : Ticket) → IsKnown b → IsLed d → Starts b d queue number command ticket → ChangesOwners b.pages d.pages → KeepsApart f b → KeepsApart f d
 apart-started f b d queue number command ticket known led starts owners h =
-    moved-along f f b d _ (same-flash f) starts.step (λ laned. laned-started b d queue number command ticket f.cells known led starts owners laned) h
+    moved-along f f b d _ (same-flash f) starts.step (λ apart. isolation.started b d queue number command ticket f.cells known led starts owners apart) h
 
 -- a move calls no flash
 pub apart-moved : (f : FlashState) (b d : BookSeen) (rg : ℕ) → IsKnown b → MovesPass b d rg → KeepsApart f b → KeepsApart f d
-apart-moved f b d rg known moves h = moved-along f f b d _ (same-flash f) moves.longer (λ laned. laned-moved b d rg f.cells known moves laned) h
+apart-moved f b d rg known moves h = moved-along f f b d _ (same-flash f) moves.longer (λ apart. isolation.moved b d rg f.cells known moves apart) h
 
 -- ---- what it says
 
@@ -125,12 +123,12 @@ module _ (f n : FlashState) (b d : BookSeen) (ticket : Ticket) (g : Going) (w : 
   pub apart-placed : (last : Bool) → Places b d ticket g spot last → KeepsApart n d
   apart-placed last places tells opened =
       let here : IsTrue f.told = sym told ∙ tells in
-      laned-placed b d ticket g w spot last bytes f.cells n.cells (stands f b geometry known stored here) led is write next places (left-there here) (h here (opened-back b d _ places.step opened))
+      isolation.placed b d ticket g w spot last bytes f.cells n.cells (stands f b geometry known stored here) led is write next places (left-there here) (h here (opened-back b d _ places.step opened))
 
   pub apart-shut : (status : Status) (moment : ℕ) (done : Done) → ShutsAndEnds b d ticket g spot status moment done → KeepsApart n d
   apart-shut status moment done shuts tells opened =
       let here : IsTrue f.told = sym told ∙ tells in
-      laned-shut b d ticket g w spot status moment done bytes f.cells n.cells (stands f b geometry known stored here) led is write next shuts (left-there here) (h here (opened-back b d _ shuts.completes.step opened))
+      isolation.shut-and-ended b d ticket g w spot status moment done bytes f.cells n.cells (stands f b geometry known stored here) led is write next shuts (left-there here) (h here (opened-back b d _ shuts.completes.step opened))
 
 -- ---- a step of relocation
 
@@ -138,4 +136,4 @@ module _ (f n : FlashState) (b d : BookSeen) (rg : ℕ) (low : rg < b.config.gro
   pub apart-relocated : (may_erase : Bool) (step : Step) → Relocates b d f n rg may_erase step → KeepsApart n d
   apart-relocated may_erase step relocates tells opened =
       let here : IsTrue f.told = sym told ∙ tells in
-      laned-relocated b d f n rg may_erase step here geometry low (stands f b geometry known stored here) relocates (h here (opened-back b d _ relocates.longer opened))
+      isolation.relocated b d f n rg may_erase step here geometry low (stands f b geometry known stored here) relocates (h here (opened-back b d _ relocates.longer opened))

@@ -1,5 +1,5 @@
 -- A step of relocation, behind the end of a doubt or not, and a move that was saved keep what saves a drive, and a stop within them loses nothing.
-use Rattle.std.proofs.Common.{◌≡◌, ℕ, ◌<◌, ◌≤◌, inl, inr, Bool, true, false, not, IsTrue, List, [], ◌∷◌, length, refl, sym, ◌∙◌, ap, subst, arith, length-append, Option}
+use Rattle.std.proofs.Common.{◌≡◌, ℕ, ◌<◌, ◌≤◌, inl, inr, Bool, true, false, not, IsTrue, List, [], ◌∷◌, length, refl, sym, ◌∙◌, ap, subst, arith, length-append, ne_eqb, Option}
 use Rattle.std.specs.Prelude.{All, IsFalse, ◌==◌}
 use Rattle.fdp_base.specs.declared.entry.BlockName.{BlockName}
 use Rattle.fdp_base.specs.declared.entry.Entry.{Entry}
@@ -42,6 +42,11 @@ use Rattle.std.specs.Option.{option_map_or}
 may-erase : (doubt : Bool) → IsTrue (not doubt) → doubt ≡ false
 may-erase true may = absurd cc
 may-erase false may = refl
+
+-- a move of blocks is lasting
+some-moved : (xs : List BlockName) → (xs ≡ [] → ⊥) → not (length xs == 0) ≡ true
+some-moved [] some = absurd (some refl)
+some-moved (x ∷ xs) some = ap not (ne_eqb (length (x ∷ xs)) 0 (λ none. omega (arith, none)))
 
 module _ {F : Type 0} (state : F → FlashState) (old new : Stage F) (rg : ℕ) (handed : Counts) (order : IsInOrder old.book) (geometry : (state old.flash).geometry ≡ geometry_of old.book.config) (stored : HoldsBook old.book (state old.flash)) (apart : KeepsApart (state old.flash) old.book) (was : IsKept handed (state old.flash) old.book old.keeper) where
   isolated : KeepsIsolated (state old.flash) old.book
@@ -88,7 +93,7 @@ module _ {F : Type 0} (state : F → FlashState) (old new : Stage F) (rg : ℕ) 
           kept-entry handed (state new.flash) (state new.flash) old.book new.book moved old.keeper order there h.moved.longer (ap (λ (xs : List BlockName). length xs == 0) none.0) (λ pages. h.moved.follows true) (omega arith)
           (safe-unmoved old.book new.book rg old.keeper.saver old.keeper.firm (state new.flash) order h.moved none.0 there.safe))
       | inr some ↦
-          kept-made handed (state old.flash) (state new.flash) old.book new.book moved old.keeper new.keeper answer was low_faults h.moved.longer some.1
+          kept-made handed (state old.flash) (state new.flash) old.book new.book moved old.keeper new.keeper answer order.known.config (some-moved (moved_blocks (point_in old.book) rg) some.0) was low_faults h.moved.longer some.1
           (subst (λ (firm : ℕ). IsSafe new.book new.keeper.saver firm (state new.flash)) (sym some.1.firm_is)
           (safe-saved old.book new.book moved old.keeper.saver new.keeper.saver old.keeper.firm (state old.flash) (state new.flash) answer order geometry stored isolated was.safe some.1.saves then_order h.moved.longer (move-go old.book new.book rg h.moved) then_stored then_isolated (λ ne. refl)))
     ]
@@ -129,7 +134,7 @@ module _ {F : Type 0} (state : F → FlashState) (old new : Stage F) (rg : ℕ) 
     erased-safe = safe-relocated old.book new.book (state h.middle) (state new.flash) rg true step new.keeper.saver new.keeper.firm low order middle-geometry middle_stored middle_apart h.made h.run no-doubt settled-safe
 
     pub settled-kept : IsKept handed (state new.flash) new.book new.keeper
-    settled-kept = kept-settled handed (state old.flash) (state h.middle) (state new.flash) old.book new.book (told_by rg step) old.keeper new.keeper was h.made.longer some h.settled.saves keeper erased-safe
+    settled-kept = kept-settled handed (state old.flash) (state h.middle) (state new.flash) old.book new.book (told_by rg step) old.keeper new.keeper order.known.config was h.made.longer some h.settled.saves keeper erased-safe
 
     -- no fewer entries are firm
     firm-more : old.keeper.firm ≤ new.keeper.firm

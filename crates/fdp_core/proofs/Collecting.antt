@@ -13,7 +13,7 @@ use Rattle.fdp_core.specs.Steps.{IsGrown, Matches, steps_of}
 use Rattle.fdp_core.proofs.Sound.{begun}
 use Rattle.fdp_flash.specs.FlashState.{Call, FlashState}
 use Rattle.fdp_loading.specs.fdp_ledger.WornOut.{IsWornOut}
-use Rattle.fdp_loading.proofs.fdp_isolation.Alike.{laned-alike}
+use Rattle.fdp_loading.proofs.fdp_isolation.Apart as isolation
 use Rattle.fdp_loading.specs.fdp_ledger.declared.counts.Counts.{Counts}
 use Rattle.fdp_loading.proofs.fdp_ledger.Alike.{ledger-alike}
 use Rattle.fdp_relocation.specs.declared.advance.Advance.{Advance}
@@ -71,7 +71,7 @@ grown-kept b d es longer less spare =
     }
 
 pub sound-cancelled : (handed : Counts) (f : FlashState) (d : BookSeen) (block : List ℕ) → IsSound handed f d block → IsSound handed f (cancelled d) block
-sound-cancelled handed f d block so = record { geometry = so.geometry; legal = so.legal; stored = so.stored; apart = λ tells opened. laned-alike d (cancelled d) f.cells refl refl refl refl (so.apart tells opened); ledger = ledger-alike handed d (cancelled d) f refl refl refl refl refl so.ledger; room = keeps-alike handed.faults f.faults f.told d (cancelled d) refl refl refl refl refl so.room; buffer = so.buffer }
+sound-cancelled handed f d block so = record { geometry = so.geometry; legal = so.legal; stored = so.stored; apart = λ tells opened. isolation.alike d (cancelled d) f.cells refl refl refl refl refl (so.apart tells opened); ledger = ledger-alike handed d (cancelled d) f refl refl refl refl refl so.ledger; room = keeps-alike handed.faults f.faults f.told d (cancelled d) refl refl refl refl refl so.room; buffer = so.buffer }
 
 -- a step that added nothing may still move
 pub may-still : {F : Type 0} (state : F → FlashState) (old mid : Seen F) (rg : ℕ) (x : Advance) → Collects state (stage_of old) (stage_of mid) rg x → old.book.may_move ≡ true → old.book.room ≡ MOST_STEP_ENTRIES → (mid.book.room == MOST_STEP_ENTRIES) ≡ true → IsTrue mid.book.may_move

@@ -50,6 +50,7 @@ use Rattle.fdp_rules.specs.Change.{is_media_error}
 use Rattle.fdp_rules.specs.Step.{Follows}
 use Rattle.fdp_relocation.specs.fdp_saving.declared.saved.Saved.TheVariants as savings
 use Rattle.fdp_relocation.proofs.fdp_saving.Failing.{doubtful_failed, saved_well}
+use Rattle.fdp_loading.proofs.fdp_isolation.LeftAlone.{KeepsShut, left-shut, owners-shut}
 use Rattle.fdp_loading.specs.fdp_survival.Books.{IsInOrder, KeepsApart}
 use Rattle.fdp_loading.proofs.fdp_survival.Units.{GoOn, left-go, recounted-go}
 use Rattle.fdp_roominess.proofs.Answered.{room-answered, room-applied}
@@ -63,17 +64,19 @@ use Rattle.fdp_rules.proofs.Effects.{each-setting}
 record LeavesPages (t now : PageTables) : Type 0 where
   free : KeepsFree t now
   go : GoOn t.units now.units
+  shut : KeepsShut t now
   holds : (g : Geometry) (cells : List Cell) (written : Spot → Option Written) → HoldsWritten g cells written t.units → HoldsWritten g cells written now.units
 
 by-owners : (t now : PageTables) → ChangesOwners t now → LeavesPages t now
 by-owners t now h = record {
   free = owners-keep t now h;
   go = recounted-go t.units now.units now.owners h.units;
+  shut = owners-shut t now h;
   holds = λ g cells written was. record { lie = was.lie; whole = was.whole; blank = blank-recounted g cells t.units now.units now.owners h.units was.blank };
 }
 
 by-left : (t now : PageTables) → LeavesUnits t now → LeavesPages t now
-by-left t now h = record { free = left-keep t now h; go = left-go t.units now.units h.units; holds = λ g cells written was. holds-left g cells written t now h was }
+by-left t now h = record { free = left-keep t now h; go = left-go t.units now.units h.units; shut = left-shut t now h; holds = λ g cells written was. holds-left g cells written t now h was }
 
 by-none : (t now : PageTables) → now ≡ t → LeavesPages t now
 by-none t now same = subst (LeavesPages t) (sym same) (by-left t t (left-none t))
@@ -116,9 +119,12 @@ fills-nothing c command t now sets h =
 apart-applied : (f : FlashState) (b d : BookSeen) (queue number : ℕ) (command : Command) (reply : Reply) (moment : ℕ) (done : Done) → IsKnown b → IsLed d → book.Completes b d [] queue number command reply moment done → AppliesTo b.config command b.pages d.pages
     → is_write command ≡ false → reply.applied ≡ true → KeepsApart f b → KeepsApart f d
 apart-applied f b d queue number command reply moment done known led ends applies other made h = by (is_setting command) refl where
+  keeps : KeepsShut b.pages d.pages
+  keeps = (pages-left b.config command b.pages d.pages applies).shut
+
   by : (sets : Bool) → is_setting command ≡ sets → KeepsApart f d
-  by true is = apart-set f b d queue number command reply moment done known led ends (fills-nothing b.config command b.pages d.pages is applies) is made h
-  by false is = apart-commanded f b d queue number command reply moment done known led ends (fills-no-more b.config command b.pages d.pages is applies) other is h
+  by true is = apart-set f b d queue number command reply moment done known led ends (fills-nothing b.config command b.pages d.pages is applies) keeps is made h
+  by false is = apart-commanded f b d queue number command reply moment done known led ends (fills-no-more b.config command b.pages d.pages is applies) keeps other is h
 
 held-applied : (n : FlashState) (b d : BookSeen) → LeavesPages b.pages d.pages → written_in d ≡ written_in b → HoldsHistory n b → HoldsHistory n d
 held-applied n b d left written holds tells =
@@ -154,7 +160,7 @@ module _ {F : Type 0} (state : F → FlashState) (x y : F) (handed : Counts) (b 
   pub effect-whole : IsWhole handed (state y) d l block × OutlastsStops state (record { book = b; keeper = k; handed = handed; flash = x }) (record { book = d; keeper = l; handed = handed; flash = y })
   effect-whole =
       made-whole state x y handed b d k l block queue number command success done savings.Done order then_order whole keeps ends
-      (pages-left b.config command b.pages d.pages applies).go effect-sound (λ moment e. cc) (λ other. absurd (other refl))
+      (pages-left b.config command b.pages d.pages applies).go effect-sound refl (λ moment e. cc) (λ other. absurd (other refl))
 
   pub effect-completes : 0 < b.spare → steps.Completes state (record { book = b; keeper = k; handed = handed; flash = x }) (record { book = d; keeper = l; handed = handed; flash = y }) [] queue number command keeps.saves.calls.calls done
   effect-completes spare =
@@ -179,7 +185,7 @@ module _ {F : Type 0} (state : F → FlashState) (x y : F) (handed : Counts) (b 
   pub unsure-whole : IsWhole handed (state y) d l block × OutlastsStops state (record { book = b; keeper = k; handed = handed; flash = x }) (record { book = d; keeper = l; handed = handed; flash = y })
   unsure-whole =
       made-whole state x y handed b d k l block queue number command (bare statuses.WRITE_FAULT true) done (savings.Doubtful moment) order then_order whole keeps ends
-      (pages-left b.config command b.pages d.pages applies).go unsure-sound (λ other e. cc) (λ other. uncompleted command (bare statuses.WRITE_FAULT true) refl)
+      (pages-left b.config command b.pages d.pages applies).go unsure-sound refl (λ other e. cc) (λ other. uncompleted command (bare statuses.WRITE_FAULT true) refl)
 
   pub unsure-completes : 0 < b.spare → steps.Completes state (record { book = b; keeper = k; handed = handed; flash = x }) (record { book = d; keeper = l; handed = handed; flash = y }) [] queue number command keeps.saves.calls.calls done
   unsure-completes spare =

@@ -35,11 +35,11 @@ module _ (b d : BookSeen) (f n : FlashState) (rg : ℕ) (may : Bool) (known : Is
   part-relocated Image run step h = record {
     within = λ opened. record {
       images = runs-saying f n Image (λ m image. StaysIsolated b.config (state_in b) f.cells image) run
-          (λ told m image above most during. left-stays b.config (state_in b) f.cells image (step-left b d f n rg may told geometry low (over told) (apart told opened) step h m image above most during));
-      cells = λ told. left-stays b.config (state_in b) f.cells n.cells (step-ended b d f n rg may told geometry low (over told) (apart told opened) step h);
+          (λ told m image above most during. left-stays b.config (state_in b) f.cells image (step-left b d f n rg may told geometry low (over told) (apart told opened).laned step h m image above most during));
+      cells = λ told. left-stays b.config (state_in b) f.cells n.cells (step-ended b d f n rg may told geometry low (over told) (apart told opened).laned step h);
     };
     setting = setting;
-    first = λ told opened now. relocated-first b d f n rg may told geometry low (over told) (apart told opened) then_known now step h;
+    first = λ told opened now. relocated-first b d f n rg may told geometry low (over told) (apart told opened).laned then_known now step h;
   }
 
 module _ {F : Type 0} (state : F → FlashState) (old new : Stage F) (rg : ℕ) (known : IsKnown old.book) (then_known : IsKnown new.book) (low : rg < old.book.config.groups) (geometry : (state old.flash).geometry ≡ geometry_of old.book.config) (stored : HoldsBook old.book (state old.flash)) (apart : KeepsApart (state old.flash) old.book)
@@ -95,7 +95,7 @@ module _ {F : Type 0} (state : F → FlashState) (old new : Stage F) (rg : ℕ) 
   retains-collected advance.Nothing h = tt
   retains-collected advance.Copied h = λ told opened.
       left-stays old.book.config (state_in old.book) (state new.flash).cells (state old.flash).cells
-      (inl (copied-keeps old.book new.book (state old.flash) (state new.flash) rg (not old.keeper.saver.in_doubt) told geometry low (stands-over old.book (state old.flash) known geometry stored told) (apart told opened) h.0 h.1.made))
+      (inl (copied-keeps old.book new.book (state old.flash) (state new.flash) rg (not old.keeper.saver.in_doubt) told geometry low (stands-over old.book (state old.flash) known geometry stored told) (apart told opened).laned h.0 h.1.made))
   retains-collected advance.Moved h = λ told opened. let saved = moved-data savings.Done h in stays-before old.book.config (state_in old.book) (state old.flash).cells (state new.flash).cells (saved.cells told)
   retains-collected advance.Erased h = tt
   retains-collected advance.Starved h = tt

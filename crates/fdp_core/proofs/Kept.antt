@@ -1,6 +1,6 @@
 -- What saves a drive stands for its history behind each step.
-use Rattle.std.proofs.Common.{◌≡◌, ◌≢◌, ℕ, ◌+◌, ◌^◌, ◌≤◌, Bool, true, false, IsTrue, List, [], ◌∷◌, ◌++◌, length, refl, sym, ◌∙◌, ap, subst, arith, append_assoc, length-append}
-use Rattle.std.specs.Prelude.{IsFalse}
+use Rattle.std.proofs.Common.{◌≡◌, ◌≢◌, ℕ, ◌+◌, ◌^◌, ◌≤◌, Bool, true, false, cond, IsTrue, List, [], ◌∷◌, ◌++◌, length, refl, sym, ◌∙◌, ap, subst, arith, append_assoc, length-append}
+use Rattle.std.specs.Prelude.{IsFalse, count_by}
 use Rattle.std.proofs.lemmas.List.{append-nil}
 use Rattle.fdp_base.specs.declared.config.DriveConfig.{DriveConfig}
 use Rattle.fdp_base.specs.declared.entry.Entry.{Entry}
@@ -8,6 +8,7 @@ use Rattle.fdp_base.specs.declared.entry.Entry.TheVariants as entries
 use Rattle.fdp_base.specs.declared.entry.Spot.{Spot}
 use Rattle.fdp_base.specs.declared.entry.Totals.{Totals}
 use Rattle.fdp_base.specs.declared.status.Status.{Status}
+use Rattle.fdp_base.specs.Config.{IsValidConfig}
 use Rattle.fdp_base.specs.Counts.{Rose}
 use Rattle.fdp_base.specs.Placement.{geometry_of}
 use Rattle.fdp_relocation.specs.fdp_book.declared.ticket.Done.{Done}
@@ -52,6 +53,9 @@ use Rattle.fdp_relocation.specs.fdp_saving.Saver.{after_checkpoint, after_saving
 use Rattle.fdp_relocation.specs.fdp_saving.Saving.{EndsCheckpoint, EndsSaving}
 use Rattle.fdp_relocation.proofs.fdp_saving.Joined.{ready_sure}
 use Rattle.fdp_snapshot.specs.declared.state.Summary.{Summary}
+use Rattle.fdp_loading.specs.JournalRoom.{HasSixteen, is_lasting, savings_left}
+use Rattle.fdp_loading.proofs.JournalRoom.{saved-left, settled-left, written-left}
+use Rattle.fdp_loading.proofs.fdp_ledger.Entries.{count-push}
 use Rattle.fdp_loading.specs.fdp_survival.Books.{IsInOrder, IsSafe}
 use Rattle.fdp_loading.specs.fdp_survival.Safe.{IsSafeApart}
 
@@ -149,6 +153,18 @@ checkpoint-doubt : (s : JournalState) (summary : Summary) (answer : Wrote) (f n 
 checkpoint-doubt s summary wrote.Done f n handed low ends doubt = absurd (no (sym doubt))
 checkpoint-doubt s summary wrote.Failed f n handed low ends doubt = rose-on handed f.faults n.faults low ends.faulted.rose
 
+-- ---- the pages that are left
+
+-- lasting entries that were added
+one-lasting : (e : Entry) → IsTrue (is_lasting e) → 1 ≤ count_by is_lasting (e ∷ [])
+one-lasting e is = omega (arith, ap (λ (x : Bool). 0 + cond {A = ℕ} x 1 0) is)
+
+more-lasting : (b d : BookSeen) (es : List Entry) → IsLonger b d es → count_by is_lasting d.entries ≡ count_by is_lasting b.entries + count_by is_lasting es
+more-lasting b d es longer = ap (count_by is_lasting) longer.entries_are ∙ count-push is_lasting b.entries es
+
+same-left : (b d : BookSeen) (s : JournalState) → d.config ≡ b.config → savings_left d.config s ≡ savings_left b.config s
+same-left b d s config = ap (λ (c : DriveConfig). savings_left c s) config
+
 -- ---- what is kept
 
 -- the keeper stays, while the history goes on
@@ -160,6 +176,7 @@ kept-on handed f n b d es k was longer later keeper safe =
       safe = safe;
       epochs = omega (arith, was.epochs, size, longer.spent_is);
       doubt = λ doubt. later-rose handed.faults f.faults n.faults later (was.doubt doubt);
+      sixteen = omega (arith, was.sixteen, more-lasting b d es longer, same-left b d k.saver longer.config_is);
     }
 
 -- over a flash that was called
@@ -169,6 +186,7 @@ kept-over handed f n b k was later safe = record {
   safe = safe;
   epochs = was.epochs;
   doubt = λ doubt. later-rose handed.faults f.faults n.faults later (was.doubt doubt);
+  sixteen = was.sixteen;
 }
 
 -- a book with other counts of steps
@@ -189,6 +207,7 @@ kept-alike handed f b d k config found opened entries_are pages epochs was = rec
       (subst (λ (xs : List Entry). IsSafeApart b.config b.found b.opened xs b.pages.units k.saver k.firm f) (sym entries_are) was.safe))));
   epochs = epochs;
   doubt = was.doubt;
+  sixteen = omega (arith, was.sixteen, ap (count_by is_lasting) entries_are, same-left b d k.saver config);
 }
 
 -- a step that has begun has changed nothing yet
@@ -198,6 +217,7 @@ kept-begun handed f b k was = record {
   safe = was.safe;
   epochs = omega (arith, was.epochs);
   doubt = was.doubt;
+  sixteen = was.sixteen;
 }
 
 -- behind an entry that leaves nothing
@@ -213,9 +233,9 @@ kept-relocated handed f n b d rg step k order was longer may later safe = kept-o
 -- ---- savings
 
 -- behind an entry that was saved, and made
-saved-kept : (handed : Counts) (f n : FlashState) (b d : BookSeen) (es : List Entry) (e : Entry) (k l : KeeperSeen) (answer : Saved) → IsKept handed f b k → handed.faults ≤ f.faults → IsLonger b d es → 1 ≤ length es → SavesEntry b.config b.found b.entries e k.saver l.saver f n answer
+saved-kept : (handed : Counts) (f n : FlashState) (b d : BookSeen) (es : List Entry) (e : Entry) (k l : KeeperSeen) (answer : Saved) → IsValidConfig b.config → IsKept handed f b k → handed.faults ≤ f.faults → IsLonger b d es → 1 ≤ count_by is_lasting es → 1 ≤ length es → SavesEntry b.config b.found b.entries e k.saver l.saver f n answer
     → IsKeeperOf d l → IsSafe d l.saver l.firm n → IsKept handed n d l
-saved-kept handed f n b d es e k l answer was low longer some saves keeper safe =
+saved-kept handed f n b d es e k l answer valid was low longer lasting some saves keeper safe =
     let size : length d.entries ≡ length b.entries + length es = ap length longer.entries_are ∙ length-append b.entries es in
     let epoch : l.saver.stamp.epoch ≤ k.saver.stamp.epoch + 1 = subst (λ (s : JournalState). s.stamp.epoch ≤ k.saver.stamp.epoch + 1) (sym saves.saver_is) (saved-epoch k.saver saves.given.summary answer) in
     record {
@@ -223,19 +243,23 @@ saved-kept handed f n b d es e k l answer was low longer some saves keeper safe 
       safe = safe;
       epochs = omega (arith, was.epochs, size, epoch, some, longer.spent_is);
       doubt = λ doubt. saved-doubt k.saver saves.given.summary answer f n handed.faults low saves.ends (sym (ap (λ (s : JournalState). s.in_doubt) saves.saver_is) ∙ doubt);
+      sixteen =
+          let left : 16 ≤ savings_left b.config l.saver + (count_by is_lasting b.entries + 1) =
+          subst (λ (s : JournalState). 16 ≤ savings_left b.config s + (count_by is_lasting b.entries + 1)) (sym saves.saver_is) (saved-left b.config k.saver saves.given valid saves.is_of (count_by is_lasting b.entries) was.sixteen answer) in
+          omega (arith, left, lasting, more-lasting b d es longer, same-left b d l.saver longer.config_is);
     }
 
-pub kept-made : (handed : Counts) (f n : FlashState) (b d : BookSeen) (e : Entry) (k l : KeeperSeen) (answer : Saved) → IsKept handed f b k → handed.faults ≤ f.faults → IsLonger b d (e ∷ []) → KeepsMade b e k l f n answer → IsSafe d l.saver l.firm n → IsKept handed n d l
-kept-made handed f n b d e k l answer was low longer keeps safe =
-    saved-kept handed f n b d (e ∷ []) e k l answer was low longer (omega arith) keeps.saves (keeper-of b d (e ∷ []) k l longer was.keeper keeps.geometry (with-entry b e l.summary keeps.outline)) safe
+pub kept-made : (handed : Counts) (f n : FlashState) (b d : BookSeen) (e : Entry) (k l : KeeperSeen) (answer : Saved) → IsValidConfig b.config → IsTrue (is_lasting e) → IsKept handed f b k → handed.faults ≤ f.faults → IsLonger b d (e ∷ []) → KeepsMade b e k l f n answer → IsSafe d l.saver l.firm n → IsKept handed n d l
+kept-made handed f n b d e k l answer valid lasting was low longer keeps safe =
+    saved-kept handed f n b d (e ∷ []) e k l answer valid was low longer (one-lasting e lasting) (omega arith) keeps.saves (keeper-of b d (e ∷ []) k l longer was.keeper keeps.geometry (with-entry b e l.summary keeps.outline)) safe
 
-pub kept-saved : (handed : Counts) (f n : FlashState) (b d : BookSeen) (e : Entry) (k l : KeeperSeen) (answer : Saved) → ((moment : ℕ) → answer ≢ answers.Unsaved moment) → IsKept handed f b k → handed.faults ≤ f.faults → IsLonger b d (e ∷ []) → KeepsEntry b e k l f n answer
+pub kept-saved : (handed : Counts) (f n : FlashState) (b d : BookSeen) (e : Entry) (k l : KeeperSeen) (answer : Saved) → IsValidConfig b.config → IsTrue (is_lasting e) → ((moment : ℕ) → answer ≢ answers.Unsaved moment) → IsKept handed f b k → handed.faults ≤ f.faults → IsLonger b d (e ∷ []) → KeepsEntry b e k l f n answer
     → IsSafe d l.saver l.firm n → IsKept handed n d l
-kept-saved handed f n b d e k l answers.Done made was low longer keeps safe =
-    saved-kept handed f n b d (e ∷ []) e k l answers.Done was low longer (omega arith) keeps.saves (keeper-of b d (e ∷ []) k l longer was.keeper keeps.geometry (with-entry b e l.summary keeps.outline)) safe
-kept-saved handed f n b d e k l (answers.Doubtful moment) made was low longer keeps safe =
-    saved-kept handed f n b d (e ∷ []) e k l (answers.Doubtful moment) was low longer (omega arith) keeps.saves (keeper-of b d (e ∷ []) k l longer was.keeper keeps.geometry (with-entry b e l.summary keeps.outline)) safe
-kept-saved handed f n b d e k l (answers.Unsaved moment) made was low longer keeps safe = absurd (made moment refl)
+kept-saved handed f n b d e k l answers.Done valid lasting made was low longer keeps safe =
+    saved-kept handed f n b d (e ∷ []) e k l answers.Done valid was low longer (one-lasting e lasting) (omega arith) keeps.saves (keeper-of b d (e ∷ []) k l longer was.keeper keeps.geometry (with-entry b e l.summary keeps.outline)) safe
+kept-saved handed f n b d e k l (answers.Doubtful moment) valid lasting made was low longer keeps safe =
+    saved-kept handed f n b d (e ∷ []) e k l (answers.Doubtful moment) valid was low longer (one-lasting e lasting) (omega arith) keeps.saves (keeper-of b d (e ∷ []) k l longer was.keeper keeps.geometry (with-entry b e l.summary keeps.outline)) safe
+kept-saved handed f n b d e k l (answers.Unsaved moment) valid lasting made was low longer keeps safe = absurd (made moment refl)
 
 -- behind an entry that was not saved, and is not made
 pub kept-not-saved : (handed : Counts) (f n : FlashState) (b : BookSeen) (e : Entry) (k l : KeeperSeen) (moment : ℕ) → IsKept handed f b k → handed.faults ≤ f.faults → KeepsEntry b e k l f n (answers.Unsaved moment) → IsSafe b l.saver l.firm n → IsKept handed n b l
@@ -246,6 +270,7 @@ kept-not-saved handed f n b e k l moment was low keeps safe =
       safe = safe;
       epochs = omega (arith, was.epochs, epoch);
       doubt = λ doubt. rose-on handed.faults f.faults n.faults low keeps.saves.ends.faulted.rose;
+      sixteen = subst (λ (s : JournalState). HasSixteen b.config s b.entries) (sym keeps.saves.saver_is) was.sixteen;
     }
 
 -- behind a handle that was shut, and the end of its write
@@ -262,12 +287,12 @@ kept-shut handed f n b d ticket g spot status moment done k l answer order was l
     let two = outline-still c b.found (b.entries ++ shut ∷ []) ended l.summary refl orderly standing (λ wrong. absurd cc) one in
     let both : IsOutlineOf c (drawn c (point_of c b.found (b.entries ++ shut ∷ ended ∷ []))) l.summary =
     subst (λ (xs : List Entry). IsOutlineOf c (drawn c (point_of c b.found xs)) l.summary) (append_assoc b.entries (shut ∷ []) (ended ∷ [])) two in
-    saved-kept handed f n b d (shut ∷ ended ∷ []) shut k l answer was low shuts.completes.step (omega arith) keeps.saves (keeper-of b d (shut ∷ ended ∷ []) k l shuts.completes.step was.keeper keeps.geometry both) safe
+    saved-kept handed f n b d (shut ∷ ended ∷ []) shut k l answer order.known.config was low shuts.completes.step (omega arith) (omega arith) keeps.saves (keeper-of b d (shut ∷ ended ∷ []) k l shuts.completes.step was.keeper keeps.geometry both) safe
 
 -- behind a checkpoint, for which a step is spent
-pub kept-written : (handed : Counts) (f n : FlashState) (b d : BookSeen) (k l : KeeperSeen) (answer : Wrote) → IsKept handed f b k → handed.faults ≤ f.faults → d.entries ≡ b.entries → d.spent ≡ b.spent + 1 → SavesDrive b.config b.found b.entries k.saver l.saver f n answer → IsKeeperOf d l
+pub kept-written : (handed : Counts) (f n : FlashState) (b d : BookSeen) (k l : KeeperSeen) (answer : Wrote) → IsValidConfig b.config → d.config ≡ b.config → IsKept handed f b k → handed.faults ≤ f.faults → d.entries ≡ b.entries → d.spent ≡ b.spent + 1 → SavesDrive b.config b.found b.entries k.saver l.saver f n answer → IsKeeperOf d l
     → IsSafe d l.saver l.firm n → IsKept handed n d l
-kept-written handed f n b d k l answer was low same spent saves keeper safe =
+kept-written handed f n b d k l answer valid config was low same spent saves keeper safe =
     let size : length d.entries ≡ length b.entries = ap length same in
     let epoch : l.saver.stamp.epoch ≤ k.saver.stamp.epoch + 1 = subst (λ (s : JournalState). s.stamp.epoch ≤ k.saver.stamp.epoch + 1) (sym saves.saver_is) (checkpoint-epoch k.saver saves.given.summary answer) in
     record {
@@ -275,12 +300,16 @@ kept-written handed f n b d k l answer was low same spent saves keeper safe =
       safe = safe;
       epochs = omega (arith, was.epochs, size, epoch, spent);
       doubt = λ doubt. checkpoint-doubt k.saver saves.given.summary answer f n handed.faults low saves.ends (sym (ap (λ (s : JournalState). s.in_doubt) saves.saver_is) ∙ doubt);
+      sixteen =
+          let left : HasSixteen b.config l.saver b.entries =
+          subst (λ (s : JournalState). HasSixteen b.config s b.entries) (sym saves.saver_is) (written-left b.config k.saver saves.given valid saves.is_of (count_by is_lasting b.entries) was.sixteen answer) in
+          omega (arith, left, ap (count_by is_lasting) same, same-left b d l.saver config);
     }
 
 -- behind a step that came after the end of a doubt, with an entry
-pub kept-settled : (handed : Counts) (f middle n : FlashState) (b d : BookSeen) (es : List Entry) (k l : KeeperSeen) → IsKept handed f b k → IsLonger b d es → 1 ≤ length es → SettlesDrive b.config b.found b.entries k.saver l.saver f middle wrote.Done → IsKeeperOf d l
+pub kept-settled : (handed : Counts) (f middle n : FlashState) (b d : BookSeen) (es : List Entry) (k l : KeeperSeen) → IsValidConfig b.config → IsKept handed f b k → IsLonger b d es → 1 ≤ length es → SettlesDrive b.config b.found b.entries k.saver l.saver f middle wrote.Done → IsKeeperOf d l
     → IsSafe d l.saver l.firm n → IsKept handed n d l
-kept-settled handed f middle n b d es k l was longer some settled keeper safe =
+kept-settled handed f middle n b d es k l valid was longer some settled keeper safe =
     let size : length d.entries ≡ length b.entries + length es = ap length longer.entries_are ∙ length-append b.entries es in
     let epoch : l.saver.stamp.epoch ≤ k.saver.stamp.epoch + 1 =
     subst (λ (s : JournalState). s.stamp.epoch ≤ k.saver.stamp.epoch + 1) (sym settled.saver_is) (renewed-epoch k.saver.in_doubt k.saver settled.given.summary) in
@@ -289,6 +318,10 @@ kept-settled handed f middle n b d es k l was longer some settled keeper safe =
       safe = safe;
       epochs = omega (arith, was.epochs, size, epoch, some, longer.spent_is);
       doubt = λ doubt. absurd (no (sym doubt ∙ settled.sure refl));
+      sixteen =
+          let left : HasSixteen b.config l.saver b.entries =
+          subst (λ (s : JournalState). HasSixteen b.config s b.entries) (sym settled.saver_is) (settled-left b.config k.saver settled.given valid settled.is_of (count_by is_lasting b.entries) was.sixteen k.saver.in_doubt wrote.Done) in
+          omega (arith, left, more-lasting b d es longer, same-left b d l.saver longer.config_is);
     }
 
 -- behind a doubt that could not be ended
@@ -300,6 +333,7 @@ kept-unsettled handed f n b k l was low settled keeper safe =
       safe = safe;
       epochs = omega (arith, was.epochs, epoch);
       doubt = λ doubt. rose-on handed.faults f.faults n.faults low settled.ends.faulted.rose;
+      sixteen = subst (λ (s : JournalState). HasSixteen b.config s b.entries) (sym settled.saver_is) was.sixteen;
     }
 
 -- behind a checkpoint that failed
@@ -311,4 +345,5 @@ kept-unwritten handed f n b k l was low saves keeper safe =
       safe = safe;
       epochs = omega (arith, was.epochs, epoch);
       doubt = λ doubt. rose-on handed.faults f.faults n.faults low saves.ends.faulted.rose;
+      sixteen = subst (λ (s : JournalState). HasSixteen b.config s b.entries) (sym saves.saver_is) was.sixteen;
     }

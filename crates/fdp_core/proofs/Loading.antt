@@ -1,5 +1,5 @@
 -- A group that was opened over a flash.
-use Rattle.std.proofs.Common.{◌≡◌, ◌⊎◌, ℕ, Bool, true, false, List, [], ◌∷◌, Some, None, length, refl, sym, ◌∙◌, ap, subst, arith, inl, inr, ⊎_elim}
+use Rattle.std.proofs.Common.{◌≡◌, ◌⊎◌, ℕ, ◌≤◌, Bool, true, false, List, [], ◌∷◌, Some, None, length, refl, sym, ◌∙◌, ap, subst, arith, inl, inr, ⊎_elim}
 use Rattle.fdp_base.specs.declared.config.DriveConfig.{DriveConfig}
 use Rattle.fdp_base.specs.declared.config.Geometry.{Geometry}
 use Rattle.fdp_base.specs.Placement.{geometry_of}
@@ -10,6 +10,7 @@ use Rattle.fdp_relocation.specs.fdp_keeper.Keeper.{KeeperSeen}
 use Rattle.fdp_relocation.specs.fdp_readings.Drawn.{drawn}
 use Rattle.fdp_relocation.specs.fdp_saving.Said.{ReadsAsOneOf}
 use Rattle.fdp_loading.proofs.fdp_ledger.System.{same-blank}
+use Rattle.fdp_loading.specs.JournalRoom.{savings_left}
 use Rattle.fdp_loading.specs.fdp_recovery.Opened.{IsFresh}
 use Rattle.fdp_loading.specs.fdp_ledger.Counted.{counts_of}
 use Rattle.fdp_loading.specs.Loaded as loaded
@@ -133,6 +134,7 @@ whole-loaded c old new b k block l size = record {
     safe = l.saved.safe;
     epochs = let next = l.saved.epoch_is in let few = l.saved.few in omega (arith, next, few);
     doubt = λ doubt. absurd (never (sym l.saved.sure ∙ doubt));
+    sixteen = let left = l.saved.left in omega (arith, left);
   };
 } where
   -- no group is worn yet
@@ -163,6 +165,7 @@ group-loaded state c flash group l handed = record {
       l.begins.with;
   geometry = l.stands.geometry ∙ ap geometry_of is;
   sure = l.saved.sure;
+  left = subst (λ (x : DriveConfig). 16 ≤ savings_left x group.keeper.saver) is l.saved.left;
   spare_is = l.stands.idle.spare_is;
   spent_is = l.stands.idle.spent_is;
   order = l.stands.order;

@@ -55,7 +55,8 @@ use Rattle.fdp_relocation.specs.fdp_saving.declared.saved.Saved.{Saved}
 use Rattle.fdp_flash.specs.declared.answer.Wrote.{Wrote}
 use Rattle.fdp_relocation.proofs.Resting.{uncalled-calls, uncalled-same}
 use Rattle.fdp_base.specs.Geometry.{data_units}
-use Rattle.fdp_loading.proofs.fdp_isolation.Saved.{holds-saved, laned-saved}
+use Rattle.fdp_loading.proofs.fdp_isolation.Apart as isolation
+use Rattle.fdp_loading.proofs.fdp_isolation.Saved.{holds-saved}
 
 -- ---- no call
 
@@ -240,7 +241,7 @@ prefix-stands b f n calls stands h = record {
 
 -- and keeps data apart as it did
 pub prefix-apart : (b : BookSeen) (f n : FlashState) (calls : List Call) → IsPrefix b f n calls → KeepsApart f b → KeepsApart n b
-prefix-apart b f n calls h apart tells opened = let told : IsTrue f.told = sym h.made.run.told ∙ tells in laned-saved b f.cells n.cells (h.same told) (apart told opened)
+prefix-apart b f n calls h apart tells opened = let told : IsTrue f.told = sym h.made.run.told ∙ tells in isolation.saved b f.cells n.cells (h.same told) (apart told opened)
 
 -- entries that tell of no erase, one behind another
 pub erases-none : (es fs : List Entry) → ErasesNoUnit es → ErasesNoUnit fs → ErasesNoUnit (es ++ fs)

@@ -72,7 +72,7 @@ module _ {F : Type 0} (state : F → FlashState) (x y : F) (handed : Counts) (b 
       ((moment : ℕ) → answer ≢ savings.Unsaved moment) → (answer ≢ savings.Done → IsFalse (durable.completes (host ticket.queue g.number g.command (bare status true) (state y).moment))) →
       IsWhole handed (state y) d l block × OutlastsStops state (record { book = b; keeper = k; handed = handed; flash = x }) (record { book = d; keeper = l; handed = handed; flash = y })
   written-whole legal fault made none =
-      made-whole state x y handed b d k l block ticket.queue g.number g.command (bare status true) done answer order then_order whole keeps ends (owners-go (begun b) d owners) (made-sound legal fault) made none
+      made-whole state x y handed b d k l block ticket.queue g.number g.command (bare status true) done answer order then_order whole keeps ends (owners-go (begun b) d owners) (made-sound legal fault) refl made none
 
   -- what it comes to
   pub ends-saved : (reply_is : bare status true ≡ done.reply) → 0 < b.spare → list_any has_failed keeps.saves.calls.calls ≡ is_media_error status → (IsTrue (is_media_error status) → FailedAt (state x) (state y) (state y).moment) →

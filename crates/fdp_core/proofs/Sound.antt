@@ -12,7 +12,7 @@ use Rattle.fdp_core.specs.Sound.{IsSound}
 use Rattle.fdp_core.proofs.Pushed.{legal-one}
 use Rattle.fdp_flash.specs.declared.cell.Cell.{Cell}
 use Rattle.fdp_flash.specs.FlashState.{FlashState}
-use Rattle.fdp_loading.proofs.fdp_isolation.Alike.{laned-alike}
+use Rattle.fdp_loading.proofs.fdp_isolation.Apart as isolation
 use Rattle.fdp_loading.specs.fdp_ledger.declared.counts.Counts.{Counts}
 use Rattle.fdp_loading.specs.fdp_survival.Books.{KeepsApart}
 use Rattle.fdp_loading.specs.fdp_ledger.Ledger.{IsLedger}
@@ -82,7 +82,7 @@ sound-told handed f n b d e block now so same longer owners written =
 
 -- a step that has begun has changed nothing yet
 pub apart-begun : (f : FlashState) (b : BookSeen) → KeepsApart f b → KeepsApart f (begun b)
-apart-begun f b apart tells opened = laned-alike b (begun b) f.cells refl refl refl refl (apart tells opened)
+apart-begun f b apart tells opened = isolation.alike b (begun b) f.cells refl refl refl refl refl (apart tells opened)
 
 pub room-begun : (handed : Counts) (f : FlashState) (b : BookSeen) → KeepsRoom handed.faults f.faults f.told b → KeepsRoom handed.faults f.faults f.told (begun b)
 room-begun handed f b = keeps-alike handed.faults f.faults f.told b (begun b) refl refl refl refl refl

@@ -1,5 +1,5 @@
 -- What opening a drive on a flash gives.
-use Rattle.std.specs.Prelude.{◌≡◌, ◌⊎◌, ℕ, true, false, IsTrue, List, [], ◌∷◌, Some, length}
+use Rattle.std.specs.Prelude.{◌≡◌, ◌⊎◌, ℕ, ◌≤◌, true, false, IsTrue, List, [], ◌∷◌, Some, length}
 use Rattle.fdp_base.specs.declared.config.DriveConfig.{DriveConfig}
 use Rattle.fdp_base.specs.declared.entry.Entry.TheVariants as entries
 use Rattle.fdp_base.specs.Placement.{geometry_of}
@@ -17,6 +17,7 @@ use Rattle.fdp_loading.specs.fdp_book.Book.{BookSeen}
 use Rattle.fdp_loading.specs.fdp_ledger.Counted.{counts_of}
 use Rattle.fdp_loading.specs.fdp_ledger.Emptied.{OnlyErasesEmpty}
 use Rattle.fdp_loading.specs.fdp_recovery.Opened.{IsFresh}
+use Rattle.fdp_loading.specs.JournalRoom.{savings_left}
 use Rattle.fdp_loading.specs.Opens.{LeavesOpen}
 use Rattle.fdp_loading.specs.fdp_isolation.Begun.{OpenedApart}
 use Rattle.fdp_loading.specs.fdp_survival.Apart.{IsStopApart, ReadsIsolated}
@@ -48,7 +49,7 @@ pub record IsOpenedDrive (c : DriveConfig) (flash : FlashState) (b : BookSeen) :
   pub unspent : IsTrue flash.told → IsNotUsedUp c flash.cells
 
 -- A drive was opened on a flash, or made there, which is cut as the configuration asks: its history goes on from what the image stood for, in order, nothing
--- failed, and no saving is in doubt. A data unit that is all blank was so in the cells that were handed in. Where the image was isolated, what was opened keeps data apart, and where it does, data stands apart in what a stop left
+-- failed, no saving is in doubt, and there are pages for sixteen changes. A data unit that is all blank was so in the cells that were handed in. Where the image was isolated, what was opened keeps data apart, and where it does, data stands apart in what a stop left
 -- and in the cells. Where the image was roomy, the run begins with room; and where it did, whatever a stop left is a roomy image. The next run takes it all.
 pub record IsLoaded {F : Type 0} (state : F → FlashState) (c : DriveConfig) (flash : F) (group : Seen F) : Type 0 where
   pub config_is : group.book.config ≡ c
@@ -56,6 +57,7 @@ pub record IsLoaded {F : Type 0} (state : F → FlashState) (c : DriveConfig) (f
   pub began : IsNewDrive c (state flash) group.book ⊎ IsOpenedDrive c (state flash) group.book
   pub geometry : (state group.flash).geometry ≡ geometry_of c
   pub sure : group.keeper.saver.in_doubt ≡ false
+  pub left : 16 ≤ savings_left c group.keeper.saver
   pub spare_is : group.book.spare ≡ 0
   pub spent_is : group.book.spent ≡ 0
   pub order : IsInOrder group.book

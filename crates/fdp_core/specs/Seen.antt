@@ -7,6 +7,8 @@ use Rattle.fdp_relocation.specs.fdp_book.Book.{BookSeen, point_in, written_in}
 use Rattle.fdp_flash.specs.FlashState.{FlashState}
 use Rattle.fdp_image.specs.Reads.{reads_as}
 use Rattle.fdp_relocation.specs.fdp_keeper.Keeper.{KeeperSeen}
+use Rattle.fdp_loading.specs.fdp_isolation.Begun.{OpenedApart}
+use Rattle.fdp_loading.specs.fdp_isolation.Isolated.{LeavesUsed}
 use Rattle.fdp_loading.specs.fdp_isolation.Laned.{IsKnown}
 use Rattle.fdp_loading.specs.fdp_ledger.declared.counts.Counts.{Counts}
 use Rattle.fdp_loading.specs.fdp_ledger.Told.{is_media_reply}
@@ -43,6 +45,10 @@ HoldsHistory flash b = IsTrue flash.told → HoldsWritten flash.geometry flash.c
 -- the cells read as just what the history leaves, but for the sums: its setting, namespaces and events, and each block on the page where it stands
 abbrev pub ReadsAsEnd : FlashState → BookSeen → Type 0
 ReadsAsEnd flash b = (sums : Totals) × (reads_as b.config flash.cells ≡ Some (record (drawn b.config (point_in b)) { totals = sums }))
+
+-- where the cells are told, and kept data apart when the run began: each unit that had been used by then gets no page before it is erased
+abbrev pub LeavesOpened : FlashState → BookSeen → Type 0
+LeavesOpened flash b = IsTrue flash.told → OpenedApart b.config b.found b.opened → LeavesUsed b.config b.opened b.entries flash.cells
 
 -- a book in order, over a flash that is cut as configured and holds the history
 pub record Stands (flash : FlashState) (b : BookSeen) : Type 0 where

@@ -4,9 +4,10 @@ ghost use Rattle.fdp_base.specs.Counts.{Rose};
 ghost use Rattle.fdp_relocation.specs.fdp_book.Book.{point_in, state_in};
 ghost use Rattle.fdp_relocation.specs.fdp_book.Stages.{IsFree, IsStage};
 ghost use Rattle.fdp_relocation.specs.fdp_book.Steps.{IsFlying};
-ghost use Rattle.fdp_core.specs.Seen.{HoldsHistory, IsLegalOver, ReadsAsEnd};
+ghost use Rattle.fdp_core.specs.Seen.{HoldsHistory, IsLegalOver, LeavesOpened, ReadsAsEnd};
 ghost use Rattle.fdp_image.specs.Kept.{AreFirm, StandsForBeginning};
 ghost use Rattle.fdp_relocation.specs.fdp_keeper.Keeper.{CanSave};
+ghost use Rattle.fdp_loading.specs.JournalRoom.{HasSixteen};
 ghost use Rattle.fdp_loading.specs.fdp_survival.Books.{IsInOrder};
 ghost use Rattle.fdp_loading.specs.fdp_survival.Apart.{ReadsIsolated};
 ghost use Rattle.fdp_loading.specs.fdp_isolation.Begun.{OpenedApart};
@@ -113,12 +114,14 @@ impl<F: Flash> Group<F> {
         ensures cells { HoldsHistory (F.state self.now.flash) self.now.book }
         ensures apart { IsTrue (F.state self.now.flash).told → OpenedApart self.now.book.config self.now.book.found self.now.book.opened → IsIsolatedDrive self.now.book.config (point_in self.now.book) self.now.book.entries (F.state self.now.flash).cells }
         ensures reads { IsTrue (F.state self.now.flash).told → OpenedApart self.now.book.config self.now.book.found self.now.book.opened → ReadsIsolated self.now.book.config (F.state self.now.flash).cells }
+        ensures used { LeavesOpened (F.state self.now.flash) self.now.book }
         ensures counted { CountedSince self.now.handed (F.state self.now.flash) (start_of self.now.book) self.now.book.entries }
         ensures worn { WearsByFailure self.now.handed.faults (F.state self.now.flash).faults (F.state self.now.flash).told self.now.book }
         ensures roomy { IsTrue (F.state self.now.flash).told → StaysRoomy self.now.handed.faults (F.state self.now.flash).faults (F.state self.now.flash).told self.now.book (F.state self.now.flash).cells }
         ensures firm { AreFirm self.now.book.entries self.now.keeper.firm }
         ensures stands { IsTrue (F.state self.now.flash).told → StandsForBeginning self.now.book.config self.now.book.found self.now.book.entries self.now.keeper.firm (F.state self.now.flash).cells }
         ensures sure { IsTrue (F.state self.now.flash).told → self.now.keeper.saver.in_doubt ≡ false → ReadsAsEnd (F.state self.now.flash) self.now.book }
+        ensures sixteen { HasSixteen self.now.book.config self.now.keeper.saver self.now.book.entries }
         ensures doubt { self.now.keeper.saver.in_doubt ≡ true → Rose self.now.handed.faults (F.state self.now.flash).faults }
     {
         self.book.known(); // proof
@@ -208,12 +211,14 @@ impl<F: Flash> Group<F> {
         ensures cells { HoldsHistory (F.state self.flash) self.book }
         ensures apart { IsTrue (F.state self.flash).told → OpenedApart self.book.config self.book.found self.book.opened → IsIsolatedDrive self.book.config (point_in self.book) self.book.entries (F.state self.flash).cells }
         ensures reads { IsTrue (F.state self.flash).told → OpenedApart self.book.config self.book.found self.book.opened → ReadsIsolated self.book.config (F.state self.flash).cells }
+        ensures used { LeavesOpened (F.state self.flash) self.book }
         ensures counted { CountedSince self.handed (F.state self.flash) (start_of self.book) self.book.entries }
         ensures worn { WearsByFailure self.handed.faults (F.state self.flash).faults (F.state self.flash).told self.book }
         ensures roomy { IsTrue (F.state self.flash).told → StaysRoomy self.handed.faults (F.state self.flash).faults (F.state self.flash).told self.book (F.state self.flash).cells }
         ensures firm { AreFirm self.book.entries self.keeper.firm }
         ensures stands { IsTrue (F.state self.flash).told → StandsForBeginning self.book.config self.book.found self.book.entries self.keeper.firm (F.state self.flash).cells }
         ensures sure { IsTrue (F.state self.flash).told → self.keeper.saver.in_doubt ≡ false → ReadsAsEnd (F.state self.flash) self.book }
+        ensures sixteen { HasSixteen self.book.config self.keeper.saver self.book.entries }
         ensures doubt { self.keeper.saver.in_doubt ≡ true → Rose self.handed.faults (F.state self.flash).faults }
     {
         self.book.known(); // proof

@@ -266,16 +266,13 @@ laned-found c opened r b cells config valid begun apart same =
 
 -- ---- units that had been used
 
-none-put : (unit : ℕ) → list_any (puts_into unit) (before_erase unit (since_setting (entries.Reopened ∷ []))) ≡ false
-unfolding before_erase since_setting
+none-put : (unit : ℕ) → list_any (puts_into unit) (before_erase unit (entries.Reopened ∷ [])) ≡ false
+unfolding before_erase
 none-put unit = refl
 
-alone-first : (c : DriveConfig) (cells : List Cell) (r : Reading) (b : BookSeen) → IsReopened c cells r b → AreLeftAlone cells b cells
+alone-first : (c : DriveConfig) (cells : List Cell) (r : Reading) (b : BookSeen) → IsReopened c cells r b → AreLeftAlone cells (entries.Reopened ∷ []) b cells
 alone-first c cells r b begun unit is used = record {
-  none = record {
-    none_put = ap (λ (es : List Entry). list_any (puts_into unit) (before_erase unit (since_setting es))) begun.entries_are ∙ none-put unit;
-    none_programmed = λ kept page low. inl refl;
-  };
+  none = record { none_put = none-put unit; none_programmed = λ kept page low. inl refl };
   stands = λ kept. ⊎_elim
       (λ free. absurd (no (sym (ap (λ (d : DriveConfig). is_blank_unit (geometry_of d) cells unit) begun.config_is ∙ free.2) ∙ used)))
       (λ closed. ap gets_none closed.0)
@@ -284,5 +281,7 @@ alone-first c cells r b begun unit is used = record {
   no : true ≡ false → ⊥
   no e = cc
 
-pub alone-found : (c : DriveConfig) (opened : List Cell) (r : Reading) (b : BookSeen) (cells : List Cell) → IsReopened c opened r b → SameDataPages c opened cells → AreLeftAlone opened b cells
-alone-found c opened r b cells begun same = alone-saved b opened cells (subst (λ (d : DriveConfig). SameDataPages d opened cells) (sym begun.config_is) same) opened (alone-first c opened r b begun)
+pub alone-found : (c : DriveConfig) (opened : List Cell) (r : Reading) (b : BookSeen) (cells : List Cell) → IsReopened c opened r b → SameDataPages c opened cells → AreLeftAlone opened b.entries b cells
+alone-found c opened r b cells begun same =
+    alone-saved b opened cells (subst (λ (d : DriveConfig). SameDataPages d opened cells) (sym begun.config_is) same) opened b.entries
+    (subst (λ (es : List Entry). AreLeftAlone opened es b opened) (sym begun.entries_are) (alone-first c opened r b begun))

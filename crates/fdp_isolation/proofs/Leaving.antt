@@ -1,24 +1,28 @@
 -- Units that had been used are left alone: by what a step does to the units that get no page.
-use Rattle.std.proofs.Common.{◌≡◌, ℕ, ◌*◌, ◌<◌, Bool, true, false, List, [], ◌∷◌, ◌++◌, refl, sym, ◌∙◌, ap, subst, arith, inl, inr, ⊎_elim}
+use Rattle.std.proofs.Common.{◌≡◌, ℕ, ◌+◌, ◌*◌, ◌<◌, ◌≤◌, Bool, true, false, List, [], ◌∷◌, ◌++◌, replicate, refl, sym, ◌∙◌, ap, subst, arith, inl, inr, ⊎_elim}
 use mathlib.Core.List.{append-nil}
 use Rattle.std.specs.Prelude.{◌||◌, IsFalse, IsTrue, if◌then◌else◌}
 use Rattle.std.specs.List.{list_any}
 use Rattle.std.proofs.lemmas.List.Folds.{list_any-append}
+use Rattle.std.proofs.lemmas.Nat.{mul-le, row_fits}
 use Rattle.fdp_base.specs.declared.config.DriveConfig.{DriveConfig}
 use Rattle.fdp_base.specs.declared.config.Geometry.{Geometry}
 use Rattle.fdp_base.specs.declared.entry.Entry.{Entry}
+use Rattle.fdp_base.specs.Geometry.{all_pages, all_units, data_units}
 use Rattle.fdp_base.specs.Placement.{geometry_of}
 use Rattle.fdp_base.specs.EntryKinds.{empties, puts_into}
 use Rattle.fdp_book.specs.Book.{BookSeen, IsFirst, IsLonger}
 use Rattle.fdp_flash.specs.declared.cell.Cell.{Cell}
+use Rattle.fdp_flash.specs.declared.cell.Cell.TheVariants.{Blank}
 use Rattle.fdp_flash.specs.Cells.{IsBlankUnit}
+use Rattle.fdp_flash.specs.Layout.{first_page}
+use Rattle.fdp_flash.proofs.Lists.{slice_get-replicate}
 use Rattle.fdp_book.proofs.fdp_found.Paging.{blank-tested}
 use Rattle.fdp_image.specs.Roomy.{is_blank_unit}
 use Rattle.fdp_isolation.specs.Alone.{AreLeftAlone, IsLeftAlone, gets_none}
-use Rattle.fdp_isolation.specs.Isolated.{IsWornDown, LeavesUsed, before_erase, since_setting}
+use Rattle.fdp_isolation.specs.Isolated.{IsWornDown, LeavesUsed, before_erase}
 use Rattle.fdp_isolation.specs.Laned.{StandsOver}
-use Rattle.fdp_isolation.proofs.Promised.{no-entries}
-use Rattle.fdp_isolation.proofs.Entries.{AreQuiet, before-none, before-some, emptied-before, no, since-longer}
+use Rattle.fdp_isolation.proofs.Entries.{before-none, before-some, emptied-before, no}
 use Rattle.fdp_book.specs.fdp_pages.PageTables.{PageTables}
 use Rattle.fdp_rules.specs.Step.{IsDataUnit}
 use Rattle.fdp_units.specs.declared.data_unit.DataUnit.{DataUnit}
@@ -88,26 +92,31 @@ module _ (c : DriveConfig) (first : List Cell) (es more : List Entry) (t now : P
   }
 
 -- over books
-pub alone-step : (first : List Cell) (old new : BookSeen) (es : List Entry) (cells now : List Cell) → IsLonger old new es → AreQuiet es → ((unit : ℕ) → IsTrue (gets_none (state_at old.pages.units unit)) → LeavesUnit old.config old.pages new.pages es cells now unit)
-    → AreLeftAlone first old cells → AreLeftAlone first new now
-alone-step first old new es cells now longer quiet leaves h =
-    subst (λ (c : DriveConfig). (unit : ℕ) → IsDataUnit c unit → IsFalse (is_blank_unit (geometry_of c) first unit) → IsLeftAlone c first (since_setting new.entries) new.pages now unit) (sym longer.config_is)
-    (λ unit is used. subst (λ (xs : List Entry). IsLeftAlone old.config first xs new.pages now unit) (sym (since-longer old new es longer quiet))
-    (left-alone old.config first (since_setting old.entries) es old.pages new.pages cells now unit (leaves unit) (h unit is used)))
+pub alone-step : (first : List Cell) (since : List Entry) (old new : BookSeen) (es : List Entry) (cells now : List Cell) → IsLonger old new es → ((unit : ℕ) → IsTrue (gets_none (state_at old.pages.units unit)) → LeavesUnit old.config old.pages new.pages es cells now unit)
+    → AreLeftAlone first since old cells → AreLeftAlone first (since ++ es) new now
+alone-step first since old new es cells now longer leaves h =
+    subst (λ (c : DriveConfig). (unit : ℕ) → IsDataUnit c unit → IsFalse (is_blank_unit (geometry_of c) first unit) → IsLeftAlone c first (since ++ es) new.pages now unit) (sym longer.config_is)
+    (λ unit is used. left-alone old.config first since es old.pages new.pages cells now unit (leaves unit) (h unit is used))
+
+-- by the entries of the run, since it was opened
+pub alone-run : (old new : BookSeen) (es : List Entry) (now : List Cell) → IsLonger old new es → AreLeftAlone old.opened (old.entries ++ es) new now → AreLeftAlone new.opened new.entries new now
+alone-run old new es now longer h =
+    subst (λ (first : List Cell). AreLeftAlone first new.entries new now) (sym longer.opened_is)
+    (subst (λ (xs : List Entry). AreLeftAlone old.opened xs new now) (sym longer.entries_are) h)
 
 -- ---- the promise
 
-pub leaves-used : (first : List Cell) (b : BookSeen) (cells : List Cell) → AreLeftAlone first b cells → LeavesUsed b.config first (since_setting b.entries) cells
-leaves-used first b cells h unit is used = (h unit is used).none
+pub leaves-used : (first : List Cell) (es : List Entry) (b : BookSeen) (cells : List Cell) → AreLeftAlone first es b cells → LeavesUsed b.config first es cells
+leaves-used first es b cells h unit is used = (h unit is used).none
 
 -- ---- the moment from which on they are left alone
 
--- where no entry came since, and no unit is filled by a handle or gets copies: each that is not blank is full
-pub alone-first : (first : List Cell) (b : BookSeen) → StandsOver b first → since_setting b.entries ≡ [] → ((unit : ℕ) → IsDataUnit b.config unit → IsFalse (is_open (state_at b.pages.units unit))) → AreLeftAlone first b first
-alone-first first b kept none closed unit is used = subst (λ (es : List Entry). IsLeftAlone b.config first es b.pages first unit) (sym none) (record {
+-- where no unit is filled by a handle or gets copies: each that is not blank is full
+pub alone-first : (first : List Cell) (b : BookSeen) → StandsOver b first → ((unit : ℕ) → IsDataUnit b.config unit → IsFalse (is_open (state_at b.pages.units unit))) → AreLeftAlone first [] b first
+alone-first first b kept closed unit is used = record {
   none = record { none_put = none-before unit [] refl; none_programmed = λ kept page low. inl refl };
   stands = λ kept. full (state_at b.pages.units unit) refl (closed unit is);
-}) where
+} where
   there : IsUnit b.pages.units unit
   there = subst (λ (k : Cut). unit < k.groups * k.group_units) (sym kept.known.units.cut) is
 
@@ -123,12 +132,26 @@ alone-first first b kept none closed unit is used = subst (λ (es : List Entry).
   full Aside e h = refl
 
 -- so it is on a fresh drive
-pub alone-fresh : (c : DriveConfig) (b : BookSeen) (first : List Cell) → StandsOver b first → IsFirst c b → AreLeftAlone first b first
-alone-fresh c b first kept fresh = alone-first first b kept (ap since_setting fresh.entries_are ∙ no-entries) (λ unit is. ap (λ (x : DataUnit). is_open x.state) (fresh.unused.units unit (subst (λ (d : DriveConfig). IsDataUnit d unit) fresh.config_is is)))
+pub alone-fresh : (c : DriveConfig) (b : BookSeen) (first : List Cell) → StandsOver b first → IsFirst c b → AreLeftAlone first [] b first
+alone-fresh c b first kept fresh = alone-first first b kept (λ unit is. ap (λ (x : DataUnit). is_open x.state) (fresh.unused.units unit (subst (λ (d : DriveConfig). IsDataUnit d unit) fresh.config_is is)))
 
--- another book with the same history and pages
-pub alone-alike : (first : List Cell) (b d : BookSeen) (cells : List Cell) → d.config ≡ b.config → d.entries ≡ b.entries → d.pages ≡ b.pages → AreLeftAlone first b cells → AreLeftAlone first d cells
-alone-alike first b d cells config entries pages h =
-    subst (λ (c : DriveConfig). (unit : ℕ) → IsDataUnit c unit → IsFalse (is_blank_unit (geometry_of c) first unit) → IsLeftAlone c first (since_setting d.entries) d.pages cells unit) (sym config)
-    (subst (λ (es : List Entry). (unit : ℕ) → IsDataUnit b.config unit → IsFalse (is_blank_unit (geometry_of b.config) first unit) → IsLeftAlone b.config first (since_setting es) d.pages cells unit) (sym entries)
-    (subst (λ (t : PageTables). (unit : ℕ) → IsDataUnit b.config unit → IsFalse (is_blank_unit (geometry_of b.config) first unit) → IsLeftAlone b.config first (since_setting b.entries) t cells unit) (sym pages) h))
+-- a unit of data of a flash without a page that was written is all blank
+pub unwritten-unit : (g : Geometry) (unit : ℕ) → unit < data_units g → IsBlankUnit g (replicate (all_pages g) Blank) unit
+unwritten-unit g unit low = record {
+  blank = λ page below.
+      let fits : first_page g unit + g.unit_pages ≤ data_units g * g.unit_pages = row_fits unit g.unit_pages (data_units g) g.unit_pages low (omega arith) in
+      let all : data_units g * g.unit_pages ≤ all_units g * g.unit_pages = mul-le (data_units g) g.unit_pages (all_units g) g.unit_pages (omega arith) (omega arith) in
+      slice_get-replicate (all_pages g) (first_page g unit + page) Blank (omega (arith, fits, below, all));
+}
+
+-- and it began with no unit that had been used
+pub alone-unused : (c : DriveConfig) (b : BookSeen) (cells : List Cell) → IsFirst c b → AreLeftAlone b.opened b.entries b cells
+alone-unused c b cells fresh unit is used =
+    let blank = blank-tested (geometry_of c) (replicate (all_pages (geometry_of c)) Blank) unit (unwritten-unit (geometry_of c) unit (subst (λ (d : DriveConfig). IsDataUnit d unit) fresh.config_is is)) in
+    absurd (no (sym blank ∙ ap (λ (xs : List Cell). is_blank_unit (geometry_of c) xs unit) (sym fresh.opened_is) ∙ ap (λ (d : DriveConfig). is_blank_unit (geometry_of d) b.opened unit) (sym fresh.config_is) ∙ used))
+
+-- another book with the same pages
+pub alone-alike : (first : List Cell) (es : List Entry) (b d : BookSeen) (cells : List Cell) → d.config ≡ b.config → d.pages ≡ b.pages → AreLeftAlone first es b cells → AreLeftAlone first es d cells
+alone-alike first es b d cells config pages h =
+    subst (λ (c : DriveConfig). (unit : ℕ) → IsDataUnit c unit → IsFalse (is_blank_unit (geometry_of c) first unit) → IsLeftAlone c first es d.pages cells unit) (sym config)
+    (subst (λ (t : PageTables). (unit : ℕ) → IsDataUnit b.config unit → IsFalse (is_blank_unit (geometry_of b.config) first unit) → IsLeftAlone b.config first es t cells unit) (sym pages) h)

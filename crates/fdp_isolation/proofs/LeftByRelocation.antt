@@ -1,5 +1,5 @@
 -- Each step of relocation leaves alone what had been used.
-use Rattle.std.proofs.Common.{◌≡◌, ◌≢◌, ◌⊎◌, ℕ, ◌<◌, Bool, false, List, [], ◌∷◌, Some, refl, sym, ◌∙◌, ap, subst, inl, ⊎_elim, ne_eqb, eq-eqb}
+use Rattle.std.proofs.Common.{◌≡◌, ◌≢◌, ◌⊎◌, ℕ, ◌<◌, Bool, false, List, [], ◌∷◌, ◌++◌, Some, refl, sym, ◌∙◌, ap, subst, inl, ⊎_elim, ne_eqb, eq-eqb}
 use Rattle.std.specs.Prelude.{◌||◌, IsTrue, slice_get}
 use Rattle.std.specs.List.{list_any}
 use Rattle.std.proofs.lemmas.Bool.{cases_eq}
@@ -34,7 +34,7 @@ use Rattle.fdp_isolation.specs.Alone.{AreLeftAlone, gets_none}
 use Rattle.fdp_isolation.specs.Isolated.{IsWornDown, since_setting}
 use Rattle.fdp_isolation.specs.Laned.{AreLaned, StandsOver}
 use Rattle.fdp_isolation.proofs.Copying.{is-opened}
-use Rattle.fdp_isolation.proofs.Entries.{AreQuiet, no}
+use Rattle.fdp_isolation.proofs.Entries.{no}
 use Rattle.fdp_isolation.proofs.Leaving.{LeavesUnit, alone-step}
 use Rattle.fdp_isolation.proofs.Relocated.{inside, program-left}
 use Rattle.fdp_book.specs.fdp_pages.PageTables.{relocation_at}
@@ -147,19 +147,8 @@ module _ (old new : BookSeen) (before after : FlashState) (rg : ℕ) (may_erase 
   relocation-leaves (steps.Fault (lost.Aside unit)) is = became (entries.Aside (record { unit = unit }) ∷ []) unit _ (λ u. refl) is.aside.becomes (λ still. refl) (same-worn (is.flash.read.cells told))
   relocation-leaves (steps.Fault (lost.Retired unit)) is = became (entries.Retired (record { unit = unit }) ∷ []) unit _ (λ u. refl) is.2.becomes (λ still. refl) (erased unit wrote.Failed is.2.flash)
 
-told-quiet : (rg : ℕ) (step : Step) → AreQuiet (told_by rg step)
-told-quiet rg steps.Nothing = refl
-told-quiet rg (steps.Copied copy) = refl
-told-quiet rg steps.ReadyToMove = refl
-told-quiet rg (steps.Erased unit) = refl
-told-quiet rg steps.EraseDue = refl
-told-quiet rg steps.Starved = refl
-told-quiet rg (steps.Fault lost.None) = refl
-told-quiet rg (steps.Fault (lost.Aside unit)) = refl
-told-quiet rg (steps.Fault (lost.Retired unit)) = refl
-
-pub alone-relocated : (first : List Cell) (old new : BookSeen) (before after : FlashState) (rg : ℕ) (may_erase : Bool) (step : Step) → IsTrue before.told → before.geometry ≡ geometry_of old.config → rg < old.config.groups
+pub alone-relocated : (first : List Cell) (since : List Entry) (old new : BookSeen) (before after : FlashState) (rg : ℕ) (may_erase : Bool) (step : Step) → IsTrue before.told → before.geometry ≡ geometry_of old.config → rg < old.config.groups
     → StandsOver old before.cells → AreLaned old before.cells → Relocates old new before after rg may_erase step
-    → AreLeftAlone first old before.cells → AreLeftAlone first new after.cells
-alone-relocated first old new before after rg may_erase step told geometry low kept laned relocates h =
-    alone-step first old new (told_by rg step) before.cells after.cells relocates.longer (told-quiet rg step) (relocation-leaves old new before after rg may_erase told geometry low kept laned step relocates.is) h
+    → AreLeftAlone first since old before.cells → AreLeftAlone first (since ++ told_by rg step) new after.cells
+alone-relocated first since old new before after rg may_erase step told geometry low kept laned relocates h =
+    alone-step first since old new (told_by rg step) before.cells after.cells relocates.longer (relocation-leaves old new before after rg may_erase told geometry low kept laned step relocates.is) h

@@ -18,6 +18,7 @@ pub mod Found
 pub mod Leaving
 pub mod LeftAlone
 pub mod LeftByRelocation
+pub mod Apart
 pub mod Generations
 pub mod Stopped
 pub mod Readings

@@ -2,6 +2,7 @@
 use Rattle.std.proofs.Common.{◌≡◌, ℕ, ◌+◌, ◌*◌, ◌<◌, List, sym, ◌∙◌, arith, inl, inr, ⊎_elim, slice_get}
 use Rattle.std.proofs.lemmas.Nat.{mul-le}
 use Rattle.fdp_base.specs.declared.config.DriveConfig.{DriveConfig}
+use Rattle.fdp_base.specs.declared.entry.Entry.{Entry}
 use Rattle.fdp_base.specs.Placement.{geometry_of}
 use Rattle.fdp_book.specs.Book.{BookSeen, state_in}
 use Rattle.fdp_flash.specs.declared.cell.Cell.{Cell}
@@ -57,8 +58,8 @@ module _ (b : BookSeen) (old new : List Cell) (same : SameDataPages b.config old
     keeps : (unit : ℕ) → IsDataUnit b.config unit → KeepsPages b.config old new unit
     keeps unit is page spare bytes low whole = sym (same-page unit page is low) ∙ whole
 
-  pub alone-saved : (first : List Cell) → AreLeftAlone first b old → AreLeftAlone first b new
-  alone-saved first h unit is used =
+  pub alone-saved : (first : List Cell) (es : List Entry) → AreLeftAlone first es b old → AreLeftAlone first es b new
+  alone-saved first es h unit is used =
       let was = h unit is used in
       record {
         none = record {

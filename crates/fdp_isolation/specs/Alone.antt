@@ -8,7 +8,7 @@ use Rattle.fdp_base.specs.EntryKinds.{empties}
 use Rattle.fdp_book.specs.Book.{BookSeen}
 use Rattle.fdp_flash.specs.declared.cell.Cell.{Cell}
 use Rattle.fdp_image.specs.Roomy.{is_blank_unit}
-use Rattle.fdp_isolation.specs.Isolated.{GetsNoPage, since_setting}
+use Rattle.fdp_isolation.specs.Isolated.{GetsNoPage}
 use Rattle.fdp_book.specs.fdp_pages.PageTables.{PageTables}
 use Rattle.fdp_rules.specs.Step.{IsDataUnit}
 use Rattle.fdp_units.specs.declared.state.UnitState.{UnitState}
@@ -24,8 +24,8 @@ pub record IsLeftAlone (c : DriveConfig) (first : List Cell) (es : List Entry) (
   pub none : GetsNoPage c first es cells unit
   pub stands : IsFalse (list_any (empties unit) es) → IsTrue (gets_none (state_at t.units unit))
 
--- so it is with each unit that had a page that was not blank in these first cells
-abbrev pub AreLeftAlone : List Cell → BookSeen → List Cell → Type 0
-AreLeftAlone first b cells =
+-- so it is with each unit that had a page that was not blank in these first cells, by the entries since
+abbrev pub AreLeftAlone : List Cell → List Entry → BookSeen → List Cell → Type 0
+AreLeftAlone first es b cells =
     (unit : ℕ) → IsDataUnit b.config unit → IsFalse (is_blank_unit (geometry_of b.config) first unit)
-    → IsLeftAlone b.config first (since_setting b.entries) b.pages cells unit
+    → IsLeftAlone b.config first es b.pages cells unit

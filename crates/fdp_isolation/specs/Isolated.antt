@@ -68,7 +68,7 @@ pub record GetsNoPage (c : DriveConfig) (first : List Cell) (es : List Entry) (c
   pub none_put : IsFalse (list_any (puts_into unit) (before_erase unit es))
   pub none_programmed : IsFalse (list_any (empties unit) es) → IsWornDown (geometry_of c) unit first cells
 
--- The cells when the drive was opened, or when another configuration last came in force, whichever was later, the entries since, and
--- the cells now: each unit that had a page then that was not blank gets no page before it is erased.
+-- Some first cells, as those when the drive was opened, the entries since, and the cells now: each unit that had a page then that was not blank
+-- gets no page before it is erased.
 abbrev pub LeavesUsed : DriveConfig → List Cell → List Entry → List Cell → Type 0
 LeavesUsed c first es cells = (unit : ℕ) → IsDataUnit c unit → IsFalse (is_blank_unit (geometry_of c) first unit) → GetsNoPage c first es cells unit

@@ -1,4 +1,4 @@
-ghost use Rattle.std.specs.Prelude.{List, ℕ};
+ghost use Rattle.std.specs.Prelude.{List, [], ℕ};
 ghost use Rattle.fdp_base.specs.declared.command.Write.{Write};
 ghost use Rattle.fdp_base.specs.declared.config.DriveConfig.{DriveConfig};
 ghost use Rattle.fdp_base.specs.declared.entry.Entry.{Entry};
@@ -24,7 +24,7 @@ ghost use Rattle.fdp_image.specs.Reads.{fresh_reading};
 ghost use Rattle.fdp_image.specs.Saving.{SameDataPages};
 ghost use Rattle.fdp_image.specs.Valid.{IsValid};
 ghost use Rattle.fdp_isolation.specs.Begun.{OpenedApart};
-ghost use Rattle.fdp_isolation.specs.Isolated.{IsIsolatedDrive, LeavesUsed, since_setting};
+ghost use Rattle.fdp_isolation.specs.Isolated.{IsIsolatedDrive, LeavesUsed};
 ghost use Rattle.fdp_isolation.specs.Laned.{AreLaned, StandsOver, IsKnown};
 ghost use Rattle.fdp_isolation.specs.Reads.{ReadsApart};
 ghost use Rattle.fdp_rules.specs.PlainState.{Going};
@@ -35,14 +35,14 @@ ghost use Rattle.fdp_rules.specs.Step.{IsDataUnit};
 /// no page.
 pub fn what_is_kept_apart_is_isolated()
     ensures isolated { (b : BookSeen) (cells : List Cell) → StandsOver b cells → AreLaned b cells → IsIsolatedDrive b.config (point_in b) b.entries cells }
-    ensures used { (first : List Cell) (b : BookSeen) (cells : List Cell) → AreLeftAlone first b cells → LeavesUsed b.config first (since_setting b.entries) cells }
+    ensures used { (first : List Cell) (es : List Entry) (b : BookSeen) (cells : List Cell) → AreLeftAlone first es b cells → LeavesUsed b.config first es cells }
 {}
 
 /// So it is on a fresh drive, whose data units are blank; what such a run began with keeps data apart.
 pub fn fresh_drives_are_kept_apart()
     ensures opened { (c : DriveConfig) (b : BookSeen) → IsFirst c b → OpenedApart b.config b.found b.opened }
     ensures laned { (c : DriveConfig) (b : BookSeen) (cells : List Cell) → IsKnown b → IsFirst c b → ((unit : ℕ) → IsDataUnit c unit → IsBlankUnit (geometry_of c) cells unit) → AreLaned b cells }
-    ensures alone { (c : DriveConfig) (b : BookSeen) (cells : List Cell) → StandsOver b cells → IsFirst c b → AreLeftAlone cells b cells }
+    ensures alone { (c : DriveConfig) (b : BookSeen) (cells : List Cell) → StandsOver b cells → IsFirst c b → AreLeftAlone cells [] b cells }
 {}
 
 /// And on a drive whose image was opened, where what was found keeps its data apart, as an isolated image does: as long as its data pages are
@@ -50,7 +50,7 @@ pub fn fresh_drives_are_kept_apart()
 pub fn found_drives_are_kept_apart()
     ensures opened { (c : DriveConfig) (cells : List Cell) (r : Reading) → IsValidConfig c → IsValid c cells r → IsIsolatedImage c cells r → OpenedApart c (found_in c cells r) cells }
     ensures laned { (c : DriveConfig) (opened : List Cell) (r : Reading) (b : BookSeen) (cells : List Cell) → IsValidConfig c → IsValid c opened r → IsReopened c opened r b → OpenedApart c b.found opened → SameDataPages c opened cells → AreLaned b cells }
-    ensures alone { (c : DriveConfig) (opened : List Cell) (r : Reading) (b : BookSeen) (cells : List Cell) → IsReopened c opened r b → SameDataPages c opened cells → AreLeftAlone opened b cells }
+    ensures alone { (c : DriveConfig) (opened : List Cell) (r : Reading) (b : BookSeen) (cells : List Cell) → IsReopened c opened r b → SameDataPages c opened cells → AreLeftAlone opened b.entries b cells }
 {}
 
 /// And so is what a stop leaves within the program of the next page of a write, within an erase, and within calls of system units, by

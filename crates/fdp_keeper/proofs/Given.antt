@@ -46,7 +46,7 @@ drawn-pages c p lists valid rows sizes blocks places = record {
   fits (Some page) h = omega (arith, h, few)
 
 -- more handles leave no more room
-budgets-fall : (c : DriveConfig) (handles : ℕ) → 1 ≤ handles → full_budget c handles ≤ most_blocks c
+pub budgets-fall : (c : DriveConfig) (handles : ℕ) → 1 ≤ handles → full_budget c handles ≤ most_blocks c
 budgets-fall c handles some =
     let less : c.units - 0 - 2 * handles - 3 ≤ c.units - 0 - 2 * 1 - 3 = omega (arith, some) in
     let pages : c.unit_pages * (c.units - 0 - 2 * handles - 3) ≤ c.unit_pages * (c.units - 0 - 2 * 1 - 3) = mul-le-mul_left c.unit_pages less in

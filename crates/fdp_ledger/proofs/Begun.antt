@@ -3,6 +3,7 @@ use Rattle.std.proofs.Common.{◌≡◌, ◌⊎◌, ℕ, ◌+◌, ◌*◌, ◌�
 use Rattle.std.specs.Prelude.{Contains, IsFalse, IsTrue, sum_by}
 use Rattle.fdp_base.specs.declared.entry.Entry.{Entry}
 use Rattle.fdp_base.specs.declared.entry.Entry.TheVariants as entries
+use Rattle.fdp_base.specs.EntryKinds.{wears_group}
 use Rattle.fdp_base.specs.Numbers.{numbers_below}
 use Rattle.fdp_base.proofs.Sums.{counting, sum_from-zero}
 use Rattle.fdp_book.specs.Book.{BookSeen, state_in}
@@ -18,6 +19,7 @@ use Rattle.fdp_ledger.specs.Start.{KnowsUnits, start_of}
 use Rattle.fdp_ledger.specs.Ledger.{AreAccounted, IsLedger, is_vain}
 use Rattle.fdp_ledger.specs.Uses.{RunStart, idle_after, used_by}
 use Rattle.fdp_ledger.proofs.Entries.{quiet-used}
+use Rattle.fdp_ledger.proofs.Worn.{never-there}
 
 no : false ≡ true → ⊥
 no e = cc
@@ -53,6 +55,7 @@ module _ (handed now : FlashState) (Image : ℕ → List Cell → Type 0) (run :
     lost = run.faults;
     idle = λ knows. run.faults;
     worn = λ fresh wears. absurd (no wears);
+    worn_out = λ knows before after rg is. absurd (never-there wears_group [] before after (entries.Worn (record { rg = rg })) refl refl is);
   }
 
   counted-opening : (start : RunStart) → CountedSince (counts_of handed) now start (entries.Reopened ∷ [])
@@ -65,6 +68,7 @@ module _ (handed now : FlashState) (Image : ℕ → List Cell → Type 0) (run :
     lost = run.faults;
     idle = λ knows. run.faults;
     worn = λ fresh wears. absurd (no wears);
+    worn_out = λ knows before after rg is. absurd (never-there wears_group (entries.Reopened ∷ []) before after (entries.Worn (record { rg = rg })) refl refl is);
   }
 
   counted-opened : (start : RunStart) (es : List Entry) → HasOpened es → CountedSince (counts_of handed) now start es

@@ -88,7 +88,7 @@ fetches-erase (call ∷ calls) h unit = both (erases unit call) (list_any (erase
   both false b e f = f
 
 module _ (handed : Counts) (old now : FlashState) (calls : List Call) (after : IsAfter old now calls) (since : IsTrue old.tells_calls → handed.moment ≤ length old.calls) (tells : IsTrue now.tells_calls) where
-  since-more : calls_since handed now ≡ calls_since handed old ++ calls
+  pub since-more : calls_since handed now ≡ calls_since handed old ++ calls
   since-more = ap (λ (xs : List Call). drop handed.moment xs) (after.listed tells) ∙ drop-append-le handed.moment old.calls calls (since (after.tells tells))
 
   -- a program that failed in a unit stands as long as the unit is not erased

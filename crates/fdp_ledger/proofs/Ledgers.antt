@@ -27,6 +27,7 @@ use Rattle.fdp_ledger.specs.Ledger.{AreAccounted, HasFreeUnits, IsLedger, is_vai
 use Rattle.fdp_ledger.specs.Told.{is_media_reply}
 use Rattle.fdp_ledger.specs.Start.{KnowsUnits, start_of}
 use Rattle.fdp_ledger.specs.Uses.{RunStart, idle_erases}
+use Rattle.fdp_ledger.specs.WornOut.{WereWornOut}
 use Rattle.fdp_image.specs.Roomy.{is_blank_unit}
 use Rattle.fdp_ledger.proofs.Accounted.{accounted-kept}
 use Rattle.fdp_ledger.proofs.Called.{ErasesNone, IsAfter}
@@ -36,6 +37,7 @@ use Rattle.fdp_ledger.proofs.Entries.{SaysNothing, count-push}
 use Rattle.fdp_ledger.proofs.Free.{free-kept}
 use Rattle.fdp_ledger.proofs.Moments.{HavePassed}
 use Rattle.fdp_ledger.proofs.Units.{KeepsUnits}
+use Rattle.fdp_ledger.proofs.Worn.{still-worn-out}
 
 -- ---- what was counted
 
@@ -79,6 +81,7 @@ pub record HasParts (handed : Counts) (b new : BookSeen) (now : FlashState) (xs 
   pub shut : counted_more handed.faults (count_by is_shut (b.entries ++ xs)) ≤ now.faults
   pub lost : counted_more handed.faults (count_by loses_unit (b.entries ++ xs)) ≤ now.faults
   pub worn : IsTrue (start_of b).fresh → IsTrue (list_any wears_group (b.entries ++ xs)) → Rose handed.faults now.faults
+  pub worn_out : KnowsUnits now.told (start_of b) → WereWornOut handed now (start_of b) (b.entries ++ xs)
   pub units : AreAccounted handed (start_of b) new.pages.units (b.entries ++ xs) now
   pub free : IsTrue (start_of b).fresh → (Rose handed.faults now.faults → ⊥) → (rg : ℕ) → IsGroup new.pages.units rg → HasFreeUnits new.pages rg
   pub moments : HavePassed (state_in new).media now.moment
@@ -103,6 +106,7 @@ ledger-of handed b new old now calls xs longer after parts was = record {
     lost = parts.lost;
     idle = λ knows. idle-bound handed (start_of b) new.pages.units (b.entries ++ xs) now was.handed_is parts.units knows;
     worn = parts.worn;
+    worn_out = parts.worn_out;
   }));
   listed = λ tells. let low = was.listed (after.tells tells) in omega (arith, low, ap length (after.listed tells), length-append old.calls calls);
   units = subst (λ (start : RunStart). AreAccounted handed start new.pages.units new.entries now) (sym (same-start b new xs longer))
@@ -142,6 +146,7 @@ still-ledger handed b new old now calls xs longer after none programs cells stil
       shut = bound-none handed was.handed_is is_shut b.entries xs old.faults now.faults after.faults was.counted.shut still.shut;
       lost = bound-none handed was.handed_is loses_unit b.entries xs old.faults now.faults after.faults was.counted.lost still.lost;
       worn = λ fresh. still-worn handed.faults old.faults now.faults b.entries xs after.faults still.worn (was.counted.worn fresh);
+      worn_out = still-worn-out handed (start_of b) old now calls after was.listed b.entries xs still.worn was.counted.worn_out;
       units = accounted-kept handed (start_of b) b.pages.units new.pages.units b.entries old now calls was.handed_is was.listed after was.units xs keeps.units still.says (λ unit there. none unit)
           (λ told unit there kept blank. same-emptied old.geometry old.cells now.cells (cells told) unit (subst (λ g. IsBlankUnit g now.cells unit) after.geometry blank));
       free = λ fresh well rg is.

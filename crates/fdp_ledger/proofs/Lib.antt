@@ -7,6 +7,7 @@ pub mod Vain
 pub mod Accounted
 pub mod Free
 pub mod Moments
+pub mod Worn
 pub mod Ledgers
 pub mod Answered
 pub mod Started

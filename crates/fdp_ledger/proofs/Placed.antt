@@ -37,6 +37,7 @@ use Rattle.fdp_ledger.proofs.Called.{after-made}
 use Rattle.fdp_ledger.proofs.Emptied.{programmed-emptied, programmed-whole, whole-unblank}
 use Rattle.fdp_ledger.proofs.Free.{free-elsewhere, free-had, free-three}
 use Rattle.fdp_ledger.proofs.Ledgers.{bound-none, group-was, ledger-of, more-programs, no-rose, still-worn}
+use Rattle.fdp_ledger.proofs.Worn.{still-worn-out}
 use Rattle.fdp_ledger.proofs.Moments.{passed-later, quiet-media}
 use Rattle.fdp_ledger.proofs.Units.{FillsUnit, puts-fill}
 
@@ -92,6 +93,7 @@ ledger-placed handed b new old now ticket g spot last spare bytes joined units g
       shut = bound-none handed was.handed_is is_shut b.entries _ old.faults now.faults after.faults was.counted.shut refl;
       lost = bound-none handed was.handed_is loses_unit b.entries _ old.faults now.faults after.faults was.counted.lost refl;
       worn = λ fresh. still-worn handed.faults old.faults now.faults b.entries _ after.faults refl (was.counted.worn fresh);
+      worn_out = still-worn-out handed (start_of b) old now (program_at spot false ∷ []) after was.listed b.entries _ refl was.counted.worn_out;
       units = accounted-filled handed (start_of b) b.pages.units new.pages.units b.entries old now (program_at spot false ∷ []) was.handed_is was.listed after was.units _ spot.unit fills (record { filled = refl; erased = refl }) (λ unit. refl)
           (λ told blank. whole-unblank old.geometry now.cells spot spare bytes (next-within b old.geometry g.rg g.ruh spot units geometry is)
           (programmed-whole old.geometry old.cells now.cells spot spare bytes (next-blank b old ticket g spot joined units geometry stored next told) (done.cells told))

@@ -29,6 +29,7 @@ use Rattle.fdp_ledger.specs.WornOut.{FailsIn, IsWornOut, blank_units, calls_sinc
 use Rattle.fdp_image.specs.Reads.{is_blank}
 use Rattle.fdp_image.specs.Roomy.{is_blank_unit}
 use Rattle.fdp_ledger.proofs.Counting.{still-bound}
+use Rattle.fdp_ledger.proofs.Vain.{row-vain}
 
 no : true ≡ false → ⊥
 no e = cc
@@ -62,30 +63,6 @@ unfolding is_blank_unit
 blank-unit g cells unit h = record {
   blank = λ page within. blank-cell (slice_get cells (first_page g unit + page)) (all-numbers (λ k. option_map_or is_blank (slice_get cells (first_page g unit + k)) false) 0 g.unit_pages h page (omega arith) (omega (arith, within)));
 }
-
--- ---- counts of a group, and of all units
-
--- the numbers of a row, as places from its beginning on
-shifted : (f : ℕ → ℕ) (base first count : ℕ) → sum_from (λ i. f (base + i)) first count ≡ sum_from f (base + first) count
-shifted f base first zero = sum_from-none (λ i. f (base + i)) first ∙ sym (sum_from-none f (base + first))
-shifted f base first (suc count) =
-    let at : base + (first + 1) ≡ base + first + 1 = omega arith in
-    omega (arith, sum_from-step (λ i. f (base + i)) first count, shifted f base (first + 1) count, ap (λ (k : ℕ). sum_from f k count) at, sum_from-step f (base + first) count)
-
--- a row within all is no more than all
-row-most : (f : ℕ → ℕ) (first count all : ℕ) → first + count ≤ all → sum_from f first count ≤ sum_from f 0 all
-row-most f first count all within =
-    let before : sum_from f 0 (first + (all - first)) ≡ sum_from f 0 first + sum_from f (0 + first) (all - first) = sum_from-cut f 0 first (all - first) in
-    let behind : sum_from f first (count + (all - first - count)) ≡ sum_from f first count + sum_from f (first + count) (all - first - count) = sum_from-cut f first count (all - first - count) in
-    let whole : sum_from f 0 (first + (all - first)) ≡ sum_from f 0 all = ap (sum_from f 0) (omega (arith, within)) in
-    let rest : sum_from f first (count + (all - first - count)) ≡ sum_from f first (all - first) = ap (sum_from f first) (omega (arith, within)) in
-    let zero : sum_from f (0 + first) (all - first) ≡ sum_from f first (all - first) = ap (λ (k : ℕ). sum_from f k (all - first)) (omega arith) in
-    omega (arith, before, behind, whole, rest, zero)
-
-at-most : (a b : Bool) → (a ≡ true → b ≡ true) → cond {A = ℕ} a 1 0 ≤ cond {A = ℕ} b 1 0
-at-most false b h = omega arith
-at-most true true h = omega arith
-at-most true false h = absurd (no (sym (h refl)))
 
 -- ---- a group without a free unit
 
@@ -130,13 +107,8 @@ module _ (handed : Counts) (b : BookSeen) (now : FlashState) (rg : ℕ) (low : r
   few : IsTrue now.told → blank_units now.geometry now.cells (state_in b).is_lost rg ≤ count_below (length t.groups * t.group_units) (is_vain (start_of b) t b.entries)
   few told =
       let cut : blank_units now.geometry now.cells (state_in b).is_lost rg ≡ count_from (λ i. blank-test (rg * t.group_units + i)) 0 t.group_units = ap (λ (k : ℕ). count_from (λ i. blank-test (rg * k + i)) 0 k) size in
-      let most : count_from (λ i. blank-test (rg * t.group_units + i)) 0 t.group_units ≤ sum_from (λ i. counting (is_vain (start_of b) t b.entries) (rg * t.group_units + i)) 0 t.group_units =
-      sum_from-most (counting (λ i. blank-test (rg * t.group_units + i))) (λ i. counting (is_vain (start_of b) t b.entries) (rg * t.group_units + i)) 0 t.group_units
-      (λ i first high. at-most (blank-test (rg * t.group_units + i)) (is_vain (start_of b) t b.entries (rg * t.group_units + i)) (vain told i (omega (arith, high)))) in
-      let row = shifted (counting (is_vain (start_of b) t b.entries)) (rg * t.group_units) 0 t.group_units in
-      let fits : rg * t.group_units + t.group_units ≤ length t.groups * t.group_units = row_fits rg t.group_units (length t.groups) t.group_units there (omega arith) in
-      let all = row-most (counting (is_vain (start_of b) t b.entries)) (rg * t.group_units + 0) t.group_units (length t.groups * t.group_units) (omega (arith, fits)) in
-      omega (arith, cut, most, row, all)
+      let most = row-vain (start_of b) t b.entries rg blank-test there (vain told) in
+      omega (arith, cut, most)
 
   both : (x y : Bool) → x ≡ true → y ≡ false → (x && not y) ≡ true
   both true false e f = refl

@@ -49,7 +49,7 @@ use Rattle.fdp_rules.specs.Totals.{media_blocks_of}
 use Rattle.fdp_units.specs.declared.data_unit.DataUnit.{DataUnit}
 use Rattle.fdp_units.specs.declared.state.UnitState.TheVariants.{Closed, Retired}
 use Rattle.fdp_units.specs.DataUnits.{is_free, is_lost}
-use Rattle.fdp_units.specs.UnitTable.{IsGroup, cut_of, group_in, state_at, unit_at}
+use Rattle.fdp_units.specs.UnitTable.{Cut, IsGroup, cut_of, group_in, state_at, unit_at}
 use Rattle.fdp_ledger.specs.declared.counts.Counts.{Counts}
 use Rattle.fdp_ledger.specs.Emptied.{OnlyErasesEmpty}
 use Rattle.fdp_ledger.specs.Start.{start_of}
@@ -62,6 +62,7 @@ use Rattle.fdp_ledger.proofs.Entries.{quiet-none, quiet-one}
 use Rattle.fdp_ledger.proofs.Free.{added-taken, entered-taken, free-elsewhere, free-freed, free-had, free-taken, none-free}
 use Rattle.fdp_ledger.proofs.Ledgers.{AreStill, bound-none, bound-one, group-was, handed-low, ledger-of, more-programs, no-rose, one-most, rose-since, same-programs, still-ledger, still-worn}
 use Rattle.fdp_ledger.proofs.Moments.{passed-later, quiet-media}
+use Rattle.fdp_ledger.proofs.Worn.{still-worn-out, worn-now, worn-out-more}
 use Rattle.fdp_ledger.proofs.Units.{FillsUnit, KeepsUnits, aside-keeps, copies-fill, erased-frees, retired-keeps, same-keep, starved-keeps}
 
 no : true ≡ false → ⊥
@@ -94,6 +95,9 @@ module _ (b new : BookSeen) (old now : FlashState) (rg : ℕ) (Image : ℕ → L
 
   there : IsGroup b.pages.units rg
   there = is-group b.config (state_in b) b.pages rg units low
+
+  in-group : old.geometry.units ≡ b.pages.units.group_units
+  in-group = ap (λ (g : Geometry). g.units) geometry ∙ sym (ap (λ (k : Cut). k.group_units) units.cut)
 
   ready : IsReady s b.pages.owners b.pages.handles.classes rg
   ready = (joined.groups rg there).ready
@@ -216,6 +220,7 @@ module _ (b new : BookSeen) (old now : FlashState) (rg : ℕ) (Image : ℕ → L
             shut = bound-none handed was.handed_is is_shut b.entries (entries.Copied copy ∷ []) old.faults now.faults after.faults was.counted.shut refl;
             lost = bound-none handed was.handed_is loses_unit b.entries (entries.Copied copy ∷ []) old.faults now.faults after.faults was.counted.lost refl;
             worn = λ fresh. still-worn handed.faults old.faults now.faults b.entries (entries.Copied copy ∷ []) after.faults refl (was.counted.worn fresh);
+            worn_out = still-worn-out handed (start_of b) old now (fetch_at from false ∷ program_at to false ∷ []) after was.listed b.entries (entries.Copied copy ∷ []) refl was.counted.worn_out;
             units = accounted-filled handed (start_of b) b.pages.units new.pages.units b.entries old now (fetch_at from false ∷ program_at to false ∷ []) was.handed_is was.listed after was.units (entries.Copied copy) to.unit fills (record { filled = ap (λ (u : ℕ). Some u) unit; erased = refl }) (λ u. refl)
                 (λ told no_page.
                 let done = copies.done refl told in
@@ -237,6 +242,7 @@ module _ (b new : BookSeen) (old now : FlashState) (rg : ℕ) (Image : ℕ → L
             shut = bound-none handed was.handed_is is_shut b.entries [] old.faults now.faults after.faults was.counted.shut refl;
             lost = bound-none handed was.handed_is loses_unit b.entries [] old.faults now.faults after.faults was.counted.lost refl;
             worn = λ fresh. still-worn handed.faults old.faults now.faults b.entries [] after.faults refl (was.counted.worn fresh);
+            worn_out = still-worn-out handed (start_of b) old now (fetch_at from false ∷ program_at to true ∷ []) after was.listed b.entries [] refl was.counted.worn_out;
             units = accounted-spoilt handed (start_of b) b.pages.units new.pages.units b.entries old now (fetch_at from false ∷ program_at to true ∷ []) was.handed_is was.listed after was.units [] (fetch_at from false ∷ []) to (own-fills skips.passes skips.used) (quiet-none (start_of b) b.entries) (λ u. refl) refl rose
                 (λ told. let left = copies.left refl told in failed-emptied old.geometry old.cells now.cells to (data_spare owner.spare) left.0 (own-blank told) left.1);
             free = λ fresh well. absurd (well (rose-since handed.faults old.faults now.faults low-handed rose));
@@ -253,6 +259,7 @@ module _ (b new : BookSeen) (old now : FlashState) (rg : ℕ) (Image : ℕ → L
           shut = bound-none handed was.handed_is is_shut b.entries (e ∷ []) old.faults now.faults after.faults was.counted.shut (ap (λ (x : Bool). 0 + cond x 1 0) is.shut);
           lost = bound-one handed was.handed_is loses_unit b.entries (e ∷ []) old.faults now.faults after.faults was.counted.lost (let few = one-most (loses_unit e) in omega (arith, few)) rose;
           worn = λ fresh. still-worn handed.faults old.faults now.faults b.entries (e ∷ []) after.faults (ap (λ (x : Bool). x || false) is.worn) (was.counted.worn fresh);
+          worn_out = still-worn-out handed (start_of b) old now calls after was.listed b.entries (e ∷ []) (ap (λ (x : Bool). x || false) is.worn) was.counted.worn_out;
           units = accounted-kept handed (start_of b) b.pages.units new.pages.units b.entries old now calls was.handed_is was.listed after was.units (e ∷ []) keeps (quiet-one (start_of b) b.entries e (record { filled = is.filled; erased = is.erased })) (λ unit there. none unit) (λ told u here. cells told u);
           free = λ fresh well. absurd (well (rose-since handed.faults old.faults now.faults low-handed rose));
           moments = passed-later (state_in b).media (state_in new).media old.moment now.moment (quiet-media b new (e ∷ []) longer (ap (λ (x : Bool). 0 + cond x 1 0) is.media)) after.moment was.moments;
@@ -289,6 +296,7 @@ module _ (b new : BookSeen) (old now : FlashState) (rg : ℕ) (Image : ℕ → L
           shut = bound-none handed was.handed_is is_shut b.entries xs old.faults now.faults after.faults was.counted.shut refl;
           lost = bound-none handed was.handed_is loses_unit b.entries xs old.faults now.faults after.faults was.counted.lost refl;
           worn = λ fresh. still-worn handed.faults old.faults now.faults b.entries xs after.faults refl (was.counted.worn fresh);
+          worn_out = still-worn-out handed (start_of b) old now (erase_at unit false ∷ []) after was.listed b.entries xs refl was.counted.worn_out;
           units = accounted-erased handed (start_of b) b.pages.units new.pages.units b.entries old now (erase_at unit false ∷ []) was.handed_is was.listed after was.units (entries.Erased (record { unit = unit })) unit frees (record { filled = refl; erased = refl }) refl
               (λ told other ne no_page. outside-emptied old.geometry old.cells now.cells unit other (h.flash.done told refl).others ne no_page);
           free = λ fresh well k is_group.
@@ -321,6 +329,8 @@ module _ (b new : BookSeen) (old now : FlashState) (rg : ℕ) (Image : ℕ → L
           shut = bound-none handed was.handed_is is_shut b.entries xs old.faults now.faults after.faults was.counted.shut refl;
           lost = bound-none handed was.handed_is loses_unit b.entries xs old.faults now.faults after.faults was.counted.lost refl;
           worn = λ fresh wears. starved-rose fresh h;
+          worn_out = worn-out-more handed (start_of b) old now [] after was.listed b.entries rg
+              (λ knows. worn-now handed (start_of b) b.pages.units b.entries old rg was.handed_is in-group there h.starved.free was.units knows) was.counted.worn_out;
           units = accounted-kept handed (start_of b) b.pages.units new.pages.units b.entries old now [] was.handed_is was.listed after was.units xs
               (starved-keeps s.passes n.passes s.units n.units rg (lane_at b.pages.handles.classes h.owner) h.starved) (quiet-one (start_of b) b.entries _ (record { filled = refl; erased = refl })) (λ unit there. refl)
               (λ told u here kept no_page. same-emptied old.geometry old.cells now.cells (h.flash.cells told) u (subst (λ (k : Geometry). IsBlankUnit k now.cells u) after.geometry no_page));

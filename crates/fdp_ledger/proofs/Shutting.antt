@@ -29,6 +29,7 @@ use Rattle.fdp_ledger.proofs.Called.{after-made}
 use Rattle.fdp_ledger.proofs.Emptied.{failed-emptied}
 use Rattle.fdp_ledger.proofs.Entries.{quiet-two}
 use Rattle.fdp_ledger.proofs.Ledgers.{bound-none, bound-one, handed-low, ledger-of, more-programs, one-most, rose-since, same-programs, still-worn}
+use Rattle.fdp_ledger.proofs.Worn.{still-worn-out}
 use Rattle.fdp_ledger.proofs.Moments.{HavePassed, host-media, passed-told}
 use Rattle.fdp_ledger.proofs.Placed.{next-blank}
 use Rattle.fdp_ledger.proofs.Units.{shuts-fill}
@@ -44,6 +45,7 @@ ledger-shut handed b new old now ticket g spot status moment done spare bytes jo
       shut = bound-one handed was.handed_is is_shut b.entries _ old.faults now.faults after.faults was.counted.shut (omega arith) rose;
       lost = bound-none handed was.handed_is loses_unit b.entries _ old.faults now.faults after.faults was.counted.lost refl;
       worn = λ fresh. still-worn handed.faults old.faults now.faults b.entries _ after.faults refl (was.counted.worn fresh);
+      worn_out = still-worn-out handed (start_of b) old now (program_at spot true ∷ []) after was.listed b.entries _ refl was.counted.worn_out;
       units = accounted-spoilt handed (start_of b) b.pages.units new.pages.units b.entries old now (program_at spot true ∷ []) was.handed_is was.listed after was.units _ [] spot
           (shuts-fill b.pages step.middle new.pages g.rg g.ruh spot new.pages.owners joined next.may step.shut.unit step.left.units)
           (quiet-two (start_of b) b.entries _ _ (record { filled = refl; erased = refl }) (record { filled = refl; erased = refl }))

@@ -29,6 +29,7 @@ use Rattle.fdp_ledger.proofs.Accounted.{accounted-kept}
 use Rattle.fdp_ledger.proofs.Called.{IsAfter}
 use Rattle.fdp_ledger.proofs.Entries.{quiet-none}
 use Rattle.fdp_ledger.proofs.Ledgers.{bound-none, ledger-of, more-programs, no-rose, same-programs, still-worn}
+use Rattle.fdp_ledger.proofs.Worn.{still-worn-out}
 use Rattle.fdp_ledger.proofs.Moments.{passed-later}
 use Rattle.fdp_ledger.proofs.Units.{same-keep}
 
@@ -72,6 +73,7 @@ module _ (b : BookSeen) (old now : FlashState) (calls : List Call) (geometry : o
         shut = bound-none handed was.handed_is is_shut b.entries [] old.faults now.faults after.faults was.counted.shut refl;
         lost = bound-none handed was.handed_is loses_unit b.entries [] old.faults now.faults after.faults was.counted.lost refl;
         worn = λ fresh. still-worn handed.faults old.faults now.faults b.entries [] after.faults refl (was.counted.worn fresh);
+        worn_out = still-worn-out handed (start_of b) old now calls after was.listed b.entries [] refl was.counted.worn_out;
         units = accounted-kept handed (start_of b) b.pages.units b.pages.units b.entries old now calls was.handed_is was.listed after was.units [] (same-keep b.pages.units b.pages.units refl refl) (quiet-none (start_of b) b.entries)
             (λ unit there. behind-erase (data_units old.geometry) unit calls behind (low unit there))
             (λ told unit there kept blank. same-blank old.geometry old.cells now.cells unit (own-same told) (low unit there) (subst (λ (g : Geometry). IsBlankUnit g now.cells unit) after.geometry blank));

@@ -1,17 +1,19 @@
 -- How many units were taken in vain.
-use Rattle.std.proofs.Common.{◌≡◌, ◌≢◌, ℕ, ◌+◌, ◌*◌, ◌<◌, ◌≤◌, Bool, true, false, cond, not, ◌&&◌, List, ◌++◌, refl, sym, ◌∙◌, ap, arith, ⊎_elim, length, eq-eqb, ne_eqb}
+use Rattle.std.proofs.Common.{◌≡◌, ◌≢◌, ℕ, zero, suc, ◌+◌, ◌-◌, ◌*◌, ◌<◌, ◌≤◌, Bool, true, false, cond, not, ◌&&◌, List, ◌++◌, refl, sym, ◌∙◌, ap, arith, ⊎_elim, length, eq-eqb, ne_eqb}
 use Rattle.std.specs.Prelude.{◌==◌, if◌then◌else◌}
 use Rattle.std.proofs.lemmas.Bool.{cases_eq}
+use Rattle.std.proofs.lemmas.Nat.{row_fits}
 use Rattle.fdp_base.specs.declared.entry.Entry.{Entry}
-use Rattle.fdp_base.proofs.Sums.{count_from, count_from-one, count_from-same, counting, counting-bound}
+use Rattle.fdp_base.proofs.Sums.{count_from, count_from-one, count_from-same, counting, counting-bound, sum_from, sum_from-cut, sum_from-none, sum_from-step}
 use Rattle.fdp_ledger.specs.Ledger.{is_vain}
 use Rattle.fdp_ledger.specs.Uses.{RunStart, used_by}
 use Rattle.fdp_ledger.proofs.Entries.{SaysNothing}
 use Rattle.fdp_ledger.proofs.Units.{FillsUnit, FreesUnit, KeepsUnits}
 use Rattle.fdp_book.proofs.fdp_pages.Counts.{fewer-counted}
+use Rattle.fdp_book.proofs.fdp_trails.Hits.{sum_from-most}
 use Rattle.fdp_units.specs.declared.state.UnitState.{UnitState}
 use Rattle.fdp_units.specs.DataUnits.{is_free}
-use Rattle.fdp_units.specs.UnitTable.{Cut, UnitTable, cut_of, state_at}
+use Rattle.fdp_units.specs.UnitTable.{Cut, IsGroup, UnitTable, cut_of, state_at}
 
 -- ---- counts
 
@@ -96,3 +98,42 @@ erased-count start t now es xs unit frees others =
       turned : (b : Bool) → ◌≡◌ {A = ℕ} (cond (not b) 1 0) (if b then 0 else 1)
       turned true = refl
       turned false = refl
+
+-- ---- counts of a group, and of all units
+
+-- the numbers of a row, as places from its beginning on
+shifted : (f : ℕ → ℕ) (base first count : ℕ) → sum_from (λ i. f (base + i)) first count ≡ sum_from f (base + first) count
+shifted f base first zero = sum_from-none (λ i. f (base + i)) first ∙ sym (sum_from-none f (base + first))
+shifted f base first (suc count) =
+    let at : base + (first + 1) ≡ base + first + 1 = omega arith in
+    omega (arith, sum_from-step (λ i. f (base + i)) first count, shifted f base (first + 1) count, ap (λ (k : ℕ). sum_from f k count) at, sum_from-step f (base + first) count)
+
+-- a row within all is no more than all
+row-most : (f : ℕ → ℕ) (first count all : ℕ) → first + count ≤ all → sum_from f first count ≤ sum_from f 0 all
+row-most f first count all within =
+    let before : sum_from f 0 (first + (all - first)) ≡ sum_from f 0 first + sum_from f (0 + first) (all - first) = sum_from-cut f 0 first (all - first) in
+    let behind : sum_from f first (count + (all - first - count)) ≡ sum_from f first count + sum_from f (first + count) (all - first - count) = sum_from-cut f first count (all - first - count) in
+    let whole : sum_from f 0 (first + (all - first)) ≡ sum_from f 0 all = ap (sum_from f 0) (omega (arith, within)) in
+    let rest : sum_from f first (count + (all - first - count)) ≡ sum_from f first (all - first) = ap (sum_from f first) (omega (arith, within)) in
+    let zero : sum_from f (0 + first) (all - first) ≡ sum_from f first (all - first) = ap (λ (k : ℕ). sum_from f k (all - first)) (omega arith) in
+    omega (arith, before, behind, whole, rest, zero)
+
+at-most : (a b : Bool) → (a ≡ true → b ≡ true) → cond {A = ℕ} a 1 0 ≤ cond {A = ℕ} b 1 0
+at-most false b h = omega arith
+at-most true true h = omega arith
+at-most true false h = let e : false ≡ true = h refl in absurd cc
+
+-- of a group, those that pass a test that only units pass which were taken in vain
+pub row-vain : (start : RunStart) (t : UnitTable) (es : List Entry) (rg : ℕ) (test : ℕ → Bool) → IsGroup t rg → ((i : ℕ) → i < t.group_units → test (rg * t.group_units + i) ≡ true → is_vain start t es (rg * t.group_units + i) ≡ true) → count_from (λ i. test (rg * t.group_units + i)) 0 t.group_units ≤ count_from (is_vain start t es) 0 (units_of t)
+row-vain start t es rg test there vain =
+    let most : count_from (λ i. test (rg * t.group_units + i)) 0 t.group_units ≤ sum_from (λ i. counting (is_vain start t es) (rg * t.group_units + i)) 0 t.group_units =
+    sum_from-most (counting (λ i. test (rg * t.group_units + i))) (λ i. counting (is_vain start t es) (rg * t.group_units + i)) 0 t.group_units
+    (λ i first high. at-most (test (rg * t.group_units + i)) (is_vain start t es (rg * t.group_units + i)) (vain i (omega (arith, high)))) in
+    let row = shifted (counting (is_vain start t es)) (rg * t.group_units) 0 t.group_units in
+    let fits : rg * t.group_units + t.group_units ≤ length t.groups * t.group_units = row_fits rg t.group_units (length t.groups) t.group_units there (omega arith) in
+    let all = row-most (counting (is_vain start t es)) (rg * t.group_units + 0) t.group_units (length t.groups * t.group_units) (omega (arith, fits)) in
+    omega (arith, most, row, all)
+
+-- a unit that is not free and got no page was taken in vain
+pub unfree-vain : (start : RunStart) (t : UnitTable) (es : List Entry) (unit : ℕ) → is_free (state_at t unit) ≡ false → used_by start es unit ≡ false → is_vain start t es unit ≡ true
+unfree-vain start t es unit taken unused = ap (λ (b : Bool). vain b (used_by start es unit)) taken ∙ ap (vain false) unused

@@ -33,9 +33,9 @@ use Rattle.fdp_image.specs.Reads.{reads_as}
 use Rattle.fdp_image.specs.Roomy.{is_blank_unit}
 use Rattle.fdp_image.specs.Saving.{SameDataPages}
 use Rattle.fdp_survival.specs.fdp_isolation.Begun.{OpenedApart}
-use Rattle.fdp_survival.specs.fdp_isolation.Laned.{AreLaned}
-use Rattle.fdp_survival.proofs.fdp_isolation.Found.{laned-found}
-use Rattle.fdp_survival.proofs.fdp_isolation.Promised.{laned-fresh}
+use Rattle.fdp_survival.specs.fdp_isolation.Apart.{AreApart}
+use Rattle.fdp_survival.proofs.fdp_isolation.Apart as isolation
+use Rattle.fdp_survival.proofs.fdp_isolation.Leaving.{unwritten-unit}
 use Rattle.fdp_survival.proofs.fdp_isolation.Saved.{holds-saved}
 use Rattle.fdp_keeper.specs.fdp_journal.JournalState.{JournalState}
 use Rattle.fdp_keeper.specs.Keeper.{KeeperSeen, KeepsDrive}
@@ -47,10 +47,12 @@ use Rattle.fdp_loading.specs.declared.loaded.Loaded.{Loaded}
 use Rattle.fdp_loading.specs.Begun.{BeginsFound, BeginsFresh}
 use Rattle.fdp_loading.specs.Loaded.{IsIdle, IsLoaded, IsPrepared, ReadsAsBegun, StandsBegun}
 use Rattle.fdp_loading.specs.Made.{IsBegun, KeepsNone, SavesFirst}
+use Rattle.fdp_loading.specs.JournalRoom.{savings_left}
 use Rattle.fdp_loading.specs.Refused.{IsNotLoaded}
 use Rattle.fdp_loading.proofs.Opens.{images-open}
 use Rattle.fdp_loading.proofs.Blank.{blank-unit_from}
 use Rattle.fdp_loading.proofs.Drawing.{media-none, media-reopened}
+use Rattle.fdp_loading.proofs.JournalRoom.{checkpoint-leaves}
 use Rattle.fdp_loading.proofs.Looked.{IsAlike, alike-looks}
 use Rattle.fdp_loading.proofs.Unwritten.{free-first}
 use Rattle.fdp_keeper.specs.fdp_locations.Stored.{HoldsWritten}
@@ -71,15 +73,6 @@ use Rattle.fdp_survival.proofs.Apart.{durable-stands-apart}
 use Rattle.fdp_survival.proofs.Steps.{keeps-isolated, safe-begun, said-begun, survives-begun}
 use Rattle.fdp_units.specs.DataUnits.{is_free}
 use Rattle.fdp_units.specs.UnitTable.{Cut, IsUnit, state_at}
-
--- a unit of data of a flash without a page that was written is all blank
-unwritten-unit : (g : Geometry) (unit : ℕ) → unit < data_units g → IsBlankUnit g (replicate (all_pages g) Blank) unit
-unwritten-unit g unit low = record {
-  blank = λ page below.
-      let fits : first_page g unit + g.unit_pages ≤ data_units g * g.unit_pages = row_fits unit g.unit_pages (data_units g) g.unit_pages low (omega arith) in
-      let all : data_units g * g.unit_pages ≤ all_units g * g.unit_pages = mul-le (data_units g) g.unit_pages (all_units g) g.unit_pages (omega arith) (omega arith) in
-      slice_get-replicate (all_pages g) (first_page g unit + page) Blank (omega (arith, fits, below, all));
-}
 
 -- no entry is legal
 legal-none : (told : Bool) (c : DriveConfig) (f : Found) → IsLegal told c f []
@@ -134,15 +127,15 @@ module _ (old mid new : FlashState) (b : BookSeen) (k : KeeperSeen) (looks : Onl
   stands-old t = record { kept = []; lost = b.entries; beginning = record { split = refl }; enough = omega arith; stands = begun.begins.stood t }
 
   -- where what was opened keeps data apart, so do cells with the data pages that the flash had
-  laned-over : IsWellFormed old → (cells : List Cell) → IsTrue old.told → SameDataPages b.config old.cells cells → OpenedApart b.config b.found b.opened → AreLaned b cells
-  laned-over formed cells t same apart = ⊎_elim
+  apart-over : IsWellFormed old → (cells : List Cell) → IsTrue old.told → SameDataPages b.config old.cells cells → OpenedApart b.config b.found b.opened → AreApart b cells
+  apart-over formed cells t same apart = ⊎_elim
       (λ (x : BeginsFresh b.config old b begun.epoch).
       let fresh : IsFresh b.config g old.cells = subst (λ (y : Geometry). IsFresh b.config y old.cells) cut-old (x.told t) in
-      laned-fresh b.config b cells p.order.known x.book (λ unit is.
+      isolation.fresh b.config b cells p.order.known x.book (λ unit is.
       same-blank g cells old.cells unit (λ page below. sym (same page below)) is
       (record { blank = λ page below. (blank-unit_from g old.cells (formed.size t ∙ ap all_pages cut-old) fresh.blank unit 0 is).blank page (omega arith) below })))
       (λ (x : BeginsFound b.config old b begun.epoch).
-      laned-found b.config b.opened (reading_of_state x.state) b cells p.order.known.config x.valid x.book apart
+      isolation.found b.config (reading_of_state x.state) b cells p.order.known.config x.valid x.book apart
       (subst (λ (xs : List Cell). SameDataPages b.config xs cells) (sym (x.opened_is t)) same))
       begun.begins.with
 
@@ -151,7 +144,7 @@ module _ (old mid new : FlashState) (b : BookSeen) (k : KeeperSeen) (looks : Onl
   isolated-mid formed =
       keeps-isolated b mid p.order.known p.can.geometry p.stored (λ t apart.
       let was : IsTrue old.told = subst IsTrue alike.told t in
-      laned-over formed mid.cells was (λ page below. ap (λ (xs : List Cell). slice_get xs page) (alike.cells was)) apart)
+      apart-over formed mid.cells was (λ page below. ap (λ (xs : List Cell). slice_get xs page) (alike.cells was)) apart)
 
   -- what stands on the flash before the drive is saved
   image-old : IsWellFormed old → IsTrue old.told → IsSafeImage b.config b.found b.opened b.entries 0 (length b.entries) old.cells
@@ -259,14 +252,14 @@ module _ (old mid new : FlashState) (b : BookSeen) (k : KeeperSeen) (looks : Onl
     blank-old : IsTrue old.told → (unit : ℕ) → unit < data_units g → IsBlankUnit g new.cells unit → IsBlankUnit g old.cells unit
     blank-old t unit low blank = same-blank g old.cells new.cells unit (same-old t) low blank
 
-    laned-new : IsWellFormed old → KeepsApart new b
-    laned-new formed t apart = laned-over formed new.cells (told-old t) (same-old (told-old t)) apart
+    apart-new : IsWellFormed old → KeepsApart new b
+    apart-new formed t apart = apart-over formed new.cells (told-old t) (same-old (told-old t)) apart
 
     isolated-new : IsWellFormed old → KeepsIsolated new b
-    isolated-new formed = keeps-isolated b new p.order.known cut-new stored-new (laned-new formed)
+    isolated-new formed = keeps-isolated b new p.order.known cut-new stored-new (apart-new formed)
 
     stands-new : IsWellFormed old → StandsBegun b.config new b
-    stands-new formed = record { order = p.order; config_is = refl; idle = idle-here; geometry = cut-new; stored = stored-new; apart = laned-new formed }
+    stands-new formed = record { order = p.order; config_is = refl; idle = idle-here; geometry = cut-new; stored = stored-new; apart = apart-new formed }
 
     -- the units as the ledger has them
     units-new : AreUnitsBegun b new
@@ -317,6 +310,7 @@ module _ (old mid new : FlashState) (b : BookSeen) (k : KeeperSeen) (looks : Onl
       epoch_is = ap (λ (s : JournalState). s.stamp.epoch) keeps.saves.saver_is ∙ ap (λ (n : ℕ). n + 1) p.epoch_is;
       few = p.few;
       sure = ap (λ (s : JournalState). s.in_doubt) keeps.saves.saver_is;
+      left = subst (λ (s : JournalState). 16 ≤ savings_left b.config s) (sym keeps.saves.saver_is) (let room = checkpoint-leaves b.config k.saver keeps.saves.given p.order.known.config keeps.saves.is_of in omega (arith, room));
     };
     same = same-old now wrote.Done keeps;
     ledger = ledger-new now wrote.Done keeps formed then;

@@ -11,3 +11,4 @@ pub mod Faults
 pub mod Opens
 pub mod Refused
 pub mod Made
+pub mod JournalRoom

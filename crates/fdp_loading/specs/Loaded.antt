@@ -1,5 +1,5 @@
 -- What an opening makes of a flash: a run whose drive is saved.
-use Rattle.std.specs.Prelude.{◌≡◌, ◌⊎◌, ℕ, ◌+◌, ◌^◌, ◌<◌, Bool, false, IsFalse, IsTrue, List, [], ◌∷◌, Some, length}
+use Rattle.std.specs.Prelude.{◌≡◌, ◌≤◌, ◌⊎◌, ℕ, ◌+◌, ◌^◌, ◌<◌, Bool, false, IsFalse, IsTrue, List, [], ◌∷◌, Some, length}
 use Rattle.fdp_base.specs.declared.config.DriveConfig.{DriveConfig}
 use Rattle.fdp_base.specs.declared.entry.Entry.TheVariants as entries
 use Rattle.fdp_base.specs.Placement.{geometry_of}
@@ -20,6 +20,7 @@ use Rattle.fdp_ledger.specs.Ledger.{IsLedger}
 use Rattle.fdp_loading.specs.Begun.{Begins}
 use Rattle.fdp_keeper.specs.fdp_locations.Stored.{HoldsWritten}
 use Rattle.fdp_keeper.specs.fdp_readings.Drawn.{drawn}
+use Rattle.fdp_loading.specs.JournalRoom.{savings_left}
 use Rattle.fdp_rules.specs.Legal.{IsLegal}
 use Rattle.fdp_keeper.specs.fdp_saving.Said.{AreasSay, ReadsAsOneOf}
 use Rattle.fdp_survival.specs.Apart.{AreSaidApart, StandsApart}
@@ -71,7 +72,7 @@ pub record ReadsAsBegun (c : DriveConfig) (b : BookSeen) (old new : FlashState) 
   pub read : reads_as c old.cells ≡ Some reading
   pub images : Runs old new (λ m image. ReadsAsOneOf c old.cells (reading ∷ drawn c (point_in b) ∷ []) image)
 
--- The drive is saved, with the next epoch: each entry is firm, and nothing is in doubt.
+-- The drive is saved, with the next epoch: each entry is firm, nothing is in doubt, and there are pages for sixteen changes.
 pub record IsSavedBegun (flash : FlashState) (b : BookSeen) (k : KeeperSeen) (epoch : ℕ) : Type 0 where
   pub keeper : IsKeeperOf b k
   pub safe : IsSafe b k.saver k.firm flash
@@ -79,6 +80,7 @@ pub record IsSavedBegun (flash : FlashState) (b : BookSeen) (k : KeeperSeen) (ep
   pub epoch_is : k.saver.stamp.epoch ≡ epoch + 1
   pub few : epoch < 2 ^ 62
   pub sure : k.saver.in_doubt ≡ false
+  pub left : 16 ≤ savings_left b.config k.saver
 
 -- A flash was loaded: a run begins with what stood on it, and its drive is saved. No page of data changed, and the flash counted no program
 -- of one and no fault; whatever a stop left reads as what stood there or as the drive that was opened, stands for the history before the entry of the

@@ -18,18 +18,29 @@ use Rattle.fdp_flash.specs.declared.cell.Cell.{Cell}
 use Rattle.fdp_image.specs.Areas.{Sealed, area_of, current_area, data_pages, sealed_at, sealed_in}
 use Rattle.fdp_image.specs.Reading.{Reading}
 use Rattle.fdp_image.specs.Reads.{reads_as, said_by_area}
+use Rattle.fdp_image.specs.StandsFor.{StandsFor}
 use Rattle.fdp_image.specs.Saving.{SameDataPages}
-use Rattle.fdp_image.specs.Valid.{IsValid}
+use Rattle.fdp_image.specs.Valid.{IsValid, state_in}
 use Rattle.fdp_isolation.specs.Isolated.{IsIsolatedDrive}
 use Rattle.fdp_isolation.specs.Reads.{ReadsApart}
 use Rattle.fdp_isolation.proofs.Readings.{fresh-read, reads-kept, reads-left, says-setting}
-use Rattle.fdp_isolation.proofs.Stopped.{LeavesApart, PutsNone, none-saved, saved-isolated}
-use Rattle.fdp_rules.specs.History.{Found, point_of}
-use Rattle.fdp_survival.specs.Apart.{AreSaidApart, StandsApart}
+use Rattle.fdp_isolation.proofs.Stopped.{LeavesApart, PutsNone, isolated-as, none-saved, saved-isolated}
+use Rattle.fdp_rules.specs.History.{Found, point_of, state_of}
+use Rattle.fdp_survival.specs.Apart.{AreSaidApart, IsApartBy, ReadsIsolated, StandsApart}
 use Rattle.fdp_units.specs.UnitTable.{UnitTable}
 
 one : {X : Type 0} {x y : X} → Some x ≡ Some y → x ≡ y
 one e = cc
+
+-- ---- the history for which an image stands
+
+-- where whatever an image reads as is isolated, it is so by that history
+pub own-apart : (c : DriveConfig) (f : Found) (image : List Cell) (es : List Entry) (stands : StandsFor c f image es) → ReadsIsolated c image → IsApartBy c f image es stands
+own-apart c f image es stands reads unit is used =
+    let shown = stands.says.shows.lasting_part in
+    isolated-as c unit (state_in c image stands.reading) (state_of c f es) image
+    (record { enabled = ap (λ l. l.enabled) (sym shown); index = ap (λ l. l.index) (sym shown); generation = ap (λ l. l.generation) (sym shown) })
+    ((reads stands.reading stands.read).apart unit is used)
 
 -- ---- the readings of the areas
 

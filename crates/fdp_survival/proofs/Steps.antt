@@ -122,7 +122,7 @@ survives-less b most firm from least old now fewer later run = run-less b.config
 
 -- where data stands apart in the cells it is isolated
 pub keeps-isolated : (b : BookSeen) (flash : FlashState) → IsKnown b → flash.geometry ≡ geometry_of b.config → HoldsBook b flash → KeepsApart flash b → KeepsIsolated flash b
-keeps-isolated b flash known geometry stored apart told opened = isolated b flash.cells (stands-over b flash known geometry stored told) (apart told opened)
+keeps-isolated b flash known geometry stored apart told opened = isolated b flash.cells (stands-over b flash known geometry stored told) (apart told opened).laned
 
 -- data stands apart in the cells then
 pub cells-apart : (b : BookSeen) (s : JournalState) (firm : ℕ) (flash : FlashState) → IsSafe b s firm flash → KeepsIsolated flash b → IsTrue flash.told → OpenedApart b.config b.found b.opened → StandsApart b.config b.found b.entries (length b.entries) flash.cells
@@ -239,7 +239,7 @@ module _ (b : BookSeen) (ticket : Ticket) (g : Going) (spot : Spot) (spare bytes
   page-left image told opened left =
       let w = spare-of b g spare named in
       write-left b ticket g w.0 spot bytes old.cells image (stands-over b old order.known geometry stored told) is goes
-      (subst (λ (x : List ℕ). ProgramMayLeave (geometry_of b.config) old.cells spot x bytes image) (sym w.1) (there image left)) (apart told opened)
+      (subst (λ (x : List ℕ). ProgramMayLeave (geometry_of b.config) old.cells spot x bytes image) (sym w.1) (there image left)) (apart told opened).laned
 
   page-isolated : (image : List Cell) → IsTrue old.told → OpenedApart b.config b.found b.opened → ProgramMayLeave old.geometry old.cells spot spare bytes image → IsIsolatedDrive b.config (point_in b) b.entries image
   page-isolated image told opened left = left-isolated b.config (point_in b) b.entries old.cells image (page-left image told opened left) (keeps-isolated b old order.known geometry stored apart told opened)
@@ -317,7 +317,7 @@ module _ (b new : BookSeen) (old now : FlashState) (rg : ℕ) (may_erase : Bool)
             let before : IsTrue old.told = subst IsTrue run.told told in
             left-said b.config b.found b.entries b.pages new.pages rg may_erase s firm old now low order.known.joined order.known.units (written_in b) order.known.led.at order.standing order.known.led.led geometry stored sure was.at now.cells before
             (step-ended b.config b.found b.entries b.pages new.pages rg may_erase s firm old now low order.known.joined order.known.units (written_in b) order.known.led.at order.standing order.known.led.led geometry stored sure was.at step relocates.is before)
-            (book-ended b new old now rg may_erase before geometry low (stands-over b old order.known geometry stored before) (apart before opened) step relocates) (was.apart before opened);
+            (book-ended b new old now rg may_erase before geometry low (stands-over b old order.known geometry stored before) (apart before opened).laned step relocates) (was.apart before opened);
       })
 
   pub survives-relocated : Survives new firm (length b.entries) old now
@@ -328,7 +328,7 @@ module _ (b new : BookSeen) (old now : FlashState) (rg : ℕ) (may_erase : Bool)
       (λ told opened m image above most during.
       left-apart b.config b.found b.entries b.pages new.pages rg may_erase s firm old now low order.known.joined order.known.units (written_in b) order.known.led.at order.standing order.known.led.led geometry stored sure was.at image told
       (run.images told m image above most during)
-      (step-left b new old now rg may_erase told geometry low (stands-over b old order.known geometry stored told) (apart told opened) step relocates m image above most during)
+      (step-left b new old now rg may_erase told geometry low (stands-over b old order.known geometry stored told) (apart told opened).laned step relocates m image above most during)
       (was.apart told opened) (keeps-isolated b old order.known geometry stored apart told opened)))
 
 -- ---- savings

@@ -1,5 +1,5 @@
 -- What a stop leaves of the isolation of a drive.
-use Rattle.std.specs.Prelude.{◌≡◌, ℕ, ◌≤◌, IsTrue, List, Some, length}
+use Rattle.std.specs.Prelude.{◌≡◌, ℕ, ◌≤◌, IsFalse, IsTrue, List, Some, length}
 use Rattle.fdp_base.specs.declared.config.DriveConfig.{DriveConfig}
 use Rattle.fdp_base.specs.declared.entry.Entry.{Entry}
 use Rattle.fdp_durability.specs.fdp_journal.JournalState.{JournalState}
@@ -8,13 +8,16 @@ use Rattle.fdp_durability.specs.fdp_saving.Saver.{other_area}
 use Rattle.fdp_flash.specs.declared.cell.Cell.{Cell}
 use Rattle.fdp_flash.specs.FlashState.{FlashState}
 use Rattle.fdp_flash.specs.Runs.{Runs}
-use Rattle.fdp_image.specs.Isolation.{IsIsolatedImage}
+use Rattle.fdp_image.specs.Isolation.{IsIsolated, IsIsolatedImage}
 use Rattle.fdp_image.specs.Kept.{IsBeginning}
 use Rattle.fdp_image.specs.Reading.{Reading}
 use Rattle.fdp_image.specs.Reads.{reads_as}
+use Rattle.fdp_image.specs.Roomy.{is_unused}
+use Rattle.fdp_image.specs.StandsFor.{StandsFor}
 use Rattle.fdp_isolation.specs.Isolated.{IsIsolatedDrive}
 use Rattle.fdp_isolation.specs.Reads.{ReadsApart}
-use Rattle.fdp_rules.specs.History.{Found, point_of}
+use Rattle.fdp_rules.specs.History.{Found, point_of, state_of}
+use Rattle.fdp_rules.specs.Step.{IsDataUnit}
 
 -- what the area of a saver says is isolated, and what the other one says where it is current
 pub record AreSaidApart (c : DriveConfig) (s : JournalState) (cells : List Cell) : Type 0 where
@@ -34,6 +37,10 @@ pub record StandsApart (c : DriveConfig) (f : Found) (es : List Entry) (from : �
   pub enough : from ≤ length kept
   pub drive : IsIsolatedDrive c (point_of c f kept) kept image
   pub read : ReadsIsolated c image
+
+-- data is isolated in an image by the very history for which it stands: so is each data unit in which a block stands that this history has
+abbrev pub IsApartBy : (c : DriveConfig) (f : Found) (image : List Cell) (es : List Entry) → StandsFor c f image es → Type 0
+IsApartBy c f image es stands = (unit : ℕ) → IsDataUnit c unit → IsFalse (is_unused c stands.reading unit) → IsIsolated c (state_of c f es) image unit
 
 -- What a call promises of the data in what a stop leaves, with the number of entries at its entry: data stands apart in each image, and, by all
 -- entries, in the cells at its exit.

@@ -7,7 +7,8 @@ use Rattle.fdp_history.specs.Listed.{IsListed}
 use Rattle.fdp_history.specs.Standing.{IsStanding}
 use Rattle.fdp_isolation.specs.Begun.{OpenedApart}
 use Rattle.fdp_isolation.specs.Isolated.{IsIsolatedDrive}
-use Rattle.fdp_isolation.specs.Laned.{AreLaned, IsKnown}
+use Rattle.fdp_isolation.specs.Apart.{AreApart}
+use Rattle.fdp_isolation.specs.Laned.{IsKnown}
 use Rattle.fdp_durability.specs.fdp_journal.JournalState.{JournalState}
 use Rattle.fdp_survival.specs.Safe.{IsSafeApart, IsSafeImage}
 
@@ -17,9 +18,9 @@ pub record IsInOrder (b : BookSeen) : Type 0 where
   pub standing : IsStanding b.config (point_in b)
   pub listed : IsListed b.config (state_in b)
 
--- where the cells are told, and kept the data apart when the run began, data stands apart in them
+-- where the cells are told, and kept the data apart when the run began, data stands apart in them, and what had been used then is left alone
 abbrev pub KeepsApart : FlashState → BookSeen → Type 0
-KeepsApart flash b = IsTrue flash.told → OpenedApart b.config b.found b.opened → AreLaned b flash.cells
+KeepsApart flash b = IsTrue flash.told → OpenedApart b.config b.found b.opened → AreApart b flash.cells
 
 -- and there it is isolated by the history of a book
 abbrev pub KeepsIsolated : FlashState → BookSeen → Type 0

@@ -87,11 +87,11 @@ returns-clause-uses g c =
     (λ told opened cells.
     let ends = completed g c k.going (here g c) in
     let f = g.F.Flash.state inside.flash in
-    let laned = c.self.invariant.sound.apart told opened in
+    let apart = c.self.invariant.sound.apart told opened in
     isolated-later inside.book c.end-done.new.self _ (order g c).known
     (record { config = c.known-2.ensures.config; orderly = c.known-2.ensures.orderly; units = c.known-2.ensures.units; joined = c.known-2.ensures.joined; led = c.known-2.ensures.led; generation = c.known-2.ensures.generation })
-    laned.placed
-    (answered-quiet inside.book c.end-done.new.self c.args.ticket.queue k.going.number k.going.command (bare c.args.status false) f.moment c.end-done.result f.cells (order g c).known c.known-2.ensures.led ends refl laned.placed)
+    apart.laned.placed
+    (answered-quiet inside.book c.end-done.new.self c.args.ticket.queue k.going.number k.going.command (bare c.args.status false) f.moment c.end-done.result f.cells (order g c).known c.known-2.ensures.led ends refl apart.laned.placed)
     (λ unit. refl)
     (answered-owned inside.book c.end-done.new.self c.args.ticket.queue k.going.number k.going.command (bare c.args.status false) f.moment c.end-done.result f.cells (order g c).known c.known-2.ensures.led ends refl) cells)
 

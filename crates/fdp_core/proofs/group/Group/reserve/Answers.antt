@@ -2,7 +2,7 @@ use Rattle.std.proofs.Common.{refl, subst, sym}
 use Rattle.fdp_relocation.specs.fdp_book.Book.{BookSeen}
 use Rattle.fdp_core.specs.Sound.{IsWhole}
 use Rattle.fdp_core.proofs.Kept.{kept-alike}
-use Rattle.fdp_loading.proofs.fdp_isolation.Alike.{laned-alike}
+use Rattle.fdp_loading.proofs.fdp_isolation.Apart as isolation
 use Rattle.fdp_loading.proofs.fdp_ledger.Alike.{ledger-alike}
 use Rattle.fdp_core.proofs.group.Group.reserve.Goals as goal
 use Rattle.fdp_roominess.proofs.Runs.{keeps-alike}
@@ -19,7 +19,7 @@ invariant_of-self g c =
         geometry = so.geometry;
         legal = so.legal;
         stored = so.stored;
-        apart = λ tells opened. laned-alike old.book now f.cells refl refl refl refl (so.apart tells opened);
+        apart = λ tells opened. isolation.alike old.book now f.cells refl refl refl refl refl (so.apart tells opened);
         ledger = ledger-alike old.handed old.book now f refl refl refl refl refl so.ledger;
         room = keeps-alike old.handed.faults f.faults f.told old.book now refl refl refl refl refl so.room;
         buffer = so.buffer;
