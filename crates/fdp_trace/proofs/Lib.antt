@@ -1,6 +1,5 @@
 pub mod Cutting
 pub mod Fronts
-pub mod ReadText
 pub mod Steps
 pub mod Printed
 pub mod Repeats
@@ -13,3 +12,4 @@ pub mod Finding
 pub mod Meaning
 pub mod Telling
 pub mod Answering
+pub mod Wanting

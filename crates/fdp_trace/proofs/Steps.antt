@@ -1,12 +1,14 @@
 -- A trace that is read line by line, as a loop does.
-use Rattle.std.proofs.Common.{◌≡◌, ℕ, ◌+◌, Bool, true, false, List, [], ◌∷◌, ◌++◌, Option, Some, None, Result, Ok, Err, refl, sym, ap, ◌∙◌, append_assoc, ◌||◌, ◌≤◌, ltb, ◌==◌, length}
+use Rattle.std.proofs.Common.{◌≡◌, ℕ, ◌+◌, Bool, true, false, List, [], ◌∷◌, ◌++◌, Option, Some, None, Result, Ok, Err, refl, sym, ap, ◌∙◌, append_assoc, ◌||◌, ◌≤◌, inl, ltb, ◌==◌, length}
 use Rattle.std.specs.Str.Lines.{lines}
 use Rattle.std.proofs.lemmas.Bool.{eqb-true, ltb-false}
 use Rattle.std.proofs.lemmas.List.{append-nil, nil_from_length}
 use Rattle.fdp_base.specs.declared.command.Command.{Command}
 use Rattle.fdp_trace.specs.declared.fault.FaultKind.{FaultKind}
 use Rattle.fdp_trace.specs.declared.fault.FaultKind.TheVariants as kinds
-use Rattle.fdp_trace.proofs.ReadText.{Tally, line_more, command_more, is_too_much, in_front, after_line, trace_from, ReadsTrace}
+use Rattle.fdp_trace.specs.Reader.Trace.{Tally, line_more, command_more, is_too_much, in_front, after_line, trace_from, trace_of, ReadsLines}
+use Rattle.std.specs.Global.{Vec}
+use Rattle.fdp_trace.specs.Grammar.{SaysNext}
 use Rattle.fdp_trace.specs.Reader.Line.{line_of, ReadsLine}
 use Rattle.fdp_trace.specs.declared.fault.TraceFault.{TraceFault}
 use Rattle.fdp_trace.specs.declared.fault.TraceFault.TheVariants as faults
@@ -62,11 +64,12 @@ pub no_line : (front : List Command) (t : Tally) (total : Outcome) → with_comm
 unfolding trace_from
 no_line front t total so_far = sym so_far ∙ ap Ok (append-nil front)
 
-pub fault_line : (e : TraceFault) (front : List Command) (t : Tally) (texts : List (List ℕ)) (line : List ℕ) (later : List (List ℕ)) (total : Outcome) → texts ≡ line ∷ later
-    → ReadsLine (t.lines + 1) (line_of line) (Err e) → with_commands front (trace_from t texts) ≡ total → ReadsTrace total (Err e)
-fault_line (faults.Line at kind) front t texts line later total cut read so_far =
-    bad_line front t texts line later total kind cut read.1 so_far ∙ ap (λ (n : ℕ). Err (n, kind)) (sym read.0)
-fault_line faults.NoMemory front t texts line later total cut read so_far = tt
+pub fault_line : (e : TraceFault) (text : List ℕ) (commands : Vec Command) (t : Tally) (texts : List (List ℕ)) (line : List ℕ) (later : List (List ℕ)) → texts ≡ line ∷ later
+    → ReadsLine (t.lines + 1) (line_of line) (Err e) → with_commands commands.items (trace_from t texts) ≡ trace_of text
+    → ((command : Command) → line_of line ≡ Ok (Some command) → SaysNext text commands.items command) → ReadsLines text commands (Err e)
+fault_line (faults.Line at kind) text commands t texts line later cut read so_far says =
+    bad_line commands.items t texts line later (trace_of text) kind cut read.1 so_far ∙ ap (λ (n : ℕ). Err (n, kind)) (sym read.0)
+fault_line faults.NoMemory text commands t texts line later cut (command, is, listed) so_far says = (command, says command is, inl listed)
 
 pub rest_done : (front : List Command) (t : Tally) (rest : List ℕ) (total : Outcome) → (length rest == 0) ≡ true
     → with_commands front (trace_from t (lines rest)) ≡ total → total ≡ Ok front

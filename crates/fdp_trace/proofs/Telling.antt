@@ -14,7 +14,7 @@ use Rattle.fdp_trace.specs.declared.fault.FaultKind.TheVariants as kinds
 use Rattle.fdp_trace.specs.Words.{words_of}
 use Rattle.fdp_trace.specs.Reader.Reading.{◌>>=◌}
 use Rattle.fdp_trace.specs.Reader.Commands.{command_of}
-use Rattle.fdp_trace.proofs.ReadText.{Tally, line_more, command_more, is_too_much, in_front, after_line, trace_from, trace_of}
+use Rattle.fdp_trace.specs.Reader.Trace.{Tally, line_more, command_more, is_too_much, in_front, after_line, trace_from, trace_of}
 use Rattle.fdp_trace.specs.Reader.Line.{line_of}
 use Rattle.fdp_trace.specs.Demands.{WordsLack}
 use Rattle.fdp_trace.specs.Grammar.{is_skipped, IsReadable, Says, LineLacks, AreFew, IsTraceOf, IsBad, IsFaultOf}
@@ -96,7 +96,7 @@ words_come : (line : List ℕ) (r : Result Command FaultKind) → is_skipped lin
 words_come line (Ok command) shown reads spells = (shown, (reads, spells))
 words_come line (Err kind) shown reads lack = (shown, lack_of_words line kind reads lack)
 
-line_comes : (line : List ℕ) → LineComesTo line (line_of line)
+pub line_comes : (line : List ℕ) → LineComesTo line (line_of line)
 unfolding line_of
 line_comes line = elim (cases_Bool (is_skipped line)) [
   | inl hidden ↦ subst (LineComesTo line) (sym (skipped_is line hidden)) hidden
@@ -115,7 +115,7 @@ line_comes line = elim (cases_Bool (is_skipped line)) [
 
 -- ---- the lines of a text
 
-abbrev shown_lines : List (List ℕ) → List (List ℕ)
+abbrev pub shown_lines : List (List ℕ) → List (List ℕ)
 shown_lines ls = filter (λ line. not (is_skipped line)) ls
 
 -- few enough behind what was counted
@@ -146,10 +146,10 @@ few_rest t command commands few = let e = sum_by-cons blocks_read command comman
 few_more : (t : Tally) (command : Command) (commands : List Command) → AreFewFrom (command_more t command) commands → AreFewFrom t (command ∷ commands)
 few_more t command commands few = let e = sum_by-cons blocks_read command commands in (omega (arith, few.0), omega (arith, few.1, e))
 
-hidden_line : (line : List ℕ) (ls : List (List ℕ)) → is_skipped line ≡ true → shown_lines (line ∷ ls) ≡ shown_lines ls
+pub hidden_line : (line : List ℕ) (ls : List (List ℕ)) → is_skipped line ≡ true → shown_lines (line ∷ ls) ≡ shown_lines ls
 hidden_line line ls hidden = rw hidden refl
 
-shown_line : (line : List ℕ) (ls : List (List ℕ)) → is_skipped line ≡ false → shown_lines (line ∷ ls) ≡ line ∷ shown_lines ls
+pub shown_line : (line : List ℕ) (ls : List (List ℕ)) → is_skipped line ≡ false → shown_lines (line ∷ ls) ≡ line ∷ shown_lines ls
 shown_line line ls shown = rw shown refl
 
 -- the lines from one on, where it has no command

@@ -61,3 +61,13 @@ pub record IsFaultOf (text : List ℕ) (number : ℕ) (kind : FaultKind) : Type 
   pub say : Say front commands
   pub shown : is_skipped line ≡ false
   pub bad : IsBad commands line kind
+
+-- a line of a text says a command, and the lines in front of it say others
+pub record SaysNext (text : List ℕ) (before : List Command) (command : Command) : Type 0 where
+  pub front : List (List ℕ)
+  pub line : List ℕ
+  pub later : List (List ℕ)
+  pub cut : lines text ≡ front ++ line ∷ later
+  pub say : Say front before
+  pub shown : is_skipped line ≡ false
+  pub says : Says line command

@@ -1,9 +1,9 @@
-//! The commands of lines, from the words behind the first.
+//! The commands of lines, from the words behind the first. Those without a list take no memory.
 
 ghost use Rattle.std.specs.Prelude.{◌≡◌, ◌≤◌, ℕ, IfOk, codes};
 ghost use Rattle.fdp_trace.specs.Words.{words_of};
-ghost use Rattle.fdp_trace.specs.Reader.Reading.{Gives, field};
-ghost use Rattle.fdp_trace.specs.Reader.Commands.{field_8, field_16, field_32, field_64, field_count, choice, directive, class_of, write_of, read_of, zero_of, dealloc_of, flush_of, delete_of, status_of, update_of, log_of, set_fdp_of, set_events_of, create_of, spelled};
+ghost use Rattle.fdp_trace.specs.Reader.Reading.{Gives, Reads, field};
+ghost use Rattle.fdp_trace.specs.Reader.Commands.{field_8, field_16, field_32, field_64, field_count, choice, directive, class_of, write_of, read_of, zero_of, dealloc_of, flush_of, delete_of, status_of, update_of, log_of, set_fdp_of, set_events_of, create_of, spelled, listed};
 
 use crate::command_word::{CommandWord, is_text};
 use crate::fault::{FaultKind, LineError};
@@ -18,8 +18,8 @@ use fdp_base::{
 use std::alloc::Global;
 
 #[tactic(auto, unfolding(crate::specs::Reader::Reading::field))]
-fn field(line: &[u8], low: u64, high: u64) -> Result<(u64, &[u8]), LineError>
-    ensures gives { Gives (λ x. (x.0, words_of x.1.now)) result (field low high (words_of line.now)) }
+fn field(line: &[u8], low: u64, high: u64) -> Result<(u64, &[u8]), FaultKind>
+    ensures gives { Reads (λ x. (x.0, words_of x.1.now)) result (field low high (words_of line.now)) }
     ensures bounds { IfOk result (λ x. (low ≤ x.0) × (x.0 ≤ high)) }
 {
     match next_word(line) {
@@ -27,58 +27,58 @@ fn field(line: &[u8], low: u64, high: u64) -> Result<(u64, &[u8]), LineError>
             let number = within(word, low, high)?;
             Ok((number, rest))
         }
-        None => Err(LineError::Fault(FaultKind::Count)),
+        None => Err(FaultKind::Count),
     }
 }
 
-fn field_8(line: &[u8]) -> Result<(u8, &[u8]), LineError>
-    ensures { Gives (λ x. (x.0, words_of x.1.now)) result (field_8 (words_of line.now)) }
+fn field_8(line: &[u8]) -> Result<(u8, &[u8]), FaultKind>
+    ensures { Reads (λ x. (x.0, words_of x.1.now)) result (field_8 (words_of line.now)) }
 {
     let (number, rest) = field(line, 0, 0xff)?;
     Ok((number as u8, rest))
 }
 
-fn field_16(line: &[u8]) -> Result<(u16, &[u8]), LineError>
-    ensures { Gives (λ x. (x.0, words_of x.1.now)) result (field_16 (words_of line.now)) }
+fn field_16(line: &[u8]) -> Result<(u16, &[u8]), FaultKind>
+    ensures { Reads (λ x. (x.0, words_of x.1.now)) result (field_16 (words_of line.now)) }
 {
     let (number, rest) = field(line, 0, 0xffff)?;
     Ok((number as u16, rest))
 }
 
-pub fn field_32(line: &[u8]) -> Result<(u32, &[u8]), LineError>
-    ensures { Gives (λ x. (x.0, words_of x.1.now)) result (field_32 (words_of line.now)) }
+pub fn field_32(line: &[u8]) -> Result<(u32, &[u8]), FaultKind>
+    ensures { Reads (λ x. (x.0, words_of x.1.now)) result (field_32 (words_of line.now)) }
 {
     let (number, rest) = field(line, 0, 0xffff_ffff)?;
     Ok((number as u32, rest))
 }
 
-pub fn field_64(line: &[u8]) -> Result<(u64, &[u8]), LineError>
-    ensures { Gives (λ x. (x.0, words_of x.1.now)) result (field_64 (words_of line.now)) }
+pub fn field_64(line: &[u8]) -> Result<(u64, &[u8]), FaultKind>
+    ensures { Reads (λ x. (x.0, words_of x.1.now)) result (field_64 (words_of line.now)) }
 {
     let (number, rest) = field(line, 0, u64::MAX)?;
     Ok((number, rest))
 }
 
-fn field_count(line: &[u8]) -> Result<(u32, &[u8]), LineError>
-    ensures { Gives (λ x. (x.0, words_of x.1.now)) result (field_count (words_of line.now)) }
+fn field_count(line: &[u8]) -> Result<(u32, &[u8]), FaultKind>
+    ensures { Reads (λ x. (x.0, words_of x.1.now)) result (field_count (words_of line.now)) }
 {
     let (number, rest) = field(line, 1, MOST_AMOUNT)?;
     Ok((number as u32, rest))
 }
 
 #[tactic(auto, unfolding(crate::specs::Reader::Commands::choice))]
-fn is_on(line: &[u8]) -> Result<(bool, &[u8]), LineError>
-    ensures { Gives (λ x. (x.0, words_of x.1.now)) result (choice (codes "on") (words_of line.now)) }
+fn is_on(line: &[u8]) -> Result<(bool, &[u8]), FaultKind>
+    ensures { Reads (λ x. (x.0, words_of x.1.now)) result (choice (codes "on") (words_of line.now)) }
 {
     match next_word(line) {
         Some((word, rest)) => Ok((is_text(word, b"on"), rest)),
-        None => Err(LineError::Fault(FaultKind::Count)),
+        None => Err(FaultKind::Count),
     }
 }
 
 #[tactic(auto, unfolding(crate::specs::Reader::Commands::directive))]
-fn directive(line: &[u8]) -> Result<(u8, u16), LineError>
-    ensures { Gives (λ x. x) result (directive (words_of line.now)) }
+fn directive(line: &[u8]) -> Result<(u8, u16), FaultKind>
+    ensures { result ≡ directive (words_of line.now) }
 {
     match next_word(line) {
         Some((_, rest)) => {
@@ -90,18 +90,18 @@ fn directive(line: &[u8]) -> Result<(u8, u16), LineError>
 }
 
 #[tactic(auto, unfolding(crate::specs::Reader::Commands::class_of))]
-fn class(line: &[u8]) -> Result<u8, LineError>
-    ensures { Gives (λ x. x) result (class_of (words_of line.now)) }
+fn class(line: &[u8]) -> u8
+    ensures { class_of (words_of line.now) ≡ Ok result }
 {
     match next_word(line) {
-        Some((word, _)) if is_text(word, b"host") => Ok(1),
-        _ => Ok(0),
+        Some((word, _)) if is_text(word, b"host") => 1,
+        _ => 0,
     }
 }
 
 #[tactic(auto, unfolding(crate::specs::Reader::Commands::write_of))]
-fn write(line: &[u8]) -> Result<Command, LineError>
-    ensures { Gives (λ c. c) result (write_of (words_of line.now)) }
+fn write(line: &[u8]) -> Result<Command, FaultKind>
+    ensures { result ≡ write_of (words_of line.now) }
 {
     let (nsid, rest) = field_32(line)?;
     let (slba, rest) = field_64(rest)?;
@@ -120,8 +120,8 @@ fn write(line: &[u8]) -> Result<Command, LineError>
 }
 
 #[tactic(auto, unfolding(crate::specs::Reader::Commands::read_of))]
-fn read(line: &[u8]) -> Result<Command, LineError>
-    ensures { Gives (λ c. c) result (read_of (words_of line.now)) }
+fn read(line: &[u8]) -> Result<Command, FaultKind>
+    ensures { result ≡ read_of (words_of line.now) }
 {
     let (nsid, rest) = field_32(line)?;
     let (slba, rest) = field_64(rest)?;
@@ -130,8 +130,8 @@ fn read(line: &[u8]) -> Result<Command, LineError>
 }
 
 #[tactic(auto, unfolding(crate::specs::Reader::Commands::zero_of))]
-fn zero(line: &[u8]) -> Result<Command, LineError>
-    ensures { Gives (λ c. c) result (zero_of (words_of line.now)) }
+fn zero(line: &[u8]) -> Result<Command, FaultKind>
+    ensures { result ≡ zero_of (words_of line.now) }
 {
     let (nsid, rest) = field_32(line)?;
     let (slba, rest) = field_64(rest)?;
@@ -141,7 +141,7 @@ fn zero(line: &[u8]) -> Result<Command, LineError>
 
 #[tactic(auto, unfolding(crate::specs::Reader::Commands::dealloc_of))]
 fn dealloc(alloc: Global, line: &[u8]) -> Result<Command, LineError>
-    ensures { Gives (λ c. c) result (dealloc_of (words_of line.now)) }
+    ensures { Gives listed result (dealloc_of (words_of line.now)) }
 {
     let (nsid, rest) = field_32(line)?;
     let ranges = ranges(alloc, rest)?;
@@ -154,24 +154,24 @@ fn dealloc(alloc: Global, line: &[u8]) -> Result<Command, LineError>
 }
 
 #[tactic(auto, unfolding(crate::specs::Reader::Commands::flush_of))]
-fn flush(line: &[u8]) -> Result<Command, LineError>
-    ensures { Gives (λ c. c) result (flush_of (words_of line.now)) }
+fn flush(line: &[u8]) -> Result<Command, FaultKind>
+    ensures { result ≡ flush_of (words_of line.now) }
 {
     let (nsid, _) = field_32(line)?;
     Ok(Command::Flush(Flush { nsid }))
 }
 
 #[tactic(auto, unfolding(crate::specs::Reader::Commands::delete_of))]
-fn delete(line: &[u8]) -> Result<Command, LineError>
-    ensures { Gives (λ c. c) result (delete_of (words_of line.now)) }
+fn delete(line: &[u8]) -> Result<Command, FaultKind>
+    ensures { result ≡ delete_of (words_of line.now) }
 {
     let (nsid, _) = field_32(line)?;
     Ok(Command::Delete(Delete { nsid }))
 }
 
 #[tactic(auto, unfolding(crate::specs::Reader::Commands::status_of))]
-fn status(line: &[u8]) -> Result<Command, LineError>
-    ensures { Gives (λ c. c) result (status_of (words_of line.now)) }
+fn status(line: &[u8]) -> Result<Command, FaultKind>
+    ensures { result ≡ status_of (words_of line.now) }
 {
     let (nsid, rest) = field_32(line)?;
     let (dwords, _) = field_count(rest)?;
@@ -184,7 +184,7 @@ fn status(line: &[u8]) -> Result<Command, LineError>
 
 #[tactic(auto, unfolding(crate::specs::Reader::Commands::update_of))]
 fn update(alloc: Global, line: &[u8]) -> Result<Command, LineError>
-    ensures { Gives (λ c. c) result (update_of (words_of line.now)) }
+    ensures { Gives listed result (update_of (words_of line.now)) }
 {
     let (nsid, rest) = field_32(line)?;
     let pids = identifiers(alloc, rest)?;
@@ -193,13 +193,13 @@ fn update(alloc: Global, line: &[u8]) -> Result<Command, LineError>
 }
 
 #[tactic(auto, unfolding(crate::specs::Reader::Commands::log_of))]
-fn log(line: &[u8]) -> Result<Command, LineError>
-    ensures { Gives (λ c. c) result (log_of (words_of line.now)) }
+fn log(line: &[u8]) -> Result<Command, FaultKind>
+    ensures { result ≡ log_of (words_of line.now) }
 {
     let (lid, rest) = field_8(line)?;
     let (offset, rest) = field_64(rest)?;
     let (dwords, rest) = field_count(rest)?;
-    let lsp = class(rest)?;
+    let lsp = class(rest);
     let group = 1;
     Ok(Command::Log(GetLog {
         lid,
@@ -211,8 +211,8 @@ fn log(line: &[u8]) -> Result<Command, LineError>
 }
 
 #[tactic(auto, unfolding(crate::specs::Reader::Commands::set_fdp_of))]
-fn set_fdp(line: &[u8]) -> Result<Command, LineError>
-    ensures { Gives (λ c. c) result (set_fdp_of (words_of line.now)) }
+fn set_fdp(line: &[u8]) -> Result<Command, FaultKind>
+    ensures { result ≡ set_fdp_of (words_of line.now) }
 {
     let (enable, rest) = is_on(line)?;
     let (index, _) = field_8(rest)?;
@@ -225,7 +225,7 @@ fn set_fdp(line: &[u8]) -> Result<Command, LineError>
 
 #[tactic(auto, unfolding(crate::specs::Reader::Commands::set_events_of))]
 fn set_events(alloc: Global, line: &[u8]) -> Result<Command, LineError>
-    ensures { Gives (λ c. c) result (set_events_of (words_of line.now)) }
+    ensures { Gives listed result (set_events_of (words_of line.now)) }
 {
     let (nsid, rest) = field_32(line)?;
     let (handle, rest) = field_16(rest)?;
@@ -241,7 +241,7 @@ fn set_events(alloc: Global, line: &[u8]) -> Result<Command, LineError>
 
 #[tactic(auto, unfolding(crate::specs::Reader::Commands::create_of))]
 fn create(alloc: Global, line: &[u8]) -> Result<Command, LineError>
-    ensures { Gives (λ c. c) result (create_of (words_of line.now)) }
+    ensures { Gives listed result (create_of (words_of line.now)) }
 {
     let (size, rest) = field_64(line)?;
     let list = identifiers(alloc, rest)?;
@@ -251,21 +251,21 @@ fn create(alloc: Global, line: &[u8]) -> Result<Command, LineError>
 
 /// The command of a line of this word, with the words behind it.
 pub fn spelled(alloc: Global, word: CommandWord, line: &[u8]) -> Result<Command, LineError>
-    ensures { Gives (λ c. c) result (spelled word (words_of line.now)) }
+    ensures { Gives listed result (spelled word (words_of line.now)) }
 {
     match word {
-        CommandWord::Write => write(line),
-        CommandWord::Read => read(line),
-        CommandWord::Zero => zero(line),
+        CommandWord::Write => Ok(write(line)?),
+        CommandWord::Read => Ok(read(line)?),
+        CommandWord::Zero => Ok(zero(line)?),
         CommandWord::Dealloc => dealloc(alloc, line),
-        CommandWord::Flush => flush(line),
-        CommandWord::Status => status(line),
+        CommandWord::Flush => Ok(flush(line)?),
+        CommandWord::Status => Ok(status(line)?),
         CommandWord::Update => update(alloc, line),
-        CommandWord::Log => log(line),
-        CommandWord::SetFdp => set_fdp(line),
+        CommandWord::Log => Ok(log(line)?),
+        CommandWord::SetFdp => Ok(set_fdp(line)?),
         CommandWord::GetFdp => Ok(Command::GetFdp(GetFdp { group: 1 })),
         CommandWord::SetEvents => set_events(alloc, line),
         CommandWord::Create => create(alloc, line),
-        CommandWord::Delete => delete(line),
+        CommandWord::Delete => Ok(delete(line)?),
     }
 }

@@ -1,5 +1,5 @@
 ghost use Rattle.std.specs.Prelude.{◌≡◌};
-ghost use Rattle.fdp_trace.specs.declared.fault.LineError.TheVariants.{Memory};
+ghost use Rattle.fdp_trace.specs.declared.fault.LineError.TheVariants.{Fault, Memory};
 
 use std::alloc::{AllocError, AllocFailed};
 
@@ -67,11 +67,19 @@ impl<T: Drop> From<AllocFailed<T>> for TraceFault {
     }
 }
 
-/// Why a line was not read.
+/// Why a line was not read. What only judges a line answers a `FaultKind`, which cannot tell want of memory.
 #[derive(Clone, Copy, Debug, PartialEq, Eq)]
 pub enum LineError {
     Memory,
     Fault(FaultKind),
+}
+
+impl From<FaultKind> for LineError {
+    ghost from_gives = { λ kind e. e ≡ Fault kind };
+
+    fn from(kind: FaultKind) -> LineError {
+        LineError::Fault(kind)
+    }
 }
 
 impl From<AllocError> for LineError {

@@ -1,12 +1,12 @@
-ghost use Rattle.std.specs.Prelude.{◌≡◌, ℕ};
+ghost use Rattle.std.specs.Prelude.{◌≡◌, ℕ, MatchResult};
 ghost use Rattle.std.specs.List.{list_all};
 ghost use Rattle.std.specs.Str.{is_utf8};
 ghost use Rattle.fdp_trace.specs.Words.{is_blank, words_of};
 ghost use Rattle.fdp_trace.specs.Reader.Shapes.{words_fit, numbers_fit};
 ghost use Rattle.fdp_trace.specs.Reader.Reading.{Gives};
-ghost use Rattle.fdp_trace.specs.Reader.Commands.{checked, command_of};
+ghost use Rattle.fdp_trace.specs.Reader.Commands.{checked, command_of, spelled};
 ghost use Rattle.fdp_trace.specs.Grammar.{is_skipped};
-ghost use Rattle.fdp_trace.specs.Reader.Line.{line_of};
+ghost use Rattle.fdp_trace.specs.Reader.Line.{line_of, listed_in};
 
 use crate::command_word::CommandWord;
 use crate::commands::spelled;
@@ -17,10 +17,10 @@ use fdp_base::{Command, LONGEST_LINE};
 use std::alloc::Global;
 use std::str;
 
-/// The command of a line, or none where the line is skipped.
+/// The command of a line, or none where the line is skipped. Memory is taken for its list alone, once nothing of the line is wrong.
 #[tactic(auto, unfolding(crate::specs::Reader::Line::line_of))]
 pub fn read_line(alloc: Global, line: &[u8]) -> Result<Option<Command>, LineError>
-    ensures { Gives (λ c. c) result (line_of line.now) }
+    ensures { Gives listed_in result (line_of line.now) }
 {
     if is_skipped(line) {
         return Ok(None);
@@ -31,7 +31,8 @@ pub fn read_line(alloc: Global, line: &[u8]) -> Result<Option<Command>, LineErro
     if !is_text(line) {
         return Err(LineError::Fault(FaultKind::Utf8));
     }
-    let command = command(alloc, line)?;
+    let (word, rest) = judged(line)?;
+    let command = spelled(alloc, word, rest)?;
     Ok(Some(command))
 }
 
@@ -56,33 +57,40 @@ fn is_text(line: &[u8]) -> bool
     }
 }
 
-#[tactic(auto, unfolding(crate::specs::Reader::Commands::command_of))]
-fn command(alloc: Global, line: &[u8]) -> Result<Command, LineError>
-    ensures { Gives (λ c. c) result (command_of (words_of line.now)) }
+/// The first word of a line and what stands behind it, where no word, count or number is wrong.
+#[tactic(auto, unfolding(crate::specs::Reader::Commands::checked))]
+fn judged(line: &[u8]) -> Result<(CommandWord, &[u8]), FaultKind>
+    ensures { MatchResult result
+        (λ x. command_of (words_of line.now) ≡ spelled x.0 (words_of x.1.now))
+        (λ kind. command_of (words_of line.now) ≡ Err kind) }
 {
-    let Some((first, rest)) = next_word(line) else {
-        return Err(LineError::Fault(FaultKind::Word));
-    };
-    let Some(word) = CommandWord::from_text(first) else {
-        return Err(LineError::Fault(FaultKind::Word));
-    };
-    checked(alloc, word, rest)
+    let (word, rest) = named(line)?;
+    if !word.accepts(count_words(rest)) {
+        return Err(FaultKind::Count);
+    }
+    if !words_fit(word, rest) {
+        return Err(FaultKind::Word);
+    }
+    if !numbers_fit(word, rest) {
+        return Err(FaultKind::Number);
+    }
+    Ok((word, rest))
 }
 
-#[tactic(auto, unfolding(crate::specs::Reader::Commands::checked))]
-fn checked(alloc: Global, word: CommandWord, line: &[u8]) -> Result<Command, LineError>
-    ensures { Gives (λ c. c) result (checked word (words_of line.now)) }
+/// The first word of a line and what stands behind it.
+#[tactic(auto, unfolding(crate::specs::Reader::Commands::command_of))]
+fn named(line: &[u8]) -> Result<(CommandWord, &[u8]), FaultKind>
+    ensures { MatchResult result
+        (λ x. command_of (words_of line.now) ≡ checked x.0 (words_of x.1.now))
+        (λ kind. command_of (words_of line.now) ≡ Err kind) }
 {
-    if !word.accepts(count_words(line)) {
-        return Err(LineError::Fault(FaultKind::Count));
+    let Some((first, rest)) = next_word(line) else {
+        return Err(FaultKind::Word);
+    };
+    match CommandWord::from_text(first) {
+        Some(word) => Ok((word, rest)),
+        None => Err(FaultKind::Word),
     }
-    if !words_fit(word, line) {
-        return Err(LineError::Fault(FaultKind::Word));
-    }
-    if !numbers_fit(word, line) {
-        return Err(LineError::Fault(FaultKind::Number));
-    }
-    spelled(alloc, word, line)
 }
 
 #[tactic(auto, unfolding(crate::specs::Reader::Shapes::words_fit))]

@@ -4,23 +4,23 @@ ghost use Rattle.std.specs.Option.{option_map};
 ghost use Rattle.std.specs.Char.{digit_value, is_ascii_digit, is_ascii_hexdigit};
 ghost use Rattle.fdp_trace.specs.Numbers.{value_of};
 ghost use Rattle.fdp_trace.specs.Reader.NumberOf.{is_decimal, is_hexadecimal, number_of};
-ghost use Rattle.fdp_trace.specs.Reader.Reading.{Gives, within};
+ghost use Rattle.fdp_trace.specs.Reader.Reading.{within};
 
-use crate::fault::{FaultKind, LineError};
+use crate::fault::FaultKind;
 
 /// One above the greatest number that a line may have.
 const LIMIT: u128 = 0x1_0000_0000_0000_0000;
 
 /// The number that a word spells, within bounds.
-pub fn within(word: &[u8], low: u64, high: u64) -> Result<u64, LineError>
-    ensures gives { Gives (λ n. n) result (within low high word.now) }
+pub fn within(word: &[u8], low: u64, high: u64) -> Result<u64, FaultKind>
+    ensures value { result ≡ within low high word.now }
     ensures bounds { IfOk result (λ n. (low ≤ n) × (n ≤ high)) }
 {
     let Some(number) = number(word) else {
-        return Err(LineError::Fault(FaultKind::Number));
+        return Err(FaultKind::Number);
     };
     if number < u128::from(low) || number > u128::from(high) {
-        return Err(LineError::Fault(FaultKind::Range));
+        return Err(FaultKind::Range);
     }
     Ok(number as u64)
 }

@@ -1,9 +1,10 @@
-ghost use Rattle.std.specs.Prelude.{◌≡◌, ℕ, ◌<◌, ◌||◌, List, ◌∷◌, nat_lt, length, IfOk, IfErr};
+ghost use Rattle.std.specs.Prelude.{◌≡◌, ℕ, ◌<◌, [], ◌||◌, List, ◌∷◌, nat_lt, length, IfOk, IfErr};
 ghost use Rattle.std.specs.Str.Lines.{lines, strip_carriage_return};
 ghost use Rattle.fdp_trace.specs.Reader.FrontOf.{IsFront, is_line_feed};
 ghost use Rattle.fdp_trace.specs.Grammar.{IsTraceOf, IsFaultOf};
 ghost use Rattle.fdp_trace.specs.Answer.{IsCause, GivesCommands, GivesFault};
 ghost use Rattle.fdp_trace.specs.Reader.Line.{line_of, ReadsLine};
+ghost use Rattle.fdp_trace.specs.Reader.Trace.{ReadsLines};
 ghost use Rattle.fdp_trace.specs.declared.fault.FaultKind.{FaultKind};
 ghost use Rattle.fdp_base.specs.declared.command.Command.{Command};
 ghost use Rattle.fdp_base.specs.CommandKinds.{blocks_read};
@@ -13,8 +14,8 @@ use crate::line::read_line;
 use fdp_base::{Command, MOST_TRACE_BLOCKS, MOST_TRACE_COMMANDS};
 use std::alloc::Global;
 
-/// The commands of a trace, or its first bad line, from 1, with the first thing that the line lacks. It takes time that
-/// grows with the text.
+/// The commands of a trace, or its first bad line, from 1, with the first thing that the line lacks. Want of memory is told only
+/// at a line that says a command, behind lines that say commands. It takes time that grows with the text.
 pub fn read_trace(alloc: Global, text: &[u8]) -> Result<Vec<Command>, TraceFault>
     ensures commands { IfOk result (λ commands. IsTraceOf text.now commands.items) }
     ensures cause { IfErr result (IsCause text.now) }
@@ -24,6 +25,16 @@ pub fn read_trace(alloc: Global, text: &[u8]) -> Result<Vec<Command>, TraceFault
     ensures told { (line : ℕ) (kind : FaultKind) → IsFaultOf text.now line kind → GivesFault line kind result }
 {
     let mut commands = Vec::new(alloc);
+    read_lines(alloc, text, &mut commands)?;
+    Ok(commands)
+}
+
+/// Adds the commands of a text to a list without any. Memory is taken for the list of a command, and where the list of commands
+/// is full.
+fn read_lines(alloc: Global, text: &[u8], commands: &mut Vec<Command>) -> Result<(), TraceFault>
+    requires { commands.old.items ≡ [] }
+    ensures { ReadsLines text.now commands.new result }
+{
     let mut number = 0;
     let mut blocks = 0;
     let mut rest = text;
@@ -40,9 +51,10 @@ pub fn read_trace(alloc: Global, text: &[u8]) -> Result<Vec<Command>, TraceFault
             let kind = FaultKind::Long;
             return Err(TraceFault::Line { line: number, kind });
         }
-        commands.push(command)?;
+        commands.reserve(1)?;
+        commands.push_reserved(command);
     }
-    Ok(commands)
+    Ok(())
 }
 
 fn read_numbered(alloc: Global, line: &[u8], number: usize) -> Result<Option<Command>, TraceFault>

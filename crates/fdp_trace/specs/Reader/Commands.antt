@@ -180,3 +180,20 @@ command_from (Some word) texts = checked word texts
 unfoldable pub command_of : List (List ℕ) → Result Command FaultKind
 command_of [] = Err kinds.Word
 command_of (first ∷ texts) = command_from (word_named first) texts
+
+-- how many items the list of a command has; memory is taken for these alone
+abbrev pub listed : Command → ℕ
+listed (commands.Dealloc d) = length d.ranges
+listed (commands.Update u) = length u.pids
+listed (commands.SetEvents s) = length s.types
+listed (commands.Create c) = length c.list
+listed (commands.Write w) = 0
+listed (commands.Read r) = 0
+listed (commands.Zero z) = 0
+listed (commands.Flush f) = 0
+listed (commands.Delete d) = 0
+listed (commands.Status s) = 0
+listed (commands.Log l) = 0
+listed (commands.SetFdp s) = 0
+listed (commands.GetFdp g) = 0
+listed (commands.Other o) = 0

@@ -2,17 +2,22 @@ use Rattle.std.proofs.Common.{◌∙◌, sym, ap}
 use Rattle.std.proofs.lemmas.Result.{err_from_is_err_and}
 use Rattle.std.specs.Prelude.{Ok}
 use Rattle.fdp_trace.specs.Words.{words_of}
-use Rattle.fdp_trace.proofs.Fronts.{numbers_ok, numbers_err, numbers_end}
+use Rattle.fdp_trace.proofs.Fronts.{numbers_ok, numbers_err, numbers_wanted, numbers_end}
 use Rattle.fdp_trace.proofs.lists.identifiers.Goals as goal
 
 pub returns-in_err-number : goal.returns-in_err-number
 returns-in_err-number c =
-    let p = err_from_is_err_and c.from_residual.result c.from_residual.ensures.1 in
-    rw (p.1, p.2) (numbers_err c.in_err-number.field-0.0 65535 c.loop-word.numbers.items (words_of c.loop-word.rest.now) c.in-Some.word.now (words_of c.in-Some.after.now) _ c.in-Some.ensures.word c.in_err-number.ensures.gives c.loop-word.invariant)
+    let p = err_from_is_err_and c.from_residual-in_err-number.result c.from_residual-in_err-number.ensures.1 in
+    rw (p.1, p.2) (numbers_err c.in_err-number.field-0.0 65535 c.loop-word.numbers.items (words_of c.loop-word.rest.now) c.in-Some.word.now (words_of c.in-Some.after.now) _ c.in-Some.ensures.word (sym c.in_err-number.ensures.value) c.loop-word.invariant)
+
+pub returns-in_err-push : goal.returns-in_err-push
+returns-in_err-push c =
+    let p = err_from_is_err_and c.from_residual-in_err-push.result c.from_residual-in_err-push.ensures.1 in
+    rw (p.1, p.2) (numbers_wanted 65535 c.loop-word.numbers.items (words_of c.loop-word.rest.now) c.in-Some.word.now (words_of c.in-Some.after.now) c.in_ok-number.number _ c.in-Some.ensures.word (sym c.in_ok-number.ensures.value) c.loop-word.invariant c.in_ok-are_within.ensures)
 
 pub loop-word-preserved : goal.loop-word-preserved
 loop-word-preserved c =
-    rw c.in_ok-push.ensures.items (numbers_ok 65535 c.loop-word.numbers.items (words_of c.loop-word.rest.now) c.in-Some.word.now (words_of c.in-Some.after.now) c.in_ok-number.number _ c.in-Some.ensures.word c.in_ok-number.ensures.gives c.loop-word.invariant)
+    rw c.in_ok-push.ensures.items (numbers_ok 65535 c.loop-word.numbers.items (words_of c.loop-word.rest.now) c.in-Some.word.now (words_of c.in-Some.after.now) c.in_ok-number.number _ c.in-Some.ensures.word (sym c.in_ok-number.ensures.value) c.loop-word.invariant)
 
 pub returns : goal.returns
 returns c =

@@ -1,5 +1,5 @@
 -- What a text comes to, line by line.
-use Rattle.std.specs.Prelude.{◌≡◌, ℕ, ◌+◌, Bool, ◌||◌, if◌then◌else◌, nat_lt, List, [], ◌∷◌, Option, Some, None, Result, Ok, Err}
+use Rattle.std.specs.Prelude.{◌≡◌, ◌⊎◌, ◌<◌, ◌≤◌, vec_len, vec_capacity, ℕ, ◌+◌, Bool, ◌||◌, if◌then◌else◌, nat_lt, List, [], ◌∷◌, Option, Some, None, Result, Ok, Err}
 use Rattle.std.specs.Global.{Vec}
 use Rattle.std.specs.Str.Lines.{lines}
 use Rattle.fdp_base.specs.declared.command.Command.{Command}
@@ -7,6 +7,8 @@ use Rattle.fdp_trace.specs.declared.fault.FaultKind.{FaultKind}
 use Rattle.fdp_trace.specs.declared.fault.FaultKind.TheVariants as kinds
 use Rattle.fdp_trace.specs.declared.fault.TraceFault.{TraceFault}
 use Rattle.fdp_trace.specs.declared.fault.TraceFault.TheVariants as faults
+use Rattle.fdp_trace.specs.Grammar.{SaysNext}
+use Rattle.fdp_trace.specs.Reader.Commands.{listed}
 use Rattle.fdp_trace.specs.Reader.Line.{line_of}
 use Rattle.fdp_base.specs.CommandKinds.{blocks_read}
 
@@ -47,8 +49,12 @@ trace_from t (line ∷ lines) = after_line t (line_of line) (trace_from (line_mo
 abbrev pub trace_of : List ℕ → Result (List Command) (ℕ × FaultKind)
 trace_of text = trace_from (record { lines = 0; commands = 0; blocks = 0 }) (lines text)
 
--- the commands of a text, or its first fault, unless memory ran out
-abbrev pub ReadsTrace : Result (List Command) (ℕ × FaultKind) → Result (Vec Command) TraceFault → Type 0
-ReadsTrace trace (Ok commands) = trace ≡ Ok commands.items
-ReadsTrace trace (Err (faults.Line line kind)) = trace ≡ Err (line, kind)
-ReadsTrace trace (Err faults.NoMemory) = Unit {0}
+-- memory is wanted behind these commands: a line says one more, which has a list, or for which the list of commands has no room
+abbrev pub NeedsMemory : List ℕ → Vec Command → Type 0
+NeedsMemory text commands = (command : Command) × SaysNext text commands.items command × ((0 < listed command) ⊎ (vec_capacity commands ≤ vec_len commands))
+
+-- the commands of a text were read, or this is its first fault, unless memory ran out
+abbrev pub ReadsLines : List ℕ → Vec Command → Result (Unit {0}) TraceFault → Type 0
+ReadsLines text commands (Ok done) = trace_of text ≡ Ok commands.items
+ReadsLines text commands (Err (faults.Line line kind)) = trace_of text ≡ Err (line, kind)
+ReadsLines text commands (Err faults.NoMemory) = NeedsMemory text commands
