@@ -1,6 +1,6 @@
 //! The buffer of a text, which is written in pieces.
 
-ghost use Rattle.std.specs.Prelude.{◌≡◌, [], OnOk};
+ghost use Rattle.std.specs.Prelude.{◌≡◌, ◌≢◌, [], OnOk, IfErr};
 ghost use Rattle.fdp_printing.specs.Printing.{PrintsOn};
 
 use fdp_io::{Sink, write_all};
@@ -18,7 +18,8 @@ pub enum Cut {
 
 /// Writes the text as soon as it is a piece long, and goes on with an empty one.
 pub fn write_piece<K: Sink>(text: &mut Vec<u8>, sink: &mut K) -> Result<(), Cut>
-    ensures { PrintsOn (K.state sink.old) (K.state sink.new) text.old.items text.new.items [] result }
+    ensures prints { PrintsOn (K.state sink.old) (K.state sink.new) text.old.items text.new.items [] result }
+    ensures memory { IfErr result (λ cut. cut ≢ Cut.NoMemory) }
 {
     if text.len() < PIECE {
         return Ok(());
@@ -30,6 +31,7 @@ pub fn write_piece<K: Sink>(text: &mut Vec<u8>, sink: &mut K) -> Result<(), Cut>
 pub fn write_rest<K: Sink>(text: &mut Vec<u8>, sink: &mut K) -> Result<(), Cut>
     ensures prints { PrintsOn (K.state sink.old) (K.state sink.new) text.old.items text.new.items [] result }
     ensures empty { OnOk result (text.new.items ≡ []) }
+    ensures memory { IfErr result (λ cut. cut ≢ Cut.NoMemory) }
 {
     if write_all(sink, text).is_err() {
         return Err(Cut::Sink);
