@@ -1,6 +1,6 @@
 //! What a run of the generated load comes to.
 
-ghost use Rattle.std.specs.Prelude.{◌≡◌, ◌*◌, ◌^◌, ◌<◌, IfOk, count_by, sum_by};
+ghost use Rattle.std.specs.Prelude.{◌≡◌, ◌*◌, ◌^◌, ◌<◌, IfOk, OnErr, count_by, sum_by};
 ghost use Rattle.fdp_rules.specs.Totals.{host_blocks, host_blocks_of};
 ghost use Rattle.fdp_make.specs.Summary.{
   blocks_given,
@@ -32,8 +32,10 @@ pub struct Summary {
 }
 
 /// What this history comes to, with blocks of so many bytes. It looks up each block that is written or read in an ordered map.
+/// Where no write's change was made it takes no memory.
 pub fn summary_of(alloc: Global, entries: &[Entry], block: u32) -> Result<Summary, AllocError>
-    ensures { IfOk result (λ s. s ≡ summary block entries.now (unrefuted_blocks block entries.now)) }
+    ensures value { IfOk result (λ s. s ≡ summary block entries.now (unrefuted_blocks block entries.now)) }
+    ensures memory { OnErr result (0 < host_blocks entries.now) }
 {
     let same = unrefuted_blocks(alloc, entries, block)?;
     Ok(Summary {
@@ -123,7 +125,8 @@ fn blocks_given_by(entry: &Entry) -> u32
 
 /// The blocks of successful reads that are what their queue wrote there last, or that it had not written.
 fn unrefuted_blocks(alloc: Global, entries: &[Entry], block: u32) -> Result<u128, AllocError>
-    ensures { IfOk result (λ same. same ≡ unrefuted_blocks block entries.now) }
+    ensures value { IfOk result (λ same. same ≡ unrefuted_blocks block entries.now) }
+    ensures memory { OnErr result (0 < host_blocks entries.now) }
 {
     let mut writes: LastWrites<'_> = BTreeMap::new(alloc);
     let mut same: u128 = 0;

@@ -19,10 +19,10 @@ loop-entry-preserved c =
     let e = c.entry-item.result in
     let front : take i es ++ e ∷ [] ≡ take (i + 1) es = ap (λ x. take i es ++ x ∷ []) c.entry-item.is ∙ sym (take_more es i e c.loop-entry-test.true) in
     record {
-      told = subst (Tells c.note.new.writes) front (c.in_ok-note.ensures (take i es) c.loop-entry.invariant.told);
+      told = subst (Tells c.note.new.writes) front (c.in_ok-note.ensures.tells (take i es) c.loop-entry.invariant.told);
       counted = agreeing_next c.args.block untold es i c.loop-entry.same c.from-same.result e c.loop-entry-test.true c.entry-item.is (c.from-same.ensures ∙ c.agreeing.ensures (take i es) c.loop-entry.invariant.told) c.loop-entry.invariant.counted;
       bound = omega (arith, c.loop-entry.invariant.bound, c.from-same.ensures, c.agreeing.type_inv);
     }
 
-pub returns : goal.returns
-returns c = agreeing_end c.args.block untold c.args.entries.now c.loop-entry.entry-index c.loop-entry.same c.loop-entry-test.false c.loop-entry.invariant.counted
+pub returns-clause-value : goal.returns-clause-value
+returns-clause-value c = agreeing_end c.args.block untold c.args.entries.now c.loop-entry.entry-index c.loop-entry.same c.loop-entry-test.false c.loop-entry.invariant.counted
