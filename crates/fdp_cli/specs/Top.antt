@@ -12,7 +12,7 @@ use Rattle.fdp_finding.specs.declared.asked.Form.TheVariants as forms
 use Rattle.fdp_finding.specs.declared.fault.Fault.{Fault}
 use Rattle.fdp_finding.specs.declared.fault.Fault.TheVariants as faults
 use Rattle.fdp_finding.specs.Faults.{fault_text, status_of}
-use Rattle.fdp_finding.specs.Wanted.{CountsSource, Finds, Lacks}
+use Rattle.fdp_finding.specs.Wanted.{CountsSource, Finds, Lacks, Sought, session}
 use Rattle.fdp_flash.specs.FlashState.{FlashState}
 use Rattle.fdp_io.specs.declared.bench.NotTaken.TheVariants as refusals
 use Rattle.fdp_io.specs.Bench.{BenchState, HandsOut, KeepsFlash, PutsBack, SameFlashes}
@@ -85,29 +85,32 @@ EndsRun state form c traces handed given old new status =
 
 -- ---- on an image
 
--- the flash of the image was taken, the traces served on it, and it was given back: from then on it lies under its name as it is
-pub record RunsOn {F : Type 0} (state : F → FlashState) (bench bench' : BenchState) (form : Form) (c : DriveConfig) (image : List ℕ) (traces : List (List Command)) (old new : SinkState) (status : ℕ) : Type 0 where
+-- the flash of the image was taken, this was done with it, and it was given back: from then on it lies under its name as it is
+pub record RunsOn {F : Type 0} (state : F → FlashState) (bench bench' : BenchState) (c : DriveConfig) (image : List ℕ) (Ends : F → F → SinkState → SinkState → ℕ → Type 0) (old new : SinkState) (status : ℕ) : Type 0 where
   pub between : BenchState
   pub handed : F
   pub given : F
   pub taken : HandsOut bench between image (geometry_of c) (state handed)
-  pub ran : EndsRun state form c traces handed given old new status
+  pub ran : Ends handed given old new status
   pub back : PutsBack between bench' image (state given)
 
 -- so it was; or a call of the bench failed, which was counted, and the line of that fault was printed; or memory was wanting. Then the
 -- flash stays where it was
-abbrev pub RunsOnImage : {F : Type 0} → (F → FlashState) → BenchState → BenchState → Form → DriveConfig → List ℕ → List (List Command) → SinkState → SinkState → ℕ → Type 0
-RunsOnImage state bench bench' form c image traces old new status =
-    RunsOn state bench bench' form c image traces old new status
+abbrev pub OnImage : {F : Type 0} → (F → FlashState) → BenchState → BenchState → DriveConfig → List ℕ → (F → F → SinkState → SinkState → ℕ → Type 0) → SinkState → SinkState → ℕ → Type 0
+OnImage state bench bench' c image Ends old new status =
+    RunsOn state bench bench' c image Ends old new status
     ⊎ (KeepsFlash bench bench' refusals.Failed × Refuses old new faults.Flash status)
     ⊎ (KeepsFlash bench bench' refusals.NoMemory × (status ≡ 7) × (new ≡ old))
 
 -- ---- the whole run
 
--- a form, a configuration, an image and traces were found, and the traces were served there
-abbrev pub FindsAndRuns : {F : Type 0} → (F → FlashState) → BenchState → BenchState → List (String Global) → SinkState → SinkState → ℕ → Type 0
-FindsAndRuns state bench bench' words old new status =
-    (form : Form) × (c : DriveConfig) × (image : List ℕ) × (traces : List (List Command)) × Finds bench words form c image traces × RunsOnImage state bench bench' form c image traces old new status
+-- what is done with what was found: the traces of a session are served on its image, and shown in its form
+abbrev pub Does : {F : Type 0} → (F → FlashState) → BenchState → BenchState → Sought → SinkState → SinkState → ℕ → Type 0
+Does state bench bench' (session form c image traces) old new status = OnImage state bench bench' c image (EndsRun state form c traces) old new status
+
+-- what the words ask for was found, and that was done
+abbrev pub FindsAndDoes : {F : Type 0} → (F → FlashState) → BenchState → BenchState → List (String Global) → SinkState → SinkState → ℕ → Type 0
+FindsAndDoes state bench bench' words old new status = (sought : Sought) × Finds bench words sought × Does state bench bench' sought old new status
 
 -- a fault came before a flash was taken: the bench counts a call that failed where that is the fault, and nothing else
 pub record RefusesRun (bench bench' : BenchState) (words : List (String Global)) (old new : SinkState) (status : ℕ) : Type 0 where
@@ -117,6 +120,6 @@ pub record RefusesRun (bench bench' : BenchState) (words : List (String Global))
   pub lacks : Lacks bench bench' words fault
   pub refused : Refuses old new fault status
 
--- what was asked for was found, and the traces were served; or there was a fault
+-- what was asked for was found and done; or there was a fault
 abbrev pub Answers : {F : Type 0} → (F → FlashState) → BenchState → BenchState → List (String Global) → SinkState → SinkState → ℕ → Type 0
-Answers state bench bench' words old new status = FindsAndRuns state bench bench' words old new status ⊎ RefusesRun bench bench' words old new status
+Answers state bench bench' words old new status = FindsAndDoes state bench bench' words old new status ⊎ RefusesRun bench bench' words old new status

@@ -7,7 +7,7 @@ ghost use Rattle.fdp_make.specs.Summary.{summary_text, unrefuted_blocks};
 ghost use Rattle.fdp_printing.specs.Closing.{IsClosing};
 ghost use Rattle.fdp_printing.specs.Printing.{CountsCut, Prints};
 ghost use Rattle.fdp_rules.specs.History.{Found, point_of};
-ghost use Rattle.fdp_cli.specs.Top.{Answers, EndsRun, PrintsText, Refuses, RunsOnImage, Shows, text_in, text_of};
+ghost use Rattle.fdp_cli.specs.Top.{Answers, EndsRun, OnImage, PrintsText, Refuses, Shows, text_in, text_of};
 
 use crate::closing::closing_of;
 use crate::loading::fault_of;
@@ -88,7 +88,7 @@ fn run<B: Bench, K: Sink, G: Gate + Sync, R: Threads + Wait + Sync>(
     ensures told { (K.state sink.new).told ≡ (K.state sink.old).told }
     ensures faults { (K.state sink.old).faults ≤ (K.state sink.new).faults }
     ensures unfailing { result ≢ 8 → (K.state sink.new).faults ≡ (K.state sink.old).faults }
-    ensures runs { RunsOnImage B.F.state (B.state bench.old) (B.state bench.new) wanted.entry.form wanted.entry.config wanted.entry.image.now (commands_of wanted.entry.traces.items) (K.state sink.old) (K.state sink.new) result }
+    ensures runs { OnImage B.F.state (B.state bench.old) (B.state bench.new) wanted.entry.config wanted.entry.image.now (EndsRun B.F.state wanted.entry.form wanted.entry.config (commands_of wanted.entry.traces.items)) (K.state sink.old) (K.state sink.new) result }
 {
     let Wanted {
         form,

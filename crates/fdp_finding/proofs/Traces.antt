@@ -21,7 +21,7 @@ use Rattle.fdp_finding.specs.declared.reading.Wanted.{Wanted}
 use Rattle.fdp_finding.specs.Asked.{AsksForTexts, Names, asked_of, recording, running, texts_of}
 use Rattle.fdp_finding.specs.Configured.{ReadsConfig}
 use Rattle.fdp_finding.specs.Traced.{IsNoTrace, IsServable, IsTraceText, ReadsNoTrace, ReadsTrace}
-use Rattle.fdp_finding.specs.Wanted.{ConfigLacks, Finds, HasTexts, Lacks, TextsLack, TraceLacks, TracesLack, commands_of}
+use Rattle.fdp_finding.specs.Wanted.{ConfigLacks, Finds, HasTexts, Lacks, TextsLack, TraceLacks, TracesLack, commands_of, session}
 
 abbrev pub Name : Type 0
 Name = Bor (List ℕ)
@@ -201,16 +201,16 @@ run_lacks old new words names faults.Turns asked lacks = absurd lacks
 -- what was found is what the words ask for
 pub run_answers : (old new : BenchState) (words : List (String Global)) (names : Names) (r : Result Wanted Fault) → asked_of words ≡ Some (running names)
     → MatchResult r (λ found. (found.form ≡ forms.Run) × HasTexts old names found.config found.image.now (commands_of found.traces.items)) (TextsLack old new names)
-    → MatchResult r (λ found. Finds old words found.form found.config found.image.now (commands_of found.traces.items)) (Lacks old new words)
+    → MatchResult r (λ found. Finds old words (session found.form found.config found.image.now (commands_of found.traces.items))) (Lacks old new words)
 run_answers old new words names (Ok found) asked h =
-    subst (λ (form : Form). Finds old words form found.config found.image.now (commands_of found.traces.items)) (sym h.0) (record { names = names; asked = asked; found = h.1 })
+    subst (λ (form : Form). Finds old words (session form found.config found.image.now (commands_of found.traces.items))) (sym h.0) (record { names = names; asked = asked; found = h.1 })
 run_answers old new words names (Err fault) asked h = run_lacks old new words names fault (ap (option_and_then texts_of) asked) h
 
 pub record_answers : (old new : BenchState) (words : List (String Global)) (names : Names) (r : Result Wanted Fault) → asked_of words ≡ Some (recording names)
     → MatchResult r (λ found. (found.form ≡ forms.Record) × HasTexts old names found.config found.image.now (commands_of found.traces.items)) (TextsLack old new names)
-    → MatchResult r (λ found. Finds old words found.form found.config found.image.now (commands_of found.traces.items)) (Lacks old new words)
+    → MatchResult r (λ found. Finds old words (session found.form found.config found.image.now (commands_of found.traces.items))) (Lacks old new words)
 record_answers old new words names (Ok found) asked h =
-    subst (λ (form : Form). Finds old words form found.config found.image.now (commands_of found.traces.items)) (sym h.0) (record { names = names; asked = asked; found = h.1 })
+    subst (λ (form : Form). Finds old words (session form found.config found.image.now (commands_of found.traces.items))) (sym h.0) (record { names = names; asked = asked; found = h.1 })
 record_answers old new words names (Err fault) asked h = run_lacks old new words names fault (ap (option_and_then texts_of) asked) h
 
 -- what was pushed stands at the end

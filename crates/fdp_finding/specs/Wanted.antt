@@ -44,11 +44,15 @@ pub record FindsLoad (words : List (String Global)) (number : List ℕ) (c : Dri
   pub valid : IsValidConfig c
   pub commands : traces ≡ make_traces (value_of 10 number)
 
+-- What was found of what the words ask for, a case for each kind of run: a session on the drive of one image, in a form, with this configuration, image and traces.
+pub data Sought : Type 0 where
+  session : Form → DriveConfig → (image : List ℕ) → (traces : List (List Command)) → Sought
+
 -- what the words ask for, in each form
-abbrev pub Finds : BenchState → List (String Global) → Form → DriveConfig → List ℕ → List (List Command) → Type 0
-Finds bench words forms.Run c image traces = FindsTexts bench words running c image traces
-Finds bench words forms.Record c image traces = FindsTexts bench words recording c image traces
-Finds bench words (forms.Make number) c image traces = FindsLoad words number.now c image traces
+abbrev pub Finds : BenchState → List (String Global) → Sought → Type 0
+Finds bench words (session forms.Run c image traces) = FindsTexts bench words running c image traces
+Finds bench words (session forms.Record c image traces) = FindsTexts bench words recording c image traces
+Finds bench words (session (forms.Make number) c image traces) = FindsLoad words number.now c image traces
 
 -- ---- what is lacking
 

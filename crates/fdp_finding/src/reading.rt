@@ -10,7 +10,7 @@ ghost use Rattle.fdp_trace.specs.Numbers.{value_of};
 ghost use Rattle.fdp_finding.specs.Configured.{ReadsConfig};
 ghost use Rattle.fdp_finding.specs.CommandLine.{Counts, as_names};
 ghost use Rattle.fdp_finding.specs.Traced.{IsServable, ReadsTrace};
-ghost use Rattle.fdp_finding.specs.Wanted.{ConfigLacks, CountsSource, Finds, HasTexts, Lacks, TextsLack, TraceLacks, TracesLack, commands_of};
+ghost use Rattle.fdp_finding.specs.Wanted.{ConfigLacks, CountsSource, Finds, HasTexts, Lacks, TextsLack, TraceLacks, TracesLack, commands_of, session};
 
 use crate::asked::{Form, LoadAsked, NamesAsked, NotAsked, Request, asked};
 use crate::fault::Fault;
@@ -43,7 +43,7 @@ pub fn find<'a, B: Bench>(
         (λ _. (B.state bench.new).faults ≡ (B.state bench.old).faults)
         (λ fault. CountsSource (B.state bench.old).faults (B.state bench.new).faults fault) }
     ensures answer { MatchResult result
-        (λ found. Finds (B.state bench.old) words.now found.form found.config found.image.now (commands_of found.traces.items))
+        (λ found. Finds (B.state bench.old) words.now (session found.form found.config found.image.now (commands_of found.traces.items)))
         (λ fault. Lacks (B.state bench.old) (B.state bench.new) words.now fault) }
     ensures valid { IfOk result (λ found. IsValidConfig found.config) }
     ensures queued { IfOk result (λ found. length found.traces.items ≤ found.config.queues) }
