@@ -1,6 +1,6 @@
 #!/bin/sh
-# Measures a turn of the group lock beside a turn of std's mutex over the same value, about 1 KB: 1, 2, 4 and 6 threads, turns that last 0, 3 and 10
-# microseconds. A turn adds an entry to the value, and a thread does nothing between two turns.
+# Measures a turn of the group lock beside a turn of std's mutex over the same value, about 1 KB, which the lock hands out on the heap: 1, 2, 4 and 6 threads,
+# turns that last 0, 3 and 10 microseconds. A turn adds an entry to the value, and a thread does nothing between two turns.
 # Usage: bench/turns.sh [TURNS]: so many turns of all threads together, 200000 if not given. It builds a small program in a temporary
 # folder, which is proved first; that takes a minute or two. It warns where the machine is busy.
 set -eu
@@ -30,7 +30,7 @@ ghost use Rattle.std.specs.Prelude.{◌≡◌, [], IfOk};
 ghost use Rattle.fdp_lock_tests.specs.Tally.{IsFresh, IsBack};
 
 use anyhow::Error;
-use fdp_lock::{GroupLock, Seat};
+use fdp_lock::{Boxed, GroupLock, Seat};
 use fdp_lock_tests::{Load, Tally, linger, work, work_both, work_four};
 use std::alloc::{AllocError, Global};
 use std::sync::{Mutex, Wait};
@@ -38,44 +38,44 @@ use std::thread::{Threads, join};
 use std::time::Instant;
 
 fn one<R: Wait>(rt: &R, alloc: Global, load: Load) -> Result<usize, AllocError> {
-    let tally = Tally::with_room(alloc, 0, load.turns as usize)?;
+    let tally = Boxed::new(alloc, Tally::with_room(alloc, 0, load.turns as usize)?)?;
     let Ok((lock, mut first)) = GroupLock::new(alloc, tally, 2) else { return Ok(0) };
     let a = lock.split(&mut first, 1);
     let a = work(rt, &lock, a, load);
-    Ok(lock.close(vec![in alloc; first, a]?).numbers.len())
+    Ok(lock.close(vec![in alloc; first, a]?).value.numbers.len())
 }
 
 fn two<R: Threads + Wait + Sync>(rt: &R, alloc: Global, load: Load) -> Result<usize, AllocError> {
-    let tally = Tally::with_room(alloc, 0, load.turns as usize * 2)?;
+    let tally = Boxed::new(alloc, Tally::with_room(alloc, 0, load.turns as usize * 2)?)?;
     let Ok((lock, mut first)) = GroupLock::new(alloc, tally, 3) else { return Ok(0) };
     let a = lock.split(&mut first, 1);
     let b = lock.split(&mut first, 2);
     let (a, b) = work_both(rt, &lock, a, b, load);
-    Ok(lock.close(vec![in alloc; first, a, b]?).numbers.len())
+    Ok(lock.close(vec![in alloc; first, a, b]?).value.numbers.len())
 }
 
 fn four<R: Threads + Wait + Sync>(rt: &R, alloc: Global, load: Load) -> Result<usize, AllocError> {
-    let tally = Tally::with_room(alloc, 0, load.turns as usize * 4)?;
+    let tally = Boxed::new(alloc, Tally::with_room(alloc, 0, load.turns as usize * 4)?)?;
     let Ok((lock, mut first)) = GroupLock::new(alloc, tally, 5) else { return Ok(0) };
     let a = lock.split(&mut first, 1);
     let b = lock.split(&mut first, 2);
     let c = lock.split(&mut first, 3);
     let d = lock.split(&mut first, 4);
     let ((a, b), (c, d)) = work_four(rt, &lock, a, b, c, d, load);
-    Ok(lock.close(vec![in alloc; first, a, b, c, d]?).numbers.len())
+    Ok(lock.close(vec![in alloc; first, a, b, c, d]?).value.numbers.len())
 }
 
-type Pair = (Seat<Tally>, Seat<Tally>);
+type Pair = (Seat<Boxed<Tally>>, Seat<Boxed<Tally>>);
 
 fn work_six<R: Threads + Wait + Sync>(
     rt: &R,
-    lock: &GroupLock<Tally>,
-    a: Seat<Tally>,
-    b: Seat<Tally>,
-    c: Seat<Tally>,
-    d: Seat<Tally>,
-    e: Seat<Tally>,
-    f: Seat<Tally>,
+    lock: &GroupLock<Boxed<Tally>>,
+    a: Seat<Boxed<Tally>>,
+    b: Seat<Boxed<Tally>>,
+    c: Seat<Boxed<Tally>>,
+    d: Seat<Boxed<Tally>>,
+    e: Seat<Boxed<Tally>>,
+    f: Seat<Boxed<Tally>>,
     load: Load,
 ) -> (Pair, (Pair, Pair))
     requires front { IsFresh lock.now a × IsFresh lock.now b }
@@ -100,7 +100,7 @@ fn work_six<R: Threads + Wait + Sync>(
 }
 
 fn six<R: Threads + Wait + Sync>(rt: &R, alloc: Global, load: Load) -> Result<usize, AllocError> {
-    let tally = Tally::with_room(alloc, 0, load.turns as usize * 6)?;
+    let tally = Boxed::new(alloc, Tally::with_room(alloc, 0, load.turns as usize * 6)?)?;
     let Ok((lock, mut first)) = GroupLock::new(alloc, tally, 7) else { return Ok(0) };
     let a = lock.split(&mut first, 1);
     let b = lock.split(&mut first, 2);
@@ -109,7 +109,7 @@ fn six<R: Threads + Wait + Sync>(rt: &R, alloc: Global, load: Load) -> Result<us
     let e = lock.split(&mut first, 5);
     let f = lock.split(&mut first, 6);
     let ((a, b), ((c, d), (e, f))) = work_six(rt, &lock, a, b, c, d, e, f, load);
-    Ok(lock.close(vec![in alloc; first, a, b, c, d, e, f]?).numbers.len())
+    Ok(lock.close(vec![in alloc; first, a, b, c, d, e, f]?).value.numbers.len())
 }
 
 fn add<R: Wait>(rt: &R, shared: &Mutex<Tally>, load: Load) {
@@ -143,29 +143,6 @@ fn rounds_of_a_microsecond(rt: HostRuntime) -> Result<u32, Error> {
     Ok(u32::try_from(100_000_000 / least.max(1)).unwrap_or(u32::MAX))
 }
 
-<<<<<<< HEAD
-fn compare(rt: HostRuntime, threads: u32, hold: u32, load: Load) -> Result<(), Error> {
-    let shared = Mutex::new(Tally::with_room(rt.alloc(), 0, load.turns as usize * threads as usize)?);
-    let start = Instant::now(&rt)?;
-    let made = match threads {
-        1 => one(&rt, rt.alloc(), load)?,
-        2 => two(&rt, rt.alloc(), load)?,
-        4 => four(&rt, rt.alloc(), load)?,
-        _ => six(&rt, rt.alloc(), load)?,
-    };
-    let lock = start.elapsed(&rt)?.as_nanos();
-    let start = Instant::now(&rt)?;
-    match threads {
-        1 => add(&rt, &shared, load),
-        2 => add_both(&rt, &shared, load),
-        4 => add_four(&rt, &shared, load),
-        _ => add_six(&rt, &shared, load),
-    }
-    let mutex = start.elapsed(&rt)?.as_nanos();
-    let all = u128::from(threads) * u128::from(load.turns) | 1;
-    println!(rt; "{hold} us, {threads} threads, {made} entries: {} ns a turn, {} ns by a mutex", lock / all, mutex / all)?;
-    Ok(())
-=======
 fn by_lock<R: Threads + Wait + Sync>(rt: &R, alloc: Global, threads: u32, load: Load) -> Result<usize, AllocError> {
     match threads {
         1 => one(rt, alloc, load),
@@ -182,7 +159,6 @@ fn by_mutex<R: Threads + Wait + Sync>(rt: &R, shared: &Mutex<Tally>, threads: u3
         4 => add_four(rt, shared, load),
         _ => add_six(rt, shared, load),
     }
->>>>>>> 46f0927ac18eeb3d569b092886f881e718cdf2c5
 }
 
 fn main(rt: HostRuntime) -> Result<(), Error> {
@@ -191,9 +167,6 @@ fn main(rt: HostRuntime) -> Result<(), Error> {
     for hold in [0u32, 3, 10] {
         for threads in [1u32, 2, 4, 6] {
             let load = Load { turns: turns / threads.max(1), rounds: rounds.saturating_mul(hold) };
-<<<<<<< HEAD
-            compare(rt, threads, hold, load)?;
-=======
             let shared = Mutex::new(Tally::with_room(rt.alloc(), 0, turns as usize)?);
             let start = Instant::now(&rt)?;
             let made = by_lock(&rt, rt.alloc(), threads, load)?;
@@ -203,7 +176,6 @@ fn main(rt: HostRuntime) -> Result<(), Error> {
             let mutex = start.elapsed(&rt)?.as_nanos();
             let all = u128::from(turns).max(1);
             println!(rt; "{hold} us, {threads} threads, {made} entries: {} ns a turn, {} ns by a mutex", lock / all, mutex / all)?;
->>>>>>> 46f0927ac18eeb3d569b092886f881e718cdf2c5
         }
     }
     Ok(())

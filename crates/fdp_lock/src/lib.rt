@@ -1,6 +1,7 @@
 //! A lock of turns over a value that records.
 #![tactic(auto)]
 
+mod boxed;
 mod close;
 mod lock;
 mod plays;
@@ -9,6 +10,7 @@ mod share;
 mod turn;
 mod view;
 
+pub use boxed::Boxed;
 pub use fdp_base::Recorded;
 pub use lock::{GroupLock, NotMade};
 pub use seat::Seat;

@@ -1,5 +1,5 @@
 use crate::{Load, Tally, work_both, work_four};
-use fdp_lock::GroupLock;
+use fdp_lock::{Boxed, GroupLock};
 use std::test::Fail;
 use std::thread::join;
 
@@ -8,7 +8,7 @@ const ROUNDS: u32 = 5_000;
 
 #[test]
 fn two_seats_make_all_their_entries(rt: HostRuntime) -> Result<(), Fail> {
-    let tally = Tally::with_room(rt.alloc(), 7, 2000)?;
+    let tally = Boxed::new(rt.alloc(), Tally::with_room(rt.alloc(), 7, 2000)?)?;
     let Ok((lock, mut first)) = GroupLock::new(rt.alloc(), tally, 3) else {
         panic!(rt; "there is memory")
     };
@@ -22,7 +22,9 @@ fn two_seats_make_all_their_entries(rt: HostRuntime) -> Result<(), Fail> {
     let (mut one, mut two) = work_both(&rt, &lock, one, two, load);
     assert!(rt; one.turns() == 1000 && two.turns() == 1000);
     lock.meet(&mut one, &mut two);
-    let tally = lock.close(vec![in rt.alloc(); first, one, two]?);
+    let tally = lock
+        .close(vec![in rt.alloc(); first, one, two]?)
+        .into_inner();
     let of = |number: u8| tally.numbers.iter().filter(|n| **n == number).count();
     assert_eq!(rt;
         (tally.name, tally.numbers.len(), of(1), of(5)),
@@ -33,7 +35,7 @@ fn two_seats_make_all_their_entries(rt: HostRuntime) -> Result<(), Fail> {
 
 #[test]
 fn six_seats_take_turns(rt: HostRuntime) -> Result<(), Fail> {
-    let tally = Tally::with_room(rt.alloc(), 0, 1200)?;
+    let tally = Boxed::new(rt.alloc(), Tally::with_room(rt.alloc(), 0, 1200)?)?;
     let Ok((lock, mut first)) = GroupLock::new(rt.alloc(), tally, 7) else {
         panic!(rt; "there is memory")
     };
@@ -52,7 +54,9 @@ fn six_seats_take_turns(rt: HostRuntime) -> Result<(), Fail> {
         || work_both(&rt, &lock, a, b, load),
         || work_four(&rt, &lock, c, d, e, f, load),
     );
-    let tally = lock.close(vec![in rt.alloc(); first, a, b, c, d, e, f]?);
+    let tally = lock
+        .close(vec![in rt.alloc(); first, a, b, c, d, e, f]?)
+        .into_inner();
     for number in 1..7u8 {
         let made = tally.numbers.iter().filter(|n| **n == number).count();
         assert_eq!(rt; made, 200);

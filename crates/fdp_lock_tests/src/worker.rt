@@ -3,7 +3,7 @@ ghost use Rattle.fdp_lock.specs.Seats.{turns_of, number_of, parts_of, HoldsNoTur
 ghost use Rattle.fdp_lock_tests.specs.Tally.{name_of, IsFresh, IsBack};
 
 use crate::tally::Tally;
-use fdp_lock::{GroupLock, Seat};
+use fdp_lock::{Boxed, GroupLock, Seat};
 use std::sync::Wait;
 use std::sync::atomic::{AtomicU32, Ordering};
 use std::thread::{Threads, join};
@@ -18,10 +18,10 @@ pub struct Load {
 /// Takes so many turns, and adds the number of the seat in each, as far as there is memory.
 pub fn work<R: Wait>(
     rt: &R,
-    lock: &GroupLock<Tally>,
-    mut seat: Seat<Tally>,
+    lock: &GroupLock<Boxed<Tally>>,
+    mut seat: Seat<Boxed<Tally>>,
     load: Load,
-) -> Seat<Tally>
+) -> Seat<Boxed<Tally>>
     requires { IsFresh lock.now seat }
     ensures { IsBack lock.now seat result }
 {
@@ -31,7 +31,12 @@ pub fn work<R: Wait>(
     seat
 }
 
-fn take_turn<R: Wait>(rt: &R, lock: &GroupLock<Tally>, seat: &mut Seat<Tally>, rounds: u32)
+fn take_turn<R: Wait>(
+    rt: &R,
+    lock: &GroupLock<Boxed<Tally>>,
+    seat: &mut Seat<Boxed<Tally>>,
+    rounds: u32,
+)
     requires of_lock { IsSeatOf name_of lock.now seat.old }
     requires no_turn { HoldsNoTurn seat.old }
     requires few { turns_of seat.old + 1 ≤ 2 ^ 40 }
@@ -44,7 +49,7 @@ fn take_turn<R: Wait>(rt: &R, lock: &GroupLock<Tally>, seat: &mut Seat<Tally>, r
     let mut turn = lock.enter(rt, seat);
     linger(rounds);
     // A number that is missing is seen by the test.
-    let _ = turn.value.numbers.push(seat.number());
+    let _ = turn.value.value.numbers.push(seat.number());
     lock.leave(turn, seat);
 }
 
@@ -59,11 +64,11 @@ pub fn linger(rounds: u32) {
 /// Two seats on threads of their own.
 pub fn work_both<R: Threads + Wait + Sync>(
     rt: &R,
-    lock: &GroupLock<Tally>,
-    one: Seat<Tally>,
-    two: Seat<Tally>,
+    lock: &GroupLock<Boxed<Tally>>,
+    one: Seat<Boxed<Tally>>,
+    two: Seat<Boxed<Tally>>,
     load: Load,
-) -> (Seat<Tally>, Seat<Tally>)
+) -> (Seat<Boxed<Tally>>, Seat<Boxed<Tally>>)
     requires one { IsFresh lock.now one }
     requires two { IsFresh lock.now two }
     ensures one { IsBack lock.now one result.0 }
@@ -79,13 +84,16 @@ pub fn work_both<R: Threads + Wait + Sync>(
 /// Four seats on threads of their own.
 pub fn work_four<R: Threads + Wait + Sync>(
     rt: &R,
-    lock: &GroupLock<Tally>,
-    a: Seat<Tally>,
-    b: Seat<Tally>,
-    c: Seat<Tally>,
-    d: Seat<Tally>,
+    lock: &GroupLock<Boxed<Tally>>,
+    a: Seat<Boxed<Tally>>,
+    b: Seat<Boxed<Tally>>,
+    c: Seat<Boxed<Tally>>,
+    d: Seat<Boxed<Tally>>,
     load: Load,
-) -> ((Seat<Tally>, Seat<Tally>), (Seat<Tally>, Seat<Tally>))
+) -> (
+    (Seat<Boxed<Tally>>, Seat<Boxed<Tally>>),
+    (Seat<Boxed<Tally>>, Seat<Boxed<Tally>>),
+)
     requires front { IsFresh lock.now a × IsFresh lock.now b }
     requires back { IsFresh lock.now c × IsFresh lock.now d }
     ensures front { IsBack lock.now a result.0.0 × IsBack lock.now b result.0.1 }
@@ -93,11 +101,11 @@ pub fn work_four<R: Threads + Wait + Sync>(
 {
     join(
         rt,
-        || -> (Seat<Tally>, Seat<Tally>)
+        || -> (Seat<Boxed<Tally>>, Seat<Boxed<Tally>>)
             requires { IsFresh lock.now a × IsFresh lock.now b }
             ensures { IsBack lock.entry.now a result.0 × IsBack lock.entry.now b result.1 }
         { work_both(rt, lock, a, b, load) },
-        || -> (Seat<Tally>, Seat<Tally>)
+        || -> (Seat<Boxed<Tally>>, Seat<Boxed<Tally>>)
             requires { IsFresh lock.now c × IsFresh lock.now d }
             ensures { IsBack lock.entry.now c result.0 × IsBack lock.entry.now d result.1 }
         { work_both(rt, lock, c, d, load) },
