@@ -19,7 +19,7 @@ use crate::rooms::Rooms;
 use fdp_base::{Command, DriveConfig};
 use fdp_gauge::{Gauge, Pass};
 use fdp_io::Gate;
-use fdp_lock::{GroupLock, NotMade, Seat};
+use fdp_lock::{Boxed, GroupLock, NotMade, Seat};
 use fdp_workers::{End, Receipt, Steps};
 use std::alloc::Global;
 use std::sync::Wait;
@@ -35,7 +35,7 @@ pub struct Shift<V> {
 }
 
 /// Serves these traces, each by a host on a thread of its own, the first in queue 1, with so many collectors beside them, which take at most so many
-/// turns each. The drive is behind a lock as long as they work.
+/// turns each. The drive is behind a lock and on the heap as long as they work.
 pub fn serve_traces<V: Steps + Send, G: Gate + Sync, R: Threads + Wait + Sync>(
     rt: &R,
     alloc: Global,
@@ -68,12 +68,34 @@ pub fn serve_traces<V: Steps + Send, G: Gate + Sync, R: Threads + Wait + Sync>(
     let Ok(rooms) = Rooms::new(alloc, hosts, collectors) else {
         return rest(alloc, value, pass, passes);
     };
-    match GroupLock::new(alloc, value, 1 + hosts + collectors) {
-        Ok((lock, seat)) => serve_on(
+    let boxed = match Boxed::new(alloc, value) {
+        Ok(boxed) => boxed,
+        Err(refused) => return rest(alloc, refused.value, pass, passes),
+    };
+    match GroupLock::new(alloc, boxed, 1 + hosts + collectors) {
+        Ok((lock, seat)) => unboxed(serve_on(
             rt, alloc, lock, seat, gauge, pass, passes, gate, config, rooms, traces, collectors,
             turns,
-        ),
-        Err(NotMade { value }) => rest(alloc, value, pass, passes),
+        )),
+        Err(NotMade { value }) => rest(alloc, value.into_inner(), pass, passes),
+    }
+}
+
+/// The same with the drive off the heap.
+fn unboxed<V>(shift: Shift<Boxed<V>>) -> Shift<V>
+    ensures { result ≡ shift }
+{
+    let Shift {
+        value,
+        passes,
+        receipts,
+        end,
+    } = shift;
+    Shift {
+        value: value.into_inner(),
+        passes,
+        receipts,
+        end,
     }
 }
 

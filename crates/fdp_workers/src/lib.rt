@@ -1,6 +1,7 @@
 //! Hosts and collectors: workers on threads of their own that take turns with a drive.
 #![tactic(auto)]
 
+mod boxed;
 mod collectors;
 mod ends;
 mod hosts;
