@@ -2,7 +2,7 @@
 # Counts the processor's instructions and the calls of the system for each command: of `make 1024`; of reads of a block of 4,096 bytes; of writes of a block;
 # and of writes of 64 blocks, there for each block. Each is the difference of two runs, of which one has more of these commands, so that reading the trace and
 # printing are counted and the start of the program, the making of the drive and the end are not; for `make` the other one is `make 0`. The drive is that of
-# `make`, without collectors but for `make`, whose two look up to 4,096 times each how far the history has grown; no unit is emptied but by `make`.
+# `make`, without collectors but for `make`, whose two have up to 4,096 turns each; no unit is emptied but by `make`.
 # It needs valgrind for the instructions (of all threads, of the program and the libraries and not of the system's core) and strace for the calls.
 # Usage: bench/instructions.sh [NUMBER]: `make NUMBER`, and so many commands of a block, 1024 if not given. The program is the one that ./fdpdrive runs.
 set -eu

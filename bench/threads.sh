@@ -6,8 +6,8 @@
 # Prints commands a second (the texts and the printing included, and not a run of empty traces over the same image, which is the start of the program and the
 # opening), programs a block (pages of data for each block that hosts wrote, so 1 where nothing is copied), and the processors' time. The aim: four hosts serve
 # at least 0.9 times as many commands a second as one host.
-# Collectors have 4,096 turns each, and count each look at how far the history has grown as one, also where it has not: with few hosts the sessions with
-# collectors measure mostly these looks.
+# Collectors have 4,096 turns each, each of which makes a step or finds that none is due in a group; between those they sleep until the history has grown by as
+# many entries as a unit has pages.
 # It looks that each command succeeded, that a host got the same answers in each session, whatever the schedule, and that each image
 # opens to the blocks that were written last.
 # Usage: bench/threads.sh [RUNS [COMMANDS]]: the best of so many runs of so many commands a row, 5 and 2048 (the most that one host serves of each) if not given.

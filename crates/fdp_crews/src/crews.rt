@@ -66,7 +66,7 @@ fn collect_all<V: Steps + Send, G: Gate + Sync, R: Threads + Wait + Sync>(
     sweepers
 }
 
-/// Has all hosts serve their traces while all collectors make their turns.
+/// Has all hosts serve their traces while all collectors make their turns. Where the last host has ended, the gauge tells the collectors.
 pub fn run_crews<V: Steps + Send, G: Gate + Sync, R: Threads + Wait + Sync>(
     rt: &R,
     alloc: Global,
@@ -85,13 +85,19 @@ pub fn run_crews<V: Steps + Send, G: Gate + Sync, R: Threads + Wait + Sync>(
     ensures collectors { HaveSwept V.origin lock.now gauge.now sweepers.items result.1.items }
 {
     let groups = config.groups;
-    join(
+    // Where no thread can be made the first closure is called last: collectors sleep until the hosts have ended.
+    let (sweepers, workers) = join(
         rt,
-        ||
-            requires { (config.now ≡ (run_of V.origin V.run lock.now).config) × IsValidConfig config.now × (traces : List (List Command)) × All (λ w. IsDueFor V.origin V.run lock.now gauge.now traces w) workers.items }
-        { work_all(rt, alloc, lock, gauge, gate, config, workers) },
         ||
             requires { (groups ≡ (run_of V.origin V.run lock.now).config.groups) × (0 < groups) × All (λ w. MaySweep V.origin lock.now gauge.now w) sweepers.items }
         { collect_all(rt, lock, gauge, gate, groups, sweepers) },
-    )
+        ||
+            requires { (config.now ≡ (run_of V.origin V.run lock.now).config) × IsValidConfig config.now × (traces : List (List Command)) × All (λ w. IsDueFor V.origin V.run lock.now gauge.now traces w) workers.items }
+        {
+            let workers = work_all(rt, alloc, lock, gauge, gate, config, workers);
+            gauge.finish();
+            workers
+        },
+    );
+    (workers, sweepers)
 }

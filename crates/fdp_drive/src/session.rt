@@ -48,7 +48,7 @@ pub fn run_session<F: Flash + Send + Drop, G: Gate + Sync, R: Threads + Wait + S
     let Ok(passes) = Vec::with_capacity(alloc, workers + 1) else {
         return unserved(alloc, group);
     };
-    let Ok((gauge, teller, pass)) = Gauge::new(alloc) else {
+    let Ok((gauge, teller, pass)) = Gauge::new(alloc, config.unit_pages) else {
         return unserved(alloc, group);
     };
     let board = Board::new(group, teller);

@@ -4,6 +4,7 @@ ghost use Rattle.crossbeam_utils.specs.Seq.{cell_view};
 ghost use Rattle.fdp_base.specs.Records.{longer};
 ghost use Rattle.fdp_gauge.specs.Rule.{counts_of};
 
+use crate::bell::{Bell, Sight};
 use crate::known::{Cell, Learns, Listed, Notes, Off, Place, Reads, Stores};
 use fdp_base::{Recorded, Snapshot};
 use std::alloc::{AllocError, Global};
@@ -14,6 +15,7 @@ use std::sync::Wait;
 #[derive(Drop)]
 pub struct Gauge {
     pub(crate) cell: Cell,
+    bell: Bell,
 }
 
 /// The one who tells the gauge the record.
@@ -33,8 +35,9 @@ pub struct Pass {
 impl Gauge {
     ghost use Rattle.fdp_gauge.specs.Passes.{told_of, seen_of, snapshot_of, IsTellerOf, IsPassOf};
 
-    /// A gauge that was told nothing, with its teller and a pass.
-    pub fn new(alloc: Global) -> Result<(Gauge, Teller, Pass), AllocError>
+    /// A gauge that was told nothing, with its teller and a pass. Who waits at it is woken each time that the record comes into another stretch of
+    /// so many entries, at least one.
+    pub fn new(alloc: Global, stretch: u32) -> Result<(Gauge, Teller, Pass), AllocError>
         ensures of_gauge { IfOk result (λ made. IsTellerOf made.0 made.1 × IsPassOf made.0 made.2) }
         ensures nothing_told { IfOk result (λ made. (told_of made.1 ≡ []) × (seen_of made.2 ≡ [])) }
     {
@@ -42,7 +45,8 @@ impl Gauge {
         let pass = Pass {
             place: cell.split_pass::<Notes>(&mut place),
         };
-        Ok((Gauge { cell }, Teller { place }, pass))
+        let bell = Bell::new(stretch);
+        Ok((Gauge { cell, bell }, Teller { place }, pass))
     }
 
     /// Another pass, which has seen as much.
@@ -57,7 +61,7 @@ impl Gauge {
         }
     }
 
-    /// Tells the record of a value. `snapshot` has its length and the sums of what its entries add.
+    /// Tells the record of a value, and wakes those who wait for it. `snapshot` has its length and the sums of what its entries add.
     pub fn publish<V: Recorded, R: Wait>(
         &self,
         rt: &R,
@@ -72,6 +76,8 @@ impl Gauge {
         ensures told { told_of teller.new ≡ map V.mark (V.entries value.now) }
     {
         self.store::<Brand, V, R>(rt, teller, value, snapshot);
+        // After the words are there, so that who wakes finds them.
+        self.bell.tell(snapshot.length);
     }
 
     fn store<J: Listed, V: Recorded, R: Wait>(
@@ -113,6 +119,28 @@ impl Gauge {
             media_blocks: words[2],
             erases: words[3],
         }
+    }
+
+    /// Where in the record the pass stands, by a list that goes on from all that it has seen.
+    pub fn watch<R: Wait>(&self, rt: &R, pass: &mut Pass) -> Sight
+        requires of_gauge { IsPassOf self.now pass.old }
+        ensures of_gauge { IsPassOf self.now pass.new }
+        ensures goes_on { IsPrefix (seen_of pass.old) (seen_of pass.new) }
+    {
+        // Asked first: what is read then is all that is ever told.
+        let is_over = self.bell.is_over();
+        let length = self.read(rt, pass).length;
+        self.bell.sight(is_over, length)
+    }
+
+    /// Sleeps until the record may be in another stretch, or no more is told. It may return for no reason.
+    pub fn wait<R: Wait>(&self, rt: &R, sight: Sight) {
+        self.bell.sleep(rt, sight);
+    }
+
+    /// Says that no more is told, and wakes all who wait. A record that is told all the same is shown, and wakes nobody.
+    pub fn finish(&self) {
+        self.bell.close();
     }
 
     /// Tells the pass what the teller has told.

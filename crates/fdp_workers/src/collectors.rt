@@ -11,15 +11,15 @@ use crate::steps::Steps;
 use crate::stop::Stop;
 use crate::turns::take_room;
 use fdp_core::Advance;
-use fdp_gauge::{Gauge, Pass};
+use fdp_gauge::{Gauge, Pass, Sight};
 use fdp_io::{Gate, Point};
 use fdp_lock::{GroupLock, Seat};
 use std::alloc::AllocError;
 use std::sync::Wait;
-use std::thread;
 
-/// Makes steps of relocation over the groups in rotation, each in a turn of its own, and at most so many turns. Where no group has work, it takes
-/// no turn until the gauge shows that the record has grown. It ends early where there is no memory, or no further step may be made.
+/// Makes steps of relocation over the groups in rotation, each in a turn of its own, and at most so many turns. Where no group has work, it sleeps until
+/// the gauge shows a record in another stretch, or that no more is told; it ends where no group has work behind that. It ends early where there is no
+/// memory, or no further step may be made.
 pub fn collector<V: Steps, G: Gate, R: Wait>(
     rt: &R,
     lock: &GroupLock<V>,
@@ -82,39 +82,51 @@ pub fn sweep<V: Steps, G: Gate, R: Wait>(
 {
     let mut rg = 0;
     let mut looked = Looked {
-        length: 0,
+        sight: Sight {
+            stretch: 0,
+            is_over: false,
+        },
         groups: 0,
     };
-    for _ in 0..turns {
-        let length = gauge.read(rt, pass).length;
-        if looked.has_seen(length, groups) {
-            thread::yield_now();
+    let mut left = turns;
+    for _ in rt.forever() {
+        if left == 0 {
+            return Ok(());
+        }
+        let sight = gauge.watch(rt, pass);
+        if looked.has_seen(sight, groups) {
+            if sight.is_over {
+                return Ok(());
+            }
+            gauge.wait(rt, sight);
             continue;
         }
         match collect(rt, lock, gate, seat, rg) {
-            Ok(advance) => looked.note(length, advance),
+            Ok(advance) => looked.note(sight, advance),
             Err(Stop::NoMemory) => return Err(AllocError),
             Err(Stop::Turns) => return Ok(()),
         }
         rg = after(rg, groups);
+        left -= 1;
     }
-    Ok(())
+    // The loop ends by its returns alone.
+    unreachable!()
 }
 
-/// The groups in a row that had nothing to do while the record was this long.
+/// The groups in a row that had nothing to do while the record stood there.
 #[derive(Clone, Copy)]
 struct Looked {
-    length: u64,
+    sight: Sight,
     groups: u16,
 }
 
 impl Looked {
-    /// Whether no group has work as long as the record has this length.
-    fn has_seen(&self, length: u64, groups: u16) -> bool {
-        self.length == length && self.groups >= groups
+    /// Whether no group had work since the record stands there.
+    fn has_seen(&self, sight: Sight, groups: u16) -> bool {
+        self.sight == sight && self.groups >= groups
     }
 
-    fn note(&mut self, length: u64, advance: Advance) {
+    fn note(&mut self, sight: Sight, advance: Advance) {
         let nothing = match advance {
             Advance::Nothing => true,
             Advance::Copied
@@ -123,13 +135,13 @@ impl Looked {
             | Advance::Starved
             | Advance::Fault => false,
         };
-        if self.length != length || !nothing {
+        if self.sight != sight || !nothing {
             self.groups = 0;
         }
         if nothing {
             self.groups = self.groups.saturating_add(1);
         }
-        self.length = length;
+        self.sight = sight;
     }
 }
 

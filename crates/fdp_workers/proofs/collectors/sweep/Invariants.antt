@@ -1,4 +1,4 @@
-use Rattle.std.proofs.Common.{◌≤◌, ◌<◌}
+use Rattle.std.proofs.Common.{◌+◌, ◌≤◌, ◌<◌}
 use mathlib.Core.List.{IsPrefix}
 use Rattle.fdp_gauge.specs.Passes.{seen_of, IsPassOf}
 use Rattle.fdp_lock.specs.Seats.{turns_of, HoldsNoTurn, IsSeatOf}
@@ -12,6 +12,6 @@ invariant-loop g l = record {
   nothing : AddsNothing l.initial.seat l.seat;
   of_gauge : IsPassOf l.gauge l.pass;
   goes_on : IsPrefix (seen_of l.initial.pass) (seen_of l.pass);
-  turns : turns_of l.seat ≤ l.counter;
+  turns : turns_of l.seat + l.left ≤ l.turns;
   group : l.rg < l.groups;
 }
