@@ -1,0 +1,10 @@
+pub mod Asking
+pub mod Laid
+pub mod Blocks
+pub mod Fronts
+pub mod Made
+pub mod Refused
+pub mod Said
+pub mod Splitting
+pub mod Advancing
+pub mod Serving

@@ -1,0 +1,13 @@
+use Rattle.std.proofs.Common.{◌≡◌, ◌++◌, take}
+use Rattle.std.specs.Prelude.{flat_map}
+use Rattle.std.specs.List.{All}
+use Rattle.fdp_layouts.specs.Frame.{Fits}
+use Rattle.fdp_layouts.specs.Range.{dsm_range, dsm_range_numbers}
+use Rattle.fdp_binary.specs.Carrying.{Extends}
+use Rattle.fdp_binary.specs.Saying.{range_bytes, with_attributes}
+use Rattle.fdp_binary.proofs.data.push_ranges.Given as goal
+
+abbrev pub invariant-loop-range : goal.invariant-loop-range
+invariant-loop-range l =
+    (l.into.items ≡ l.fn.into.items ++ flat_map (λ range. range_bytes (with_attributes 0 range)) (take l.range-index l.ranges))
+    × Extends l.fn.into.items l.into.items

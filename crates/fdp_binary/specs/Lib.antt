@@ -1,0 +1,10 @@
+pub mod Front
+pub mod Fields
+pub mod Asked
+pub mod Lookup
+pub mod Saying
+pub mod Frames
+pub mod Streams
+pub mod Reading
+pub mod Carrying
+pub mod Reader

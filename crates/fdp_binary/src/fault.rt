@@ -1,0 +1,42 @@
+ghost use Rattle.std.specs.Prelude.{◌≡◌};
+
+use std::alloc::{AllocError, AllocFailed};
+
+/// What is wrong with a frame, in the order in which it is told.
+#[derive(Clone, Copy, Debug, PartialEq, Eq)]
+pub enum StreamFaultKind {
+    /// A reserved bit or byte of its head or of its entry is not zero.
+    Head,
+    /// It is a create, which has no frame.
+    Create,
+    /// Its data are longer or shorter than those that its entry has.
+    Length,
+    /// With it there are more than 8,192 commands, or more than 8,192 blocks over the reads.
+    Many,
+    /// The stream ends within it.
+    Cut,
+}
+
+/// The first frame that is none: the offset of its first byte in the stream, and what is wrong with it.
+#[derive(Clone, Copy, Debug, PartialEq, Eq)]
+pub struct StreamFault {
+    pub at: u64,
+    pub kind: StreamFaultKind,
+}
+
+/// Why a piece was not taken.
+#[derive(Clone, Copy, Debug, PartialEq, Eq)]
+pub enum FeedError {
+    Fault(StreamFault),
+    NoMemory,
+}
+
+impl From<AllocError> for FeedError {
+    ghost use Rattle.fdp_binary.specs.declared.fault.FeedError.TheVariants.{NoMemory};
+
+    ghost from_gives = { λ _ e. e ≡ NoMemory };
+
+    fn from(_e: AllocError) -> FeedError {
+        FeedError::NoMemory
+    }
+}
