@@ -1,5 +1,5 @@
 -- The reader goes on, frame by frame and piece by piece.
-use Rattle.std.proofs.Common.{◌≡◌, inl, inr, ℕ, zero, suc, ◌+◌, ◌-◌, ◌*◌, ◌^◌, ◌<◌, ◌≤◌, Bool, List, [], ◌∷◌, ◌++◌, length, take, drop, Option, Some, None, refl, sym, ap, subst, ◌∙◌, arith, append_assoc}
+use Rattle.std.proofs.Common.{◌≡◌, inl, inr, ℕ, ◌+◌, ◌-◌, ◌<◌, ◌≤◌, List, [], ◌∷◌, ◌++◌, length, take, drop, Option, Some, None, refl, sym, ap, subst, ◌∙◌, arith, append_assoc}
 use Rattle.std.specs.Prelude.{MatchOption}
 use Rattle.std.specs.List.{sum_by}
 use Rattle.std.proofs.Math.Seq.{take-add, take-length}
@@ -14,10 +14,8 @@ use Rattle.fdp_binary.specs.declared.fault.StreamFaultKind.TheVariants as faults
 use Rattle.fdp_binary.specs.declared.frames.Reached.{Reached}
 use Rattle.fdp_binary.specs.declared.next.Passed.{Passed}
 use Rattle.fdp_binary.specs.Asked.{reads_in}
-use Rattle.fdp_binary.specs.Front.{front_bytes}
-use Rattle.fdp_binary.specs.Frames.{IsFrame}
 use Rattle.fdp_binary.specs.Saying.{Says}
-use Rattle.fdp_binary.specs.Streams.{AreFew, HasRoom, IsBroken, IsCutAt, IsFaultOf, IsShort, IsStream, Lacks, Splits}
+use Rattle.fdp_binary.specs.Streams.{AreFew, HasRoom, IsBroken, IsFaultOf, IsShort, IsStream, Lacks, Splits}
 use Rattle.fdp_binary.specs.Reader.{GoesOn, IsPassed, IsWhole, Reaches}
 use Rattle.fdp_binary.specs.Reading.{HasRead, IsWaiting, Stream}
 use Rattle.fdp_binary.proofs.Asking.{one_asked}

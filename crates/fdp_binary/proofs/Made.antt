@@ -1,8 +1,7 @@
 -- The entry that is made of a command says it.
-use Rattle.std.proofs.Common.{◌≡◌, ℕ, ◌+◌, ◌-◌, ◌*◌, ◌/◌, ◌%◌, ◌^◌, ◌<◌, ◌≤◌, Bool, true, false, List, [], ◌∷◌, ◌++◌, length, refl, sym, ap, subst, ◌∙◌, arith, append_assoc, ◌==◌}
-use Rattle.std.specs.Prelude.{flat_map, min}
+use Rattle.std.proofs.Common.{◌≡◌, ℕ, ◌+◌, ◌-◌, ◌*◌, ◌/◌, ◌%◌, ◌^◌, ◌<◌, ◌≤◌, Bool, true, false, List, [], ◌∷◌, ◌++◌, length, refl, sym, ap, subst, ◌∙◌, arith, append_assoc}
+use Rattle.std.specs.Prelude.{flat_map}
 use Rattle.std.specs.Int.{to_le_bytes, w16}
-use Rattle.std.specs.List.{All}
 use Rattle.std.proofs.lemmas.List.{length-append}
 use Rattle.fdp_base.specs.declared.command.Command.{Command}
 use Rattle.fdp_base.specs.declared.command.Command.TheVariants as commands
@@ -28,8 +27,8 @@ use Rattle.fdp_queues.specs.declared.work.Work.{Work}
 use Rattle.fdp_queues.specs.Entry.{high, low, nlb, numd, zero_based}
 use Rattle.fdp_binary.specs.declared.front.Front.{Front}
 use Rattle.fdp_binary.specs.Front.{entry_bytes, front_bytes, head}
-use Rattle.fdp_binary.specs.Fields.{bits, blocks_in, dealloc_in, dwords_of, get_fdp_in, is_set, joined, log_in, pids_in, ranges_in, read_in, set_events_in, set_fdp_in, status_in, types_in, update_in, write_in, zero_in}
-use Rattle.fdp_binary.specs.Saying.{AreLaid, IsPayload, IsPid, IsRange, Says, pattern, range_bytes, with_attributes}
+use Rattle.fdp_binary.specs.Fields.{bits, blocks_in, dealloc_in, dwords_of, get_fdp_in, is_set, joined, log_in, read_in, set_events_in, set_fdp_in, status_in, update_in, write_in, zero_in}
+use Rattle.fdp_binary.specs.Saying.{AreLaid, IsPayload, IsPid, IsRange, Says, range_bytes, with_attributes}
 use Rattle.fdp_binary.specs.Frames.{IsFrame}
 use Rattle.fdp_binary.specs.Carrying.{AreTypedPids, AreTypedRanges, IsCarried, IsCarriedPayload, IsTyped, IsTypedPayload, admin_made, data_of, entry_made, payload_data}
 use Rattle.fdp_binary.proofs.Blocks.{block-from, pattern-size}

@@ -1,14 +1,12 @@
 -- What has a frame is carried.
-use Rattle.std.proofs.Common.{◌≡◌, ℕ, ◌+◌, ◌-◌, ◌*◌, ◌/◌, ◌%◌, ◌^◌, ◌<◌, ◌≤◌, Bool, true, false, List, [], ◌∷◌, ◌++◌, length, refl, sym, ap, subst, ◌∙◌, arith, inl, inr}
+use Rattle.std.proofs.Common.{◌≡◌, ℕ, ◌+◌, ◌*◌, Bool, true, false, List, length, refl, sym, ap, subst, ◌∙◌, arith}
 use Rattle.std.specs.Prelude.{if◌then◌else◌}
-use Rattle.std.proofs.lemmas.Bool.{cases_Bool}
 use Rattle.fdp_base.specs.declared.command.Command.{Command}
 use Rattle.fdp_base.specs.declared.command.Command.TheVariants as commands
 use Rattle.fdp_base.specs.declared.command.Other.{Other}
 use Rattle.fdp_base.specs.declared.payload.Payload.{Payload}
 use Rattle.fdp_base.specs.declared.payload.Payload.TheVariants as payloads
 use Rattle.fdp_base.specs.Geometry.{IsWithin}
-use Rattle.fdp_layouts.specs.declared.submission.EntryFlags.{EntryFlags}
 use Rattle.fdp_layouts.specs.declared.submission.Fuse.{Fuse}
 use Rattle.fdp_layouts.specs.declared.submission.Fuse.TheVariants as fuses
 use Rattle.fdp_layouts.specs.declared.submission.Psdt.{Psdt}
@@ -20,7 +18,7 @@ use Rattle.fdp_binary.specs.declared.asked.Asked.TheVariants as kinds
 use Rattle.fdp_binary.specs.Front.{flags_byte}
 use Rattle.fdp_binary.specs.Fields.{bits, blocks_in, feature_in, has_feature, other_in, select_in}
 use Rattle.fdp_binary.specs.Asked.{Asks}
-use Rattle.fdp_binary.specs.Saying.{IsPayload, Says, pattern}
+use Rattle.fdp_binary.specs.Saying.{IsPayload, Says}
 use Rattle.fdp_binary.specs.Frames.{IsFrame}
 use Rattle.fdp_binary.specs.Carrying.{IsCarried, IsCarriedPayload, SaysOther, entry_made}
 

@@ -1,7 +1,6 @@
 -- What a frame says is one command: its kind, its length, its values.
-use Rattle.std.proofs.Common.{◌≡◌, ℕ, ◌+◌, ◌*◌, ◌/◌, ◌%◌, ◌^◌, ◌<◌, ◌≤◌, Bool, true, false, List, [], ◌∷◌, ◌++◌, length, take, Option, Some, None, refl, sym, ap, subst, ◌∙◌, arith}
-use Rattle.std.specs.Int.{to_le_bytes, from_le_bytes, w16, w32}
-use Rattle.std.proofs.lemmas.List.{length-append, nil_from_length}
+use Rattle.std.proofs.Common.{◌≡◌, ℕ, ◌*◌, ◌≤◌, Bool, List, [], length, take, Option, Some, None, refl, sym, ap, subst, ◌∙◌, arith}
+use Rattle.std.specs.Int.{from_le_bytes, w16, w32}
 use Rattle.std.proofs.lemmas.Nat.{from_le_bytes-to_le_bytes_2}
 use Rattle.fdp_base.specs.declared.command.Command.{Command}
 use Rattle.fdp_base.specs.declared.command.Command.TheVariants as commands
@@ -15,7 +14,7 @@ use Rattle.fdp_binary.specs.declared.asked.Asked.{Asked}
 use Rattle.fdp_binary.specs.declared.asked.Asked.TheVariants as kinds
 use Rattle.fdp_binary.specs.Asked.{IsAsked, data_in, reads_in}
 use Rattle.fdp_binary.specs.Fields.{blocks_in, dealloc_in, delete_in, flush_in, get_fdp_in, log_in, other_in, read_in, set_events_in, set_fdp_in, status_in, update_in, write_in, zero_in}
-use Rattle.fdp_binary.specs.Saying.{AreLaid, IsPayload, IsPid, IsRange, Says, pattern, with_attributes}
+use Rattle.fdp_binary.specs.Saying.{AreLaid, IsPayload, IsPid, IsRange, Says, with_attributes}
 use Rattle.fdp_binary.proofs.Asking.{one_asked}
 use Rattle.fdp_binary.proofs.Blocks.{seed-first}
 use Rattle.fdp_binary.proofs.Fronts.{one_range}

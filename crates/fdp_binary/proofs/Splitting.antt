@@ -1,9 +1,8 @@
 -- What stands behind a stream, and that it is the longest.
-use Rattle.std.proofs.Common.{◌≡◌, ◌⊎◌, inl, inr, ℕ, zero, suc, ◌+◌, ◌-◌, ◌*◌, ◌^◌, ◌<◌, ◌≤◌, Bool, List, [], ◌∷◌, ◌++◌, length, take, drop, Option, Some, None, refl, sym, ap, subst, ◌∙◌, arith, append_assoc}
-use Rattle.std.specs.Prelude.{flat_map, MatchOption}
-use Rattle.std.specs.List.{AllZip, sum_by}
-use Rattle.std.proofs.Math.Seq.{take-add}
-use Rattle.std.proofs.lemmas.List.{append-nil, length-append, length-drop, length-take, take-append-drop, take-append-le, drop-append-le, drop_at, take_at, nil_from_length}
+use Rattle.std.proofs.Common.{◌≡◌, inl, inr, ℕ, ◌+◌, ◌≤◌, List, [], ◌∷◌, ◌++◌, length, take, Option, Some, refl, sym, ap, subst, ◌∙◌, arith, append_assoc}
+use Rattle.std.specs.Prelude.{flat_map}
+use Rattle.std.specs.List.{AllZip}
+use Rattle.std.proofs.lemmas.List.{append-nil, length-append, length-take, take-append-le}
 use Rattle.std.proofs.lemmas.List.Sums.{sum_by-append}
 use Rattle.std.proofs.lemmas.Grind.{flat_map-append}
 use Rattle.fdp_base.specs.declared.command.Command.{Command}
@@ -15,7 +14,7 @@ use Rattle.fdp_binary.specs.declared.fault.StreamFault.{StreamFault}
 use Rattle.fdp_binary.specs.declared.fault.StreamFaultKind.{StreamFaultKind}
 use Rattle.fdp_binary.specs.declared.fault.StreamFaultKind.TheVariants as faults
 use Rattle.fdp_binary.specs.declared.front.Front.{Front}
-use Rattle.fdp_binary.specs.Asked.{Asks, IsAsked, data_in, reads_in}
+use Rattle.fdp_binary.specs.Asked.{Asks, IsAsked, reads_in}
 use Rattle.fdp_binary.specs.Front.{Begins, front_bytes}
 use Rattle.fdp_binary.specs.Frames.{IsFrame}
 use Rattle.fdp_binary.specs.Saying.{Says}
@@ -225,3 +224,74 @@ not-broken block bytes cs fault is stream (ds, inl bad) =
 not-broken block bytes cs fault is stream (ds, inr (kind, cut)) =
     let same = one-splitting block bytes cs ds [] cut.rest is (stream-splits block bytes cs stream) cut.splits in
     omega (arith, cut.some, ap (λ (t : List ℕ). length t) same.1)
+
+-- ---- one fault
+
+no-create : (rest : List ℕ) (f g : Front) (asked : Option Asked) → Opens rest f asked → Begins g rest → Asks g.admin g.entry kinds.Create → ⊥
+no-create rest f g asked opens begins asks =
+    let same : g ≡ f = begins-one g f rest begins opens.begins in
+    let there : IsAsked f.admin f.entry (Some kinds.Create) = subst (λ (x : Front). Asks x.admin x.entry kinds.Create) same asks in
+    opens.kept (one_asked f.admin f.entry asked (Some kinds.Create) opens.asks there)
+
+same-length : (block : ℕ) (rest : List ℕ) (f g : Front) (asked other : Option Asked) → Opens rest f asked → Opens rest g other → HasLength block f asked → HasLength block g other
+same-length block rest f g asked other p q sized =
+    let same = opens-one rest f g asked other p q in
+    subst (λ (x : Front). HasLength block x other) same.0 (subst (λ (k : Option Asked). HasLength block f k) same.1 sized)
+
+-- nothing that stands behind a stream is both short and a frame with a fault
+short-or-bad : (block : ℕ) (cs : List Command) (rest : List ℕ) (kind : StreamFaultKind) → IsShort block cs rest → Lacks block cs rest kind → ⊥
+short-or-bad block cs rest kind (inl few) l = omega (arith, few, lacks-some block cs rest kind l)
+short-or-bad block cs rest faults.Head (inr (f, asked, opens, sized, room, less)) l = l.1 f opens.begins
+short-or-bad block cs rest faults.Create (inr (f, asked, opens, sized, room, less)) (g, begins, asks) = no-create rest f g asked opens begins asks
+short-or-bad block cs rest faults.Length (inr (f, asked, opens, sized, room, less)) (g, other, opens-g, wrong) = wrong (same-length block rest f g asked other opens opens-g sized)
+short-or-bad block cs rest faults.Many (inr (f, asked, opens, sized, room, less)) (g, other, opens-g, sized-g, full) =
+    let same = opens-one rest f g asked other opens opens-g in
+    full (subst (HasRoom cs) (λ i. reads_in (same.1 i) (same.0 i).entry) room)
+short-or-bad block cs rest faults.Cut (inr h) l = l
+
+one_kind_of_fault : (block : ℕ) (cs : List Command) (rest : List ℕ) (j k : StreamFaultKind) → Lacks block cs rest j → Lacks block cs rest k → j ≡ k
+one_kind_of_fault block cs rest faults.Head faults.Head l m = refl
+one_kind_of_fault block cs rest faults.Head faults.Create l (g, begins, asks) = absurd (l.1 g begins)
+one_kind_of_fault block cs rest faults.Head faults.Length l (g, asked, opens, wrong) = absurd (l.1 g opens.begins)
+one_kind_of_fault block cs rest faults.Head faults.Many l (g, asked, opens, sized, full) = absurd (l.1 g opens.begins)
+one_kind_of_fault block cs rest faults.Head faults.Cut l m = absurd m
+one_kind_of_fault block cs rest faults.Create faults.Head (g, begins, asks) m = absurd (m.1 g begins)
+one_kind_of_fault block cs rest faults.Create faults.Create l m = refl
+one_kind_of_fault block cs rest faults.Create faults.Length (g, begins, asks) (f, asked, opens, wrong) = absurd (no-create rest f g asked opens begins asks)
+one_kind_of_fault block cs rest faults.Create faults.Many (g, begins, asks) (f, asked, opens, sized, full) = absurd (no-create rest f g asked opens begins asks)
+one_kind_of_fault block cs rest faults.Create faults.Cut l m = absurd m
+one_kind_of_fault block cs rest faults.Length faults.Head (g, asked, opens, wrong) m = absurd (m.1 g opens.begins)
+one_kind_of_fault block cs rest faults.Length faults.Create (f, asked, opens, wrong) (g, begins, asks) = absurd (no-create rest f g asked opens begins asks)
+one_kind_of_fault block cs rest faults.Length faults.Length l m = refl
+one_kind_of_fault block cs rest faults.Length faults.Many (g, other, opens-g, wrong) (f, asked, opens, sized, full) = absurd (wrong (same-length block rest f g asked other opens opens-g sized))
+one_kind_of_fault block cs rest faults.Length faults.Cut l m = absurd m
+one_kind_of_fault block cs rest faults.Many faults.Head (g, asked, opens, sized, full) m = absurd (m.1 g opens.begins)
+one_kind_of_fault block cs rest faults.Many faults.Create (f, asked, opens, sized, full) (g, begins, asks) = absurd (no-create rest f g asked opens begins asks)
+one_kind_of_fault block cs rest faults.Many faults.Length (f, asked, opens, sized, full) (g, other, opens-g, wrong) = absurd (wrong (same-length block rest f g asked other opens opens-g sized))
+one_kind_of_fault block cs rest faults.Many faults.Many l m = refl
+one_kind_of_fault block cs rest faults.Many faults.Cut l m = absurd m
+one_kind_of_fault block cs rest faults.Cut k l m = absurd l
+
+same-place : (a b n : List ℕ) (x y : ℕ) → a ≡ b → x + length a ≡ length n → y + length b ≡ length n → x ≡ y
+same-place a b n x y same px py = omega (arith, px, py, ap (λ (t : List ℕ). length t) same)
+
+pub one-broken : (block : ℕ) (bytes : List ℕ) (f g : StreamFault) → IsBlockSize block → IsBroken block bytes f → IsBroken block bytes g → f ≡ g
+one-broken block bytes f g is (cs, inl p) (ds, inl q) =
+    let same = one-splitting block bytes cs ds p.rest q.rest is p.splits q.splits in
+    let at = same-place p.rest q.rest bytes f.at g.at same.1 p.place q.place in
+    let here = subst (λ (t : List ℕ). Lacks block ds t f.kind) same.1 (subst (λ (t : List Command). Lacks block t p.rest f.kind) same.0 p.lacks) in
+    let kind = one_kind_of_fault block ds q.rest f.kind g.kind here q.lacks in
+    λ i. record { at = at i; kind = kind i }
+one-broken block bytes f g is (cs, inl p) (ds, inr (cut, q)) =
+    let same = one-splitting block bytes cs ds p.rest q.rest is p.splits q.splits in
+    let here = subst (λ (t : List ℕ). Lacks block ds t f.kind) same.1 (subst (λ (t : List Command). Lacks block t p.rest f.kind) same.0 p.lacks) in
+    absurd (short-or-bad block ds q.rest f.kind q.short here)
+one-broken block bytes f g is (cs, inr (cut, p)) (ds, inl q) =
+    let same = one-splitting block bytes ds cs q.rest p.rest is q.splits p.splits in
+    let here = subst (λ (t : List ℕ). Lacks block cs t g.kind) same.1 (subst (λ (t : List Command). Lacks block t q.rest g.kind) same.0 q.lacks) in
+    absurd (short-or-bad block cs p.rest g.kind p.short here)
+one-broken block bytes f g is (cs, inr (cut, p)) (ds, inr (other, q)) =
+    let same = one-splitting block bytes cs ds p.rest q.rest is p.splits q.splits in
+    let at = same-place p.rest q.rest bytes f.at g.at same.1 p.place q.place in
+    let kind = cut ∙ sym other in
+    λ i. record { at = at i; kind = kind i }

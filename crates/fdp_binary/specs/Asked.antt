@@ -1,5 +1,5 @@
 -- What kind of command an entry asks for, and how many bytes of data it has.
-use Rattle.std.specs.Prelude.{◌≡◌, ℕ, ◌*◌, Bool, true, false, ◌==◌, ◌&&◌, Option, Some, None, MatchOption, if◌then◌else◌}
+use Rattle.std.specs.Prelude.{◌≡◌, ℕ, ◌*◌, Bool, true, false, Option, Some, None, MatchOption}
 use Rattle.fdp_base.specs.declared.codes.AdminOpcode.{AdminOpcode}
 use Rattle.fdp_base.specs.declared.codes.AdminOpcode.TheVariants as admins
 use Rattle.fdp_base.specs.declared.codes.Feature.TheVariants as features

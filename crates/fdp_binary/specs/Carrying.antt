@@ -1,5 +1,5 @@
 -- Which commands have a frame, and the frame that is made of them.
-use Rattle.std.specs.Prelude.{◌≡◌, ℕ, ◌+◌, ◌*◌, ◌^◌, ◌<◌, ◌≤◌, Bool, List, [], ◌++◌, length, flat_map}
+use Rattle.std.specs.Prelude.{◌≡◌, ℕ, ◌*◌, ◌^◌, ◌<◌, ◌≤◌, Bool, List, [], ◌++◌, length, flat_map}
 use Rattle.std.specs.Int.{to_le_bytes, w16}
 use Rattle.std.specs.List.{All}
 use Rattle.fdp_base.specs.declared.command.Command.{Command}
@@ -17,7 +17,7 @@ use Rattle.fdp_queues.specs.Entry.{work_of}
 use Rattle.fdp_binary.specs.declared.asked.Asked.{Asked}
 use Rattle.fdp_binary.specs.Asked.{Asks}
 use Rattle.fdp_binary.specs.Fields.{other_in}
-use Rattle.fdp_binary.specs.Saying.{IsPayload, pattern, range_bytes, with_attributes}
+use Rattle.fdp_binary.specs.Saying.{pattern, range_bytes, with_attributes}
 
 -- the entry that a queue holds of a command
 abbrev pub entry_made : Command → Sqe

@@ -1,6 +1,6 @@
 //! What holds of streams, whoever reads or writes them.
 
-ghost use Rattle.std.specs.Prelude.{◌≡◌, ◌⊎◌, ℕ, List};
+ghost use Rattle.std.specs.Prelude.{◌≡◌, ℕ, List};
 ghost use Rattle.fdp_base.specs.declared.command.Command.{Command};
 ghost use Rattle.fdp_base.specs.declared.config.DriveConfig.{DriveConfig};
 ghost use Rattle.fdp_base.specs.CommandKinds.{IsWellFormed};
@@ -24,6 +24,11 @@ pub fn one_reading()
 pub fn a_stream_is_not_broken()
     ensures { (block : ℕ) (bytes : List ℕ) (cs : List Command) (fault : StreamFault) → IsBlockSize block
         → IsStream block bytes cs → IsBroken block bytes fault → ⊥ }
+{}
+
+/// Bytes are broken in one way.
+pub fn one_fault()
+    ensures { (block : ℕ) (bytes : List ℕ) (f g : StreamFault) → IsBlockSize block → IsBroken block bytes f → IsBroken block bytes g → f ≡ g }
 {}
 
 /// Commands of frames can be served.

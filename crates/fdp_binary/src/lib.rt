@@ -18,5 +18,7 @@ mod room;
 
 pub use encode::{NotCarried, encode_command};
 pub use fault::{FeedError, StreamFault, StreamFaultKind};
-pub use laws::{a_stream_is_not_broken, frames_are_well_formed, one_command_a_frame, one_reading};
+pub use laws::{
+    a_stream_is_not_broken, frames_are_well_formed, one_command_a_frame, one_fault, one_reading,
+};
 pub use reader::StreamReader;

@@ -1,4 +1,4 @@
-use Rattle.std.proofs.Common.{◌≡◌, ℕ, ◌^◌, ◌<◌, get_or, below_more, subst, refl, arith}
+use Rattle.std.proofs.Common.{◌^◌, ◌<◌, get_or, below_more, subst, refl, arith}
 use Rattle.std.proofs.lemmas.List.{get_or_default}
 use Rattle.fdp_base.specs.declared.command.Range.{Range}
 use Rattle.fdp_binary.proofs.carried.see_ranges.Goals as goal

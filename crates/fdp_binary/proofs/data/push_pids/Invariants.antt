@@ -1,7 +1,6 @@
-use Rattle.std.proofs.Common.{◌≡◌, ◌++◌, ◌^◌, ◌<◌, take}
+use Rattle.std.proofs.Common.{◌≡◌, ◌++◌, take}
 use Rattle.std.specs.Prelude.{flat_map}
 use Rattle.std.specs.Int.{to_le_bytes, w16}
-use Rattle.std.specs.List.{All}
 use Rattle.fdp_binary.specs.Carrying.{Extends}
 use Rattle.fdp_binary.proofs.data.push_pids.Given as goal
 

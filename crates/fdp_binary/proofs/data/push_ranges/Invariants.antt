@@ -1,8 +1,5 @@
 use Rattle.std.proofs.Common.{◌≡◌, ◌++◌, take}
 use Rattle.std.specs.Prelude.{flat_map}
-use Rattle.std.specs.List.{All}
-use Rattle.fdp_layouts.specs.Frame.{Fits}
-use Rattle.fdp_layouts.specs.Range.{dsm_range, dsm_range_numbers}
 use Rattle.fdp_binary.specs.Carrying.{Extends}
 use Rattle.fdp_binary.specs.Saying.{range_bytes, with_attributes}
 use Rattle.fdp_binary.proofs.data.push_ranges.Given as goal

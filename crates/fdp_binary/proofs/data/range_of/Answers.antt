@@ -1,4 +1,4 @@
-use Rattle.std.proofs.Common.{◌≡◌, ◌∙◌, sym}
+use Rattle.std.proofs.Common.{◌∙◌, sym}
 use Rattle.fdp_binary.proofs.Fronts.{no-bad-range}
 use Rattle.fdp_binary.proofs.data.range_of.Goals as goal
 

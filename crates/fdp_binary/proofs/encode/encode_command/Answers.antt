@@ -1,4 +1,4 @@
-use Rattle.std.proofs.Common.{◌≡◌, ◌++◌, ◌∙◌, ap, sym, subst, length}
+use Rattle.std.proofs.Common.{◌≡◌, ◌++◌, subst, length}
 use Rattle.fdp_layouts.specs.Frame.{Fits}
 use Rattle.fdp_layouts.specs.Submission.{sqe, sqe_numbers}
 use Rattle.fdp_queues.specs.declared.work.Work.{Work}

@@ -1,10 +1,8 @@
-use Rattle.std.proofs.Common.{◌≡◌, ◌++◌, ◌*◌, ◌∙◌, ap, sym, subst, length}
+use Rattle.std.proofs.Common.{◌++◌, ◌*◌, ◌∙◌, ap, sym, subst, length}
 use Rattle.std.specs.Prelude.{flat_map}
 use Rattle.std.specs.Int.{to_le_bytes, w16}
-use Rattle.fdp_base.specs.declared.command.Command.{Command}
 use Rattle.fdp_base.specs.declared.command.Command.TheVariants as commands
-use Rattle.fdp_binary.specs.Carrying.{IsCarried, data_of}
-use Rattle.fdp_binary.specs.Front.{entry_bytes, head}
+use Rattle.fdp_binary.specs.Carrying.{IsCarried}
 use Rattle.fdp_binary.specs.Saying.{range_bytes, with_attributes}
 use Rattle.fdp_binary.proofs.Laid.{on_ok, when_ok}
 use Rattle.fdp_binary.proofs.Made.{framed, payload-size, pids-bytes, ranges-bytes}

@@ -1,4 +1,3 @@
-use Rattle.std.proofs.Common.{◌≡◌, ◌++◌, ◌∙◌, sym, ap}
 use Rattle.fdp_binary.proofs.Blocks.{pattern-first, pattern-pushed}
 use Rattle.fdp_binary.proofs.Laid.{grows, grows-none}
 use Rattle.fdp_binary.proofs.payload.push_pattern.Goals as goal

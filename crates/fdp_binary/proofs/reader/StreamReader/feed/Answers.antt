@@ -1,5 +1,5 @@
 use Rattle.std.proofs.Common.{refl, sym, ap, ◌∙◌}
-use Rattle.fdp_binary.proofs.Advancing.{read-stays, read-waiting}
+use Rattle.fdp_binary.proofs.Advancing.{read-stays}
 use Rattle.fdp_binary.proofs.reader.StreamReader.feed.Goals as goal
 
 pub returns-in-Some : goal.returns-in-Some

@@ -1,5 +1,4 @@
-use Rattle.std.proofs.Common.{List, drop, refl, sym, ap, subst, ◌∙◌}
-use Rattle.fdp_binary.specs.Reader.{Reaches}
+use Rattle.std.proofs.Common.{drop, refl, sym, ap, subst, ◌∙◌}
 use Rattle.fdp_binary.specs.Reading.{IsWaiting, Stream}
 use Rattle.fdp_binary.proofs.Advancing.{fed-breaks, fed-waits, waiting-read}
 use Rattle.fdp_binary.proofs.reader.StreamReader.take_piece.Goals as goal
