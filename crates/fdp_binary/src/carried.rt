@@ -1,17 +1,17 @@
 //! Whether a command has a frame.
 
-ghost use Rattle.std.specs.Prelude.{◌≡◌, ◌*◌, ◌^◌, ◌<◌, ℕ, MatchBool, length, ◌≤◌};
+ghost use Rattle.std.specs.Prelude.{◌≡◌, ◌≤◌, MatchBool};
 ghost use Rattle.fdp_base.specs.Geometry.{IsBlockSize, IsWithin};
 ghost use Rattle.fdp_base.specs.declared.command.Command.TheVariants as commands;
-ghost use Rattle.fdp_binary.specs.Carrying.{AreTypedPids, AreTypedRanges, IsCarried, IsCarriedPayload, IsTyped, IsTypedPayload, SaysOther};
-ghost use Rattle.fdp_binary.specs.Saying.{pattern};
+ghost use Rattle.fdp_base.specs.declared.payload.Payload.TheVariants as payloads;
+ghost use Rattle.fdp_binary.specs.Carrying.{IsCarried, IsCarriedPayload, SaysOther, entry_made};
 
 use crate::asked::asked_of;
 use crate::fields::other_in;
 use crate::payload::pattern_of;
 use fdp_base::{
-    Command, GetLog, HandleStatus, HandleUpdate, MOST_ENTRY_BLOCKS, MOST_ENTRY_EVENT_TYPES,
-    MOST_ENTRY_PIDS, MOST_ENTRY_RANGES, Other, Payload, Range, SetFdp,
+    Command, MOST_ENTRY_BLOCKS, MOST_ENTRY_EVENT_TYPES, MOST_ENTRY_PIDS, MOST_ENTRY_RANGES, Other,
+    Payload,
 };
 use fdp_layouts::Sqe;
 use fdp_queues::work_of;
@@ -67,13 +67,12 @@ fn is_carried_payload(payload: &Payload, count: u32, block: u32) -> bool
     }
 }
 
+/// Whether the bytes are those of so many blocks, and no pattern.
 fn is_no_pattern(bytes: &[u8], count: u32, block: u32) -> bool
     requires block { IsBlockSize block }
     requires some { 1 ≤ count }
     requires few { count ≤ MOST_ENTRY_BLOCKS }
-    ensures { MatchBool result
-        ((length bytes.now ≡ count * block) × ((seed : ℕ) → seed < 2 ^ 32 → bytes.now ≡ pattern block count seed → ⊥))
-        ((length bytes.now ≡ count * block) × ((seed : ℕ) → seed < 2 ^ 32 → bytes.now ≡ pattern block count seed → ⊥) → ⊥) }
+    ensures { MatchBool result (IsCarriedPayload block count (payloads.Bytes bytes.now)) (IsCarriedPayload block count (payloads.Bytes bytes.now) → ⊥) }
 {
     if bytes.len() != (count * block) as usize {
         return false;
@@ -83,7 +82,7 @@ fn is_no_pattern(bytes: &[u8], count: u32, block: u32) -> bool
 
 /// Whether the entry of a command that is not served says that command.
 fn is_said_back(other: &Other) -> bool
-    ensures { MatchBool result (IsCarried 512 (commands.Other other.now)) (IsCarried 512 (commands.Other other.now) → ⊥) }
+    ensures { MatchBool result (SaysOther other.now (entry_made (commands.Other other.now))) (SaysOther other.now (entry_made (commands.Other other.now)) → ⊥) }
 {
     let command = Command::Other(*other);
     let entry = work_of(&command, 0).sqe;
@@ -96,88 +95,3 @@ fn says_other(other: &Other, entry: &Sqe) -> bool
 {
     asked_of(other.admin, entry).is_none() && other_in(other.admin, entry) == *other
 }
-
-/// What the types of a command's numbers say of them.
-pub fn see_numbers(command: &Command)
-    ensures { IsTyped command.now }
-{
-    match command {
-        Command::Write(write) => see_write(&write.payload, write.dspec),
-        Command::Status(status) => see_status(*status),
-        Command::Update(update) => see_update(update),
-        Command::Dealloc(dealloc) => see_ranges(dealloc.ranges.as_slice()),
-        Command::Log(log) => see_log(*log),
-        Command::SetFdp(set) => see_set(*set),
-        Command::GetFdp(get) => see_half(get.group),
-        Command::SetEvents(set) => see_half(set.handle),
-        Command::Read(_)
-        | Command::Zero(_)
-        | Command::Flush(_)
-        | Command::Delete(_)
-        | Command::Create(_)
-        | Command::Other(_) => {}
-    }
-}
-
-fn see_write(payload: &Payload, dspec: u16)
-    ensures payload { IsTypedPayload payload.now }
-    ensures dspec { dspec < 2 ^ 16 }
-{
-    match payload {
-        Payload::Pattern(seed) => see_word(*seed),
-        Payload::Bytes(_) => {}
-    }
-}
-
-fn see_update(update: &HandleUpdate)
-    ensures mo { update.now.mo < 2 ^ 8 }
-    ensures pids { AreTypedPids update.now.pids }
-{
-    see_byte(update.mo);
-    see_pids(update.pids.as_slice());
-}
-
-fn see_pids(pids: &[u16])
-    ensures { AreTypedPids pids.now }
-{}
-
-fn see_ranges(ranges: &[Range])
-    ensures { AreTypedRanges ranges.now }
-{
-    for range in ranges {
-        see_range(*range);
-    }
-}
-
-fn see_range(range: Range)
-    ensures length { range.length < 2 ^ 32 }
-    ensures slba { range.slba < 2 ^ 64 }
-{}
-
-fn see_byte(n: u8)
-    ensures { n < 2 ^ 8 }
-{}
-
-fn see_half(n: u16)
-    ensures { n < 2 ^ 16 }
-{}
-
-fn see_word(n: u32)
-    ensures { n < 2 ^ 32 }
-{}
-
-fn see_status(status: HandleStatus)
-    ensures mo { status.mo < 2 ^ 8 }
-    ensures dwords { status.dwords < 2 ^ 32 }
-{}
-
-fn see_log(log: GetLog)
-    ensures lid { log.lid < 2 ^ 8 }
-    ensures group { log.group < 2 ^ 16 }
-    ensures dwords { log.dwords < 2 ^ 32 }
-{}
-
-fn see_set(set: SetFdp)
-    ensures group { set.group < 2 ^ 16 }
-    ensures index { set.index < 2 ^ 8 }
-{}

@@ -6,10 +6,11 @@ ghost use Rattle.fdp_binary.specs.Carrying.{Extends, IsCarried, IsTyped, data_of
 ghost use Rattle.fdp_binary.specs.Frames.{AddsFrame, IsRefused};
 ghost use Rattle.fdp_binary.specs.Front.{entry_bytes, head};
 
-use crate::carried::{is_carried, see_numbers};
-use crate::data::{push_pids, push_ranges};
+use crate::carried::is_carried;
+use crate::data::{PID, RANGE, push_pids, push_ranges};
 use crate::front::push_front;
 use crate::payload::push_pattern;
+use crate::typed::see_numbers;
 use fdp_base::{Command, Payload};
 use fdp_queues::{Work, work_of};
 use std::alloc::AllocError;
@@ -64,12 +65,12 @@ fn push_frame(
         }
         Command::Dealloc(dealloc) => {
             let ranges = dealloc.ranges.as_slice();
-            push_front(work.admin, 16 * ranges.len() as u32, &work.sqe, into)?;
+            push_front(work.admin, (RANGE * ranges.len()) as u32, &work.sqe, into)?;
             push_ranges(ranges, into)
         }
         Command::Update(update) => {
             let pids = update.pids.as_slice();
-            push_front(work.admin, 2 * pids.len() as u32, &work.sqe, into)?;
+            push_front(work.admin, (PID * pids.len()) as u32, &work.sqe, into)?;
             push_pids(pids, into)
         }
         Command::SetEvents(set) => {

@@ -1,7 +1,3 @@
-ghost use Rattle.std.specs.Prelude.{◌≡◌};
-
-use std::alloc::{AllocError, AllocFailed};
-
 /// What is wrong with a frame, in the order in which it is told.
 #[derive(Clone, Copy, Debug, PartialEq, Eq)]
 pub enum StreamFaultKind {
@@ -29,14 +25,4 @@ pub struct StreamFault {
 pub enum FeedError {
     Fault(StreamFault),
     NoMemory,
-}
-
-impl From<AllocError> for FeedError {
-    ghost use Rattle.fdp_binary.specs.declared.fault.FeedError.TheVariants.{NoMemory};
-
-    ghost from_gives = { λ _ e. e ≡ NoMemory };
-
-    fn from(_e: AllocError) -> FeedError {
-        FeedError::NoMemory
-    }
 }

@@ -41,7 +41,7 @@ pub fn bits(word: u32, from: u32, count: u32) -> u32
     (word >> from) % (1 << count)
 }
 
-/// The low 8 bits of a word, moved down by `from`.
+/// Eight bits of a word, from bit `from` on.
 fn byte(word: u32, from: u32) -> u8
     requires { from ≤ 24 }
     ensures { result ≡ bits word from 8 }
@@ -49,6 +49,7 @@ fn byte(word: u32, from: u32) -> u8
     bits(word, from, 8) as u8
 }
 
+/// Sixteen bits of a word, from bit `from` on.
 fn half(word: u32, from: u32) -> u16
     requires { from ≤ 16 }
     ensures { result ≡ bits word from 16 }

@@ -15,6 +15,7 @@ mod next;
 mod payload;
 mod reader;
 mod room;
+mod typed;
 
 pub use encode::{NotCarried, encode_command};
 pub use fault::{FeedError, StreamFault, StreamFaultKind};

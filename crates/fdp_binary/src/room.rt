@@ -6,6 +6,7 @@ ghost use Rattle.fdp_binary.specs.Asked.{data_in, reads_in};
 ghost use Rattle.fdp_binary.specs.Streams.{HasRoom};
 
 use crate::asked::Asked;
+use crate::data::{PID, RANGE};
 use crate::fields::{blocks_in, pids_in, ranges_in, types_in};
 use fdp_base::{Command, MOST_TRACE_BLOCKS, MOST_TRACE_COMMANDS};
 use fdp_layouts::Sqe;
@@ -17,8 +18,8 @@ pub fn data_in(block: u32, asked: Option<Asked>, entry: &Sqe) -> u32
 {
     match asked {
         Some(Asked::Write) => blocks_in(entry) * block,
-        Some(Asked::Dealloc) => 16 * ranges_in(entry),
-        Some(Asked::Update) => 2 * pids_in(entry),
+        Some(Asked::Dealloc) => RANGE as u32 * ranges_in(entry),
+        Some(Asked::Update) => PID as u32 * pids_in(entry),
         Some(Asked::SetEvents) => types_in(entry),
         Some(Asked::Read)
         | Some(Asked::Zero)

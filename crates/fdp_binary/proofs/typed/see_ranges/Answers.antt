@@ -1,7 +1,7 @@
 use Rattle.std.proofs.Common.{◌^◌, ◌<◌, get_or, below_more, subst, refl, arith}
 use Rattle.std.proofs.lemmas.List.{get_or_default}
 use Rattle.fdp_base.specs.declared.command.Range.{Range}
-use Rattle.fdp_binary.proofs.carried.see_ranges.Goals as goal
+use Rattle.fdp_binary.proofs.typed.see_ranges.Goals as goal
 
 pub loop-range-preserved : goal.loop-range-preserved
 loop-range-preserved c =
