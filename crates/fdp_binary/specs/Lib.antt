@@ -8,3 +8,4 @@ pub mod Streams
 pub mod Reading
 pub mod Carrying
 pub mod Reader
+pub mod FaultWord

@@ -1,3 +1,5 @@
+ghost use Rattle.std.specs.Prelude.{◌≡◌};
+
 /// What is wrong with a frame, in the order in which it is told.
 #[derive(Clone, Copy, Debug, PartialEq, Eq)]
 pub enum StreamFaultKind {
@@ -11,6 +13,23 @@ pub enum StreamFaultKind {
     Many,
     /// The stream ends within it.
     Cut,
+}
+
+impl StreamFaultKind {
+    ghost use Rattle.fdp_binary.specs.FaultWord.{kind_word};
+
+    /// Its word in the fault line.
+    pub fn word(self) -> &'static str
+        ensures { result.now ≡ kind_word self }
+    {
+        match self {
+            StreamFaultKind::Head => "head",
+            StreamFaultKind::Create => "create",
+            StreamFaultKind::Length => "length",
+            StreamFaultKind::Many => "many",
+            StreamFaultKind::Cut => "cut",
+        }
+    }
 }
 
 /// The first frame that is none: the offset of its first byte in the stream, and what is wrong with it.

@@ -1,6 +1,6 @@
 //! What holds of streams, whoever reads or writes them.
 
-ghost use Rattle.std.specs.Prelude.{◌≡◌, ℕ, List};
+ghost use Rattle.std.specs.Prelude.{◌≡◌, ℕ, List, All};
 ghost use Rattle.fdp_base.specs.declared.command.Command.{Command};
 ghost use Rattle.fdp_base.specs.declared.config.DriveConfig.{DriveConfig};
 ghost use Rattle.fdp_base.specs.CommandKinds.{IsWellFormed};
@@ -34,4 +34,9 @@ pub fn one_fault()
 /// Commands of frames can be served.
 pub fn frames_are_well_formed()
     ensures { (c : DriveConfig) (bytes : List ℕ) (command : Command) → IsFrame c.block bytes command → IsWellFormed c command }
+{}
+
+/// So can those of streams.
+pub fn streams_are_well_formed()
+    ensures { (c : DriveConfig) (bytes : List ℕ) (commands : List Command) → IsStream c.block bytes commands → All (IsWellFormed c) commands }
 {}

@@ -21,5 +21,6 @@ pub use encode::{NotCarried, encode_command};
 pub use fault::{FeedError, StreamFault, StreamFaultKind};
 pub use laws::{
     a_stream_is_not_broken, frames_are_well_formed, one_command_a_frame, one_fault, one_reading,
+    streams_are_well_formed,
 };
 pub use reader::StreamReader;
