@@ -18,7 +18,11 @@ pub fn answer_row(alloc: Global, row: &str) -> Result<String> {
         }
         Some(("times", rest)) => {
             let (count, bytes) = rest.split_once(' ').context("bytes")?;
-            tell_times(alloc, count.parse::<u16>()?, bytes_of(alloc, bytes)?.as_slice())
+            tell_times(
+                alloc,
+                count.parse::<u16>()?,
+                bytes_of(alloc, bytes)?.as_slice(),
+            )
         }
         Some(("back", line)) => tell_back(alloc, line),
         Some(("payload", rest)) => {
