@@ -1,5 +1,5 @@
 -- Each step keeps the pages apart, and leaves alone what had been used when the run began.
-use Rattle.std.proofs.Common.{◌≡◌, ℕ, ◌<◌, Bool, true, false, List, [], ◌∷◌, ◌++◌, Some, refl, sym, subst}
+use Rattle.std.proofs.Common.{◌≡◌, ℕ, ◌<◌, Bool, true, false, List, [], Some, refl, sym, subst}
 use Rattle.std.specs.Prelude.{IsTrue}
 use Rattle.fdp_base.specs.declared.command.Command.{Command}
 use Rattle.fdp_base.specs.declared.command.Write.{Write}

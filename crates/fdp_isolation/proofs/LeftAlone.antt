@@ -1,5 +1,5 @@
 -- Each step of a host, and the move of a pass, leaves alone what had been used.
-use Rattle.std.proofs.Common.{◌≡◌, ◌≢◌, ℕ, ◌*◌, ◌<◌, Bool, true, false, List, [], ◌∷◌, ◌++◌, refl, sym, ◌∙◌, ap, subst, inl, ne_eqb, ⊎_elim}
+use Rattle.std.proofs.Common.{◌≡◌, ◌≢◌, ℕ, ◌*◌, ◌<◌, Bool, false, List, [], ◌∷◌, ◌++◌, refl, sym, ◌∙◌, ap, subst, inl, ne_eqb, ⊎_elim}
 use Rattle.std.specs.Prelude.{◌||◌, IsTrue}
 use Rattle.std.specs.List.{list_any}
 use Rattle.fdp_base.specs.declared.command.Command.{Command}
@@ -18,7 +18,7 @@ use Rattle.fdp_book.specs.declared.ticket.Ticket.{Ticket}
 use Rattle.fdp_book.specs.Book.{BookSeen, IsLonger, point_in, state_in}
 use Rattle.fdp_book.specs.Relocating.{MovesPass}
 use Rattle.fdp_book.specs.Shutting.{ShutsAndEnds}
-use Rattle.fdp_book.specs.Steps.{Completes, Places, Starts}
+use Rattle.fdp_book.specs.Steps.{Completes, Places}
 use Rattle.fdp_book.specs.Tickets.{IsNextSpot, IsTicketOf}
 use Rattle.fdp_book.proofs.fdp_collector.Kept.{changed-other}
 use Rattle.fdp_flash.specs.declared.cell.Cell.{Cell}

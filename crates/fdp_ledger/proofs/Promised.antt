@@ -1,14 +1,13 @@
 -- What a ledger promises of a group that was worn.
-use Rattle.std.proofs.Common.{◌≡◌, ◌≢◌, ⊎_elim, length, ℕ, zero, suc, ◌+◌, ◌-◌, ◌*◌, ◌<◌, ◌≤◌, Bool, true, false, cond, not, ◌&&◌, ◌||◌, List, Option, Some, None, refl, sym, ◌∙◌, ap, subst, arith}
+use Rattle.std.proofs.Common.{◌≡◌, ◌≢◌, ⊎_elim, length, ℕ, zero, suc, ◌+◌, ◌-◌, ◌*◌, ◌<◌, ◌≤◌, Bool, true, false, not, ◌&&◌, ◌||◌, List, Option, Some, None, refl, sym, ◌∙◌, ap, subst, arith}
 use Rattle.std.specs.Prelude.{IsFalse, IsTrue, slice_get}
 use Rattle.std.specs.List.{list_all}
 use Rattle.std.specs.Option.{option_map_or}
 use Rattle.std.proofs.lemmas.Bool.{cases_eq}
-use Rattle.std.proofs.lemmas.Nat.{row_fits}
 use Rattle.fdp_base.specs.declared.config.Geometry.{Geometry}
 use Rattle.fdp_base.specs.Numbers.{count_below, numbers_from}
 use Rattle.fdp_base.specs.Placement.{geometry_of}
-use Rattle.fdp_base.proofs.Sums.{count_from, counting, sum_from, sum_from-cut, sum_from-none, sum_from-step}
+use Rattle.fdp_base.proofs.Sums.{count_from}
 use Rattle.fdp_book.specs.Book.{BookSeen, state_in}
 use Rattle.fdp_flash.specs.declared.cell.Cell.{Cell}
 use Rattle.fdp_flash.specs.declared.cell.Cell.TheVariants.{Blank, Torn, Whole}
@@ -17,7 +16,6 @@ use Rattle.fdp_flash.specs.FlashState.{FlashState}
 use Rattle.fdp_flash.specs.Layout.{first_page}
 use Rattle.fdp_book.specs.fdp_locations.Located.{AreUnitsOf}
 use Rattle.fdp_book.proofs.fdp_locations.Others.{is-group}
-use Rattle.fdp_book.proofs.fdp_trails.Hits.{sum_from-most}
 use Rattle.fdp_units.specs.DataUnits.{is_free, is_lost}
 use Rattle.fdp_units.specs.UnitTable.{Cut, HasNoFree, IsGroup, IsUnit, UnitTable, state_at}
 use Rattle.fdp_units.proofs.Tables.{group-of-place, unit-there}

@@ -92,8 +92,14 @@ worn-now handed start t es now rg small size there none units knows = record {
 
 module _ (handed : Counts) (start : RunStart) (old now : FlashState) (calls : List Call) (after : IsAfter old now calls) (since : IsTrue old.tells_calls → handed.moment ≤ length old.calls) where
   still-failed : IsTrue now.tells_calls → (unit : ℕ) → HadFailedIn unit (calls_since handed old) → HadFailedIn unit (calls_since handed now)
-  still-failed tells unit h = (h.0, (h.1.0 ++ calls,
-      sym (append_assoc h.0 h.1.0 calls) ∙ ap (λ (xs : List Call). xs ++ calls) h.1.1 ∙ sym (since-more handed old now calls after since tells)), h.2)
+  still-failed tells unit h = (
+    h.0,
+    (
+      h.1.0 ++ calls,
+      sym (append_assoc h.0 h.1.0 calls) ∙ ap (λ (xs : List Call). xs ++ calls) h.1.1 ∙ sym (since-more handed old now calls after since tells),
+    ),
+    h.2,
+  )
 
   still-out : (es : List Entry) (rg : ℕ) → WasWornOut handed old start es rg → WasWornOut handed now start es rg
   still-out es rg h = record {

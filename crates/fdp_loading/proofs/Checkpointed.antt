@@ -2,12 +2,11 @@
 use Rattle.std.proofs.Common.{◌≡◌, ℕ, ◌+◌, ◌*◌, ◌<◌, ◌≤◌, Bool, true, false, List, [], ◌∷◌, Some, replicate, refl, sym, ◌∙◌, ap, subst, arith, inl, inr, ⊎_elim}
 use Rattle.std.specs.Prelude.{◌||◌, Contains, Err, IfErr, IfOk, IsFalse, IsTrue, Ok, Result, length, not, slice_get}
 use Rattle.std.proofs.lemmas.List.Elements.{All-cons, All-contains, All-contains_itself, All-head, All-nil, All-tail}
-use Rattle.std.proofs.lemmas.Nat.{mul-le, row_fits}
 use Rattle.fdp_base.specs.declared.config.DriveConfig.{DriveConfig}
 use Rattle.fdp_base.specs.declared.config.Geometry.{Geometry}
 use Rattle.fdp_base.specs.declared.entry.Entry.{Entry}
 use Rattle.fdp_base.specs.declared.entry.Entry.TheVariants as entries
-use Rattle.fdp_base.specs.Geometry.{all_pages, all_units, data_units}
+use Rattle.fdp_base.specs.Geometry.{all_pages, data_units}
 use Rattle.fdp_base.specs.Placement.{geometry_of}
 use Rattle.fdp_keeper.specs.fdp_book.Book.{BookSeen, point_in, state_in, written_in}
 use Rattle.fdp_keeper.specs.fdp_durability.Beginnings.{CanBeSaved}
@@ -20,9 +19,7 @@ use Rattle.fdp_flash.specs.declared.cell.Cell.{Cell}
 use Rattle.fdp_flash.specs.declared.cell.Cell.TheVariants.{Blank}
 use Rattle.fdp_flash.specs.Cells.{IsBlankUnit}
 use Rattle.fdp_flash.specs.FlashState.{FlashState, IsWellFormed}
-use Rattle.fdp_flash.specs.Layout.{first_page}
 use Rattle.fdp_flash.proofs.Failing.{failed_behind}
-use Rattle.fdp_flash.proofs.Lists.{slice_get-replicate}
 use Rattle.fdp_flash.proofs.Runs.{runs_joined, runs_weakened}
 use Rattle.fdp_keeper.proofs.fdp_found.Paging.{blank-tested}
 use Rattle.fdp_keeper.proofs.fdp_found.Reopening.{legal-opened}

@@ -1,17 +1,16 @@
 -- The pages that savings take of the system area, and that checkpoints leave there.
-use Rattle.std.proofs.Common.{◌≡◌, ℕ, suc, ◌+◌, ◌-◌, ◌<◌, ◌≤◌, Bool, true, false, ◌&&◌, List, [], ◌∷◌, Option, Some, None, length, refl, sym, ◌∙◌, ap, subst, arith, leb-true, ltb-true}
-use Rattle.std.specs.Prelude.{◌*◌, count_by, drop, if◌then◌else◌, nat_le, nat_lt, not, option_map, position, take}
+use Rattle.std.proofs.Common.{◌≡◌, ℕ, suc, ◌+◌, ◌-◌, ◌<◌, ◌≤◌, Bool, true, false, ◌&&◌, List, [], ◌∷◌, Option, Some, None, length, refl, sym, ap, arith, leb-true, ltb-true}
+use Rattle.std.specs.Prelude.{◌*◌, drop, if◌then◌else◌, nat_le, nat_lt, not, option_map, position, take}
 use Rattle.fdp_base.specs.declared.config.DriveConfig.{DriveConfig}
 use Rattle.fdp_base.specs.declared.config.Geometry.{Geometry}
-use Rattle.fdp_base.specs.declared.entry.Entry.{Entry}
 use Rattle.fdp_base.specs.declared.event.Event.{Event}
 use Rattle.fdp_base.specs.Config.{IsValidConfig}
 use Rattle.fdp_base.specs.Geometry.{IsWithin, area_pages}
 use Rattle.fdp_base.specs.Placement.{full_budget, geometry_of, handle_count, most_blocks}
 use Rattle.fdp_image.specs.BadFields.{bad_field, bad_row, bad_space, has_any_bit, has_stray_bit, may_stand, or_else, row_at}
 use Rattle.fdp_image.specs.Fits.{is_handle_list}
-use Rattle.fdp_image.specs.Replacing.{IsSavedBy, pages_for}
-use Rattle.fdp_keeper.specs.fdp_journal.JournalState.{JournalState, next_in}
+use Rattle.fdp_image.specs.Replacing.{pages_for}
+use Rattle.fdp_keeper.specs.fdp_journal.JournalState.{JournalState}
 use Rattle.fdp_keeper.specs.fdp_saving.declared.saved.Saved.{Saved}
 use Rattle.fdp_keeper.specs.fdp_saving.declared.saved.Saved.TheVariants as answers
 use Rattle.fdp_keeper.specs.fdp_saving.Saver.{after_checkpoint, after_renewal, after_saving, needs_checkpoint, renewed}
@@ -20,7 +19,7 @@ use Rattle.fdp_keeper.proofs.Given.{budgets-fall}
 use Rattle.fdp_keeper.proofs.fdp_saving.Room.{checkpoint_room}
 use Rattle.fdp_flash.specs.declared.answer.Wrote.{Wrote}
 use Rattle.fdp_flash.specs.declared.answer.Wrote.TheVariants as wrote
-use Rattle.fdp_loading.specs.JournalRoom.{HasSixteen, is_lasting, savings_left}
+use Rattle.fdp_loading.specs.JournalRoom.{savings_left}
 use Rattle.fdp_rules.specs.Events.{is_host_event}
 use Rattle.fdp_snapshot.specs.declared.space.Space.{Space}
 use Rattle.fdp_snapshot.specs.declared.state.State.{State}
