@@ -195,8 +195,11 @@ wide_output() {
         }
     }'
 }
-wide_output 10 | serves "sixteen traces on a drive at its limits" run wide.toml wide.img $(seq -f %g.write 16)
-wide_output 0 | serves "and what they left" run wide.toml wide.img $(seq -f %g.read 16)
+# not by pipes: a check behind one is not counted
+wide_output 10 > wide.output
+serves "sixteen traces on a drive at its limits" run wide.toml wide.img $(seq -f %g.write 16) < wide.output
+wide_output 0 > wide.output
+serves "and what they left" run wide.toml wide.img $(seq -f %g.read 16) < wide.output
 ends 1 "fault 1 usage" "" run wide.toml wide.img $(seq -f %g.read 16) 1.read
 
 # More than 2^20 steps, and as many entries, in one run over units of 256 pages, of which most are erased many times. The last unit is left when 32 of its
