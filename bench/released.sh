@@ -8,6 +8,9 @@ if [ ! -f "$top/release/SOURCES" ]; then
     echo "release: there is none"
 elif [ "$("$top/bench/sources.sh")" != "$(cat "$top/release/SOURCES")" ]; then
     echo "release: it is of other sources than these"
+elif [ ! -f "$program" ]; then
+    echo "release: no program lies at $program"
+    exit 1
 elif [ "$(sha256sum < "$program" | cut -d ' ' -f 1)" = "$(cut -d ' ' -f 1 "$top/release/SHA256")" ]; then
     echo "release: what was built here is the release, byte for byte"
 else
