@@ -12,7 +12,7 @@ use Rattle.fdp_base.specs.Geometry.{IsBlockSize}
 use Rattle.fdp_base.specs.Numbers.{numbers_below, numbers_from}
 use Rattle.fdp_base.specs.Pattern.{pattern_block, repeated}
 use Rattle.fdp_base.proofs.Repeating.{front_repeated, length_repeated}
-use Rattle.fdp_binary.specs.Saying.{pattern}
+use Rattle.fdp_queues.specs.Data.{pattern}
 
 whole-block : (block : ℕ) → IsBlockSize block → block / 4 * 4 ≡ block
 whole-block block is =

@@ -22,8 +22,9 @@ use Rattle.fdp_layouts.proofs.Decoding.{again}
 use Rattle.fdp_layouts.proofs.Filling.{length-placed}
 use Rattle.fdp_layouts.proofs.RangeApart.{dsm_range_by_numbers}
 use Rattle.fdp_layouts.proofs.SubmissionApart.{sqe_by_numbers}
+use Rattle.fdp_queues.specs.Entry.{entry_bytes}
 use Rattle.fdp_binary.specs.declared.front.Front.{Front}
-use Rattle.fdp_binary.specs.Front.{Begins, IsEntry, IsHead, IsSound, entry_bytes, front_bytes, head}
+use Rattle.fdp_binary.specs.Front.{Begins, IsEntry, IsHead, IsSound, front_bytes, head}
 use Rattle.fdp_binary.proofs.Laid.{same-front}
 
 -- ---- how long a layout is

@@ -24,13 +24,14 @@ use Rattle.fdp_layouts.specs.Frame.{Fits}
 use Rattle.fdp_layouts.specs.Range.{dsm_range, dsm_range_numbers}
 use Rattle.fdp_layouts.specs.Submission.{sqe, sqe_numbers}
 use Rattle.fdp_queues.specs.declared.work.Work.{Work}
-use Rattle.fdp_queues.specs.Entry.{high, low, nlb, numd, zero_based}
+use Rattle.fdp_queues.specs.Entry.{entry_bytes, high, low, nlb, numd, zero_based}
+use Rattle.fdp_queues.specs.Data.{data_of, payload_data, range_bytes, with_attributes}
 use Rattle.fdp_binary.specs.declared.front.Front.{Front}
-use Rattle.fdp_binary.specs.Front.{entry_bytes, front_bytes, head}
+use Rattle.fdp_binary.specs.Front.{front_bytes, head}
 use Rattle.fdp_binary.specs.Fields.{bits, blocks_in, dealloc_in, dwords_of, get_fdp_in, is_set, joined, log_in, read_in, set_events_in, set_fdp_in, status_in, update_in, write_in, zero_in}
-use Rattle.fdp_binary.specs.Saying.{AreLaid, IsPayload, IsPid, IsRange, Says, range_bytes, with_attributes}
+use Rattle.fdp_binary.specs.Saying.{AreLaid, IsPayload, IsPid, IsRange, Says}
 use Rattle.fdp_binary.specs.Frames.{IsFrame}
-use Rattle.fdp_binary.specs.Carrying.{AreTypedPids, AreTypedRanges, IsCarried, IsCarriedPayload, IsTyped, IsTypedPayload, admin_made, data_of, entry_made, payload_data}
+use Rattle.fdp_binary.specs.Carrying.{AreTypedPids, AreTypedRanges, IsCarried, IsCarriedPayload, IsTyped, IsTypedPayload, admin_made, entry_made}
 use Rattle.fdp_binary.proofs.Blocks.{block-from, pattern-size}
 use Rattle.fdp_binary.proofs.Fronts.{length-range}
 use Rattle.fdp_binary.proofs.Laid.{laid-length, laid-out}

@@ -10,11 +10,12 @@ use Rattle.fdp_base.specs.declared.payload.Payload.TheVariants as payloads
 use Rattle.fdp_base.specs.CommandKinds.{blocks_read}
 use Rattle.fdp_base.specs.Geometry.{IsBlockSize}
 use Rattle.fdp_layouts.specs.declared.submission.Sqe.{Sqe}
+use Rattle.fdp_queues.specs.Data.{with_attributes}
 use Rattle.fdp_binary.specs.declared.asked.Asked.{Asked}
 use Rattle.fdp_binary.specs.declared.asked.Asked.TheVariants as kinds
 use Rattle.fdp_binary.specs.Asked.{IsAsked, data_in, reads_in}
 use Rattle.fdp_binary.specs.Fields.{blocks_in, dealloc_in, delete_in, flush_in, get_fdp_in, log_in, other_in, read_in, set_events_in, set_fdp_in, status_in, update_in, write_in, zero_in}
-use Rattle.fdp_binary.specs.Saying.{AreLaid, IsPayload, IsPid, IsRange, Says, with_attributes}
+use Rattle.fdp_binary.specs.Saying.{AreLaid, IsPayload, IsPid, IsRange, Says}
 use Rattle.fdp_binary.proofs.Asking.{one_asked}
 use Rattle.fdp_binary.proofs.Blocks.{seed-first}
 use Rattle.fdp_binary.proofs.Fronts.{one_range}

@@ -1,6 +1,5 @@
 -- Which commands have a frame, and the frame that is made of them.
-use Rattle.std.specs.Prelude.{◌≡◌, ℕ, ◌*◌, ◌^◌, ◌<◌, ◌≤◌, Bool, List, [], ◌++◌, length, flat_map}
-use Rattle.std.specs.Int.{to_le_bytes, w16}
+use Rattle.std.specs.Prelude.{◌≡◌, ℕ, ◌*◌, ◌^◌, ◌<◌, ◌≤◌, Bool, List, ◌++◌, length}
 use Rattle.std.specs.List.{All}
 use Rattle.fdp_base.specs.declared.command.Command.{Command}
 use Rattle.fdp_base.specs.declared.command.Command.TheVariants as commands
@@ -13,11 +12,11 @@ use Rattle.fdp_base.specs.Geometry.{IsWithin}
 use Rattle.fdp_layouts.specs.Frame.{Fits}
 use Rattle.fdp_layouts.specs.Range.{dsm_range, dsm_range_numbers}
 use Rattle.fdp_layouts.specs.declared.submission.Sqe.{Sqe}
+use Rattle.fdp_queues.specs.Data.{pattern, with_attributes}
 use Rattle.fdp_queues.specs.Entry.{work_of}
 use Rattle.fdp_binary.specs.declared.asked.Asked.{Asked}
 use Rattle.fdp_binary.specs.Asked.{Asks}
 use Rattle.fdp_binary.specs.Fields.{other_in}
-use Rattle.fdp_binary.specs.Saying.{pattern, range_bytes, with_attributes}
 
 -- the entry that a queue holds of a command
 abbrev pub entry_made : Command → Sqe
@@ -79,28 +78,6 @@ IsTyped (commands.GetFdp g) = g.group < 2 ^ 16
 IsTyped (commands.SetEvents s) = s.handle < 2 ^ 16
 IsTyped (commands.Create c) = Unit {0}
 IsTyped (commands.Other o) = Unit {0}
-
--- the data of a payload
-abbrev pub payload_data : ℕ → ℕ → Payload → List ℕ
-payload_data block count (payloads.Pattern seed) = pattern block count seed
-payload_data block count (payloads.Bytes bytes) = bytes
-
--- the data behind the entry of a command
-abbrev pub data_of : ℕ → Command → List ℕ
-data_of block (commands.Write w) = payload_data block w.count w.payload
-data_of block (commands.Read r) = []
-data_of block (commands.Zero z) = []
-data_of block (commands.Dealloc d) = flat_map (λ range. range_bytes (with_attributes 0 range)) d.ranges
-data_of block (commands.Flush f) = []
-data_of block (commands.Delete d) = []
-data_of block (commands.Status s) = []
-data_of block (commands.Update u) = flat_map (to_le_bytes w16) u.pids
-data_of block (commands.Log l) = []
-data_of block (commands.SetFdp s) = []
-data_of block (commands.GetFdp g) = []
-data_of block (commands.SetEvents s) = s.types
-data_of block (commands.Create c) = []
-data_of block (commands.Other o) = []
 
 -- the new bytes begin with the old ones
 pub record Extends (old new : List ℕ) : Type 0 where

@@ -4,17 +4,15 @@ use Rattle.std.specs.Int.{to_le_bytes, w32}
 use Rattle.fdp_base.specs.EventCodes.{bit}
 use Rattle.fdp_layouts.specs.declared.submission.EntryFlags.{EntryFlags}
 use Rattle.fdp_layouts.specs.declared.submission.Sqe.{Sqe}
-use Rattle.fdp_layouts.specs.Frame.{Fits, frame_of}
+use Rattle.fdp_layouts.specs.Frame.{Fits}
 use Rattle.fdp_layouts.specs.Submission.{fuse_code, psdt_code, sqe, sqe_numbers}
+use Rattle.fdp_queues.specs.Entry.{entry_bytes}
 use Rattle.fdp_binary.specs.declared.front.Front.{Front}
 use Rattle.fdp_binary.specs.declared.front.TheConstants.{FRONT}
 
 -- the head: bit 0 of the first byte says admin, and bytes 4 to 7 say how many bytes of data follow the entry
 abbrev pub head : Bool → ℕ → List ℕ
 head admin len = (bit admin ∷ 0 ∷ 0 ∷ 0 ∷ []) ++ to_le_bytes w32 len ++ replicate 8 0
-
-abbrev pub entry_bytes : Sqe → List ℕ
-entry_bytes entry = frame_of 64 sqe (sqe_numbers entry)
 
 -- bytes are a head, or none
 abbrev pub IsHead : List ℕ → Bool → ℕ → Type 0

@@ -7,22 +7,16 @@ use Rattle.fdp_base.specs.declared.command.Command.TheVariants as commands
 use Rattle.fdp_base.specs.declared.command.Range.{Range}
 use Rattle.fdp_base.specs.declared.payload.Payload.{Payload}
 use Rattle.fdp_base.specs.declared.payload.Payload.TheVariants as payloads
-use Rattle.fdp_base.specs.Numbers.{numbers_below}
-use Rattle.fdp_base.specs.Pattern.{pattern_block}
-use Rattle.fdp_layouts.specs.declared.range.DsmRange.{DsmRange}
 use Rattle.fdp_layouts.specs.declared.submission.Sqe.{Sqe}
-use Rattle.fdp_layouts.specs.Frame.{Fits, frame_of}
+use Rattle.fdp_layouts.specs.Frame.{Fits}
 use Rattle.fdp_layouts.specs.Range.{dsm_range, dsm_range_numbers}
+use Rattle.fdp_queues.specs.Data.{pattern, range_bytes, with_attributes}
 use Rattle.fdp_binary.specs.declared.asked.Asked.{Asked}
 use Rattle.fdp_binary.specs.declared.asked.Asked.TheVariants as kinds
 use Rattle.fdp_binary.specs.Asked.{Asks}
 use Rattle.fdp_binary.specs.Fields.{blocks_in, dealloc_in, delete_in, flush_in, get_fdp_in, log_in, other_in, pids_in, ranges_in, read_in, set_events_in, set_fdp_in, status_in, types_in, update_in, write_in, zero_in}
 
 -- ---- data
-
--- so many blocks of the pattern with this seed
-abbrev pub pattern : ℕ → ℕ → ℕ → List ℕ
-pattern block count seed = flat_map (pattern_block block seed) (numbers_below count)
 
 -- data of so many blocks are this payload: a pattern where they are one, else their bytes
 abbrev pub IsPayload : ℕ → ℕ → List ℕ → Payload → Type 0
@@ -34,13 +28,6 @@ pub record AreLaid {X : Type 0} (IsItem : List ℕ → X → Type 0) (body : Lis
   pub pieces : List (List ℕ)
   pub whole : body ≡ flat_map (λ piece. piece) pieces
   pub each : AllZip IsItem pieces items
-
--- a range with these attributes
-abbrev pub with_attributes : ℕ → Range → DsmRange
-with_attributes attributes range = record { attributes = attributes; length = range.length; slba = range.slba }
-
-abbrev pub range_bytes : DsmRange → List ℕ
-range_bytes range = frame_of 16 dsm_range (dsm_range_numbers range)
 
 -- 16 bytes are a range, with whatever attributes
 abbrev pub IsRange : List ℕ → Range → Type 0

@@ -2,8 +2,9 @@
 
 ghost use Rattle.std.specs.Prelude.{◌≡◌, ◌*◌, ◌%◌, ◌^◌, ◌<◌, ◌++◌, IfOk, OnErr, OnOk, flat_map, length};
 ghost use Rattle.std.specs.Int.{to_le_bytes, w16};
+ghost use Rattle.fdp_queues.specs.Data.{range_bytes, with_attributes};
 ghost use Rattle.fdp_binary.specs.Carrying.{Extends};
-ghost use Rattle.fdp_binary.specs.Saying.{AreLaid, IsPid, IsRange, range_bytes, with_attributes};
+ghost use Rattle.fdp_binary.specs.Saying.{AreLaid, IsPid, IsRange};
 
 use fdp_base::{Pids, Range, Ranges};
 use fdp_layouts::{DsmRange, Frame};

@@ -2,9 +2,11 @@ ghost use Rattle.std.specs.Prelude.{◌≡◌, ◌++◌, ◌*◌, IfErr, OnErr, 
 ghost use Rattle.fdp_base.specs.Geometry.{IsBlockSize};
 ghost use Rattle.fdp_layouts.specs.Frame.{Fits};
 ghost use Rattle.fdp_layouts.specs.Submission.{sqe, sqe_numbers};
-ghost use Rattle.fdp_binary.specs.Carrying.{Extends, IsCarried, IsTyped, data_of, payload_data};
+ghost use Rattle.fdp_queues.specs.Data.{data_of, payload_data};
+ghost use Rattle.fdp_queues.specs.Entry.{entry_bytes};
+ghost use Rattle.fdp_binary.specs.Carrying.{Extends, IsCarried, IsTyped};
 ghost use Rattle.fdp_binary.specs.Frames.{AddsFrame, IsRefused};
-ghost use Rattle.fdp_binary.specs.Front.{entry_bytes, head};
+ghost use Rattle.fdp_binary.specs.Front.{head};
 
 use crate::carried::is_carried;
 use crate::data::{PID, RANGE, push_pids, push_ranges};

@@ -1,7 +1,8 @@
 ghost use Rattle.std.specs.Prelude.{◌≡◌, ◌++◌, ◌≤◌, MatchOption, length, OnOk, OnErr};
 ghost use Rattle.fdp_layouts.specs.Frame.{Fits};
 ghost use Rattle.fdp_layouts.specs.Submission.{sqe, sqe_numbers};
-ghost use Rattle.fdp_binary.specs.Front.{Begins, IsEntry, IsHead, IsNoEntry, IsNoHead, entry_bytes, head};
+ghost use Rattle.fdp_queues.specs.Entry.{entry_bytes};
+ghost use Rattle.fdp_binary.specs.Front.{Begins, IsEntry, IsHead, IsNoEntry, IsNoHead, head};
 ghost use Rattle.fdp_binary.specs.Carrying.{Extends};
 ghost use Rattle.fdp_binary.specs.declared.front.Front.{Front};
 

@@ -3,8 +3,9 @@
 ghost use Rattle.std.specs.Prelude.{◌≡◌, ◌*◌, ◌%◌, ◌^◌, ◌<◌, ◌≤◌, ℕ, ◌++◌, IfOk, MatchBool, MatchOption, OnErr, OnOk, length};
 ghost use Rattle.fdp_base.specs.Geometry.{IsBlockSize};
 ghost use Rattle.fdp_base.specs.Pattern.{pattern_block};
+ghost use Rattle.fdp_queues.specs.Data.{pattern};
 ghost use Rattle.fdp_binary.specs.Carrying.{Extends};
-ghost use Rattle.fdp_binary.specs.Saying.{IsPayload, pattern};
+ghost use Rattle.fdp_binary.specs.Saying.{IsPayload};
 
 use fdp_base::{Bytes, Payload};
 use std::alloc::{AllocError, Global};

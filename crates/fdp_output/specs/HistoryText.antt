@@ -1,6 +1,5 @@
--- The printed history of a run: an entry a line, and the data of a completion below it.
+-- The printed history of a run: an entry a line, and below it the data that its command carries or answers.
 use Rattle.std.specs.Prelude.{ℕ, ◌+◌, List, [], ◌∷◌, ◌++◌, map, codes, decimal}
-use Rattle.std.specs.Option.{option_map_or}
 use Rattle.fdp_base.specs.declared.config.DriveConfig.{DriveConfig}
 use Rattle.fdp_base.specs.declared.entry.BlockName.{BlockName}
 use Rattle.fdp_base.specs.declared.entry.Entry.{Entry}
@@ -8,10 +7,10 @@ use Rattle.fdp_base.specs.declared.entry.Entry.TheVariants as entries
 use Rattle.fdp_base.specs.declared.entry.Host.{Host}
 use Rattle.fdp_base.specs.declared.entry.Spot.{Spot}
 use Rattle.fdp_base.specs.declared.entry.Started.{Started}
-use Rattle.fdp_base.specs.EntryKinds.{host_of}
 use Rattle.fdp_base.specs.EventCodes.{bit}
 use Rattle.fdp_base.specs.Text.{hex, line, status_text}
 use Rattle.fdp_rules.specs.History.{Found}
+use Rattle.fdp_output.specs.CommandData.{own_text}
 use Rattle.fdp_output.specs.CommandText.{command_text}
 use Rattle.fdp_output.specs.Output.{data_text}
 use Rattle.fdp_output.specs.RunOutput.{output_of}
@@ -49,19 +48,29 @@ entry_words (entries.Shut s) = codes "shut" ∷ decimal s.rg ∷ decimal s.ruh �
 entry_words (entries.Worn w) = codes "worn" ∷ decimal w.rg ∷ []
 entry_words entries.Reopened = codes "reopened" ∷ []
 
--- the lines of the data that a completion transfers; no other entry has any
-abbrev pub entry_data : Entry → List ℕ
-entry_data e = option_map_or (λ (h : Host). data_text h.command h.reply.bytes) (host_of e) []
+-- the lines of the data of an entry: those that its command carries, where no trace spells it, or those that it answers; no command has both
+abbrev pub entry_data : ℕ → Entry → List ℕ
+entry_data block (entries.Host h) = own_text block h.command ++ data_text h.command h.reply.bytes
+entry_data block (entries.Started s) = own_text block s.command
+entry_data block (entries.Placed p) = []
+entry_data block (entries.Copied c) = []
+entry_data block (entries.Moved m) = []
+entry_data block (entries.Erased e) = []
+entry_data block (entries.Retired r) = []
+entry_data block (entries.Aside a) = []
+entry_data block (entries.Shut s) = []
+entry_data block (entries.Worn w) = []
+entry_data block entries.Reopened = []
 
--- the lines of an entry: its position and what it says, then its data
-abbrev pub entry_lines : ℕ → Entry → List ℕ
-entry_lines position e = line (decimal position ∷ entry_words e) ++ entry_data e
+-- the lines of an entry, with blocks of so many bytes: its position and what it says, then its data
+abbrev pub entry_lines : ℕ → ℕ → Entry → List ℕ
+entry_lines block position e = line (decimal position ∷ entry_words e) ++ entry_data block e
 
 -- the lines of entries that follow one another, the first at this position
-abbrev pub history_text : ℕ → List Entry → List ℕ
-history_text position [] = []
-history_text position (e ∷ es) = entry_lines position e ++ history_text (position + 1) es
+abbrev pub history_text : ℕ → ℕ → List Entry → List ℕ
+history_text block position [] = []
+history_text block position (e ∷ es) = entry_lines block position e ++ history_text block (position + 1) es
 
 -- the output of a run, and then its history, whose positions go on from the one that was found
 unfoldable pub record_of : DriveConfig → Found → ℕ → List Entry → List ℕ
-record_of c f traces es = output_of c f traces es ++ history_text (f.totals.position + 1) es
+record_of c f traces es = output_of c f traces es ++ history_text c.block (f.totals.position + 1) es

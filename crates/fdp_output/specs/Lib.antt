@@ -1,3 +1,4 @@
+pub mod CommandData
 pub mod CommandText
 pub mod HistoryText
 pub mod Output

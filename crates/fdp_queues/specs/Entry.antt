@@ -1,5 +1,5 @@
 -- The entries of commands in a submission queue.
-use Rattle.std.specs.Prelude.{ℕ, ◌+◌, ◌-◌, ◌*◌, ◌/◌, ◌%◌, ◌^◌, Bool, true, false, length, replicate, if◌then◌else◌, ◌==◌}
+use Rattle.std.specs.Prelude.{ℕ, ◌+◌, ◌-◌, ◌*◌, ◌/◌, ◌%◌, ◌^◌, Bool, true, false, List, length, replicate, if◌then◌else◌, ◌==◌}
 use Rattle.fdp_base.specs.declared.command.Command.{Command}
 use Rattle.fdp_base.specs.declared.command.Command.TheVariants as commands
 use Rattle.fdp_base.specs.EventCodes.{bit}
@@ -15,6 +15,8 @@ use Rattle.fdp_layouts.specs.declared.submission.Fuse.{Fuse}
 use Rattle.fdp_layouts.specs.declared.submission.Fuse.TheVariants as fuses
 use Rattle.fdp_layouts.specs.declared.submission.Psdt.{Psdt}
 use Rattle.fdp_layouts.specs.declared.submission.Psdt.TheVariants as psdts
+use Rattle.fdp_layouts.specs.Frame.{frame_of}
+use Rattle.fdp_layouts.specs.Submission.{sqe, sqe_numbers}
 use Rattle.fdp_queues.specs.declared.work.Work.{Work}
 use Rattle.fdp_queues.specs.declared.entry.Words.{Words}
 
@@ -163,3 +165,7 @@ entry_of w cid = record {
 
 abbrev pub work_of : Command → ℕ → Work
 work_of command cid = record { admin = (words_of command).admin; sqe = entry_of (words_of command) cid }
+
+-- the 64 bytes of an entry
+abbrev pub entry_bytes : Sqe → List ℕ
+entry_bytes entry = frame_of 64 sqe (sqe_numbers entry)

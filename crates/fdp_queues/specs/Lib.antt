@@ -1,3 +1,4 @@
 pub mod Phase
 pub mod Rings
+pub mod Data
 pub mod Entry

@@ -1,3 +1,4 @@
+pub mod Typed
 pub mod Words
 pub mod Numbers
 pub mod Lines

@@ -1,7 +1,7 @@
 use Rattle.std.proofs.Common.{◌≡◌, ◌++◌, take}
 use Rattle.std.specs.Prelude.{flat_map}
+use Rattle.fdp_queues.specs.Data.{range_bytes, with_attributes}
 use Rattle.fdp_binary.specs.Carrying.{Extends}
-use Rattle.fdp_binary.specs.Saying.{range_bytes, with_attributes}
 use Rattle.fdp_binary.proofs.data.push_ranges.Given as goal
 
 abbrev pub invariant-loop-range : goal.invariant-loop-range

@@ -2,8 +2,9 @@ use Rattle.std.proofs.Common.{◌≡◌, ◌++◌, subst, length}
 use Rattle.fdp_layouts.specs.Frame.{Fits}
 use Rattle.fdp_layouts.specs.Submission.{sqe, sqe_numbers}
 use Rattle.fdp_queues.specs.declared.work.Work.{Work}
-use Rattle.fdp_binary.specs.Carrying.{data_of}
-use Rattle.fdp_binary.specs.Front.{entry_bytes, head}
+use Rattle.fdp_queues.specs.Data.{data_of}
+use Rattle.fdp_queues.specs.Entry.{entry_bytes}
+use Rattle.fdp_binary.specs.Front.{head}
 use Rattle.fdp_binary.proofs.Made.{frame-made}
 use Rattle.fdp_binary.proofs.Refused.{no-frame}
 use Rattle.fdp_binary.proofs.encode.encode_command.Goals as goal

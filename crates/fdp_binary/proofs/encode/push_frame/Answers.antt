@@ -2,8 +2,8 @@ use Rattle.std.proofs.Common.{◌++◌, ◌*◌, ◌∙◌, ap, sym, subst, leng
 use Rattle.std.specs.Prelude.{flat_map}
 use Rattle.std.specs.Int.{to_le_bytes, w16}
 use Rattle.fdp_base.specs.declared.command.Command.TheVariants as commands
+use Rattle.fdp_queues.specs.Data.{range_bytes, with_attributes}
 use Rattle.fdp_binary.specs.Carrying.{IsCarried}
-use Rattle.fdp_binary.specs.Saying.{range_bytes, with_attributes}
 use Rattle.fdp_binary.proofs.Laid.{on_ok, when_ok}
 use Rattle.fdp_binary.proofs.Made.{framed, payload-size, pids-bytes, ranges-bytes}
 use Rattle.fdp_binary.proofs.encode.push_frame.Goals as goal

@@ -1,5 +1,5 @@
 use Rattle.std.proofs.Common.{◌≡◌, ◌*◌, take}
-use Rattle.fdp_binary.specs.Saying.{pattern}
+use Rattle.fdp_queues.specs.Data.{pattern}
 use Rattle.fdp_binary.proofs.payload.is_pattern.Given as goal
 
 abbrev pub invariant-loop-index : goal.invariant-loop-index

@@ -1,6 +1,6 @@
 use Rattle.std.proofs.Common.{◌≡◌, ◌++◌}
+use Rattle.fdp_queues.specs.Data.{pattern}
 use Rattle.fdp_binary.specs.Carrying.{Extends}
-use Rattle.fdp_binary.specs.Saying.{pattern}
 use Rattle.fdp_binary.proofs.payload.push_pattern.Given as goal
 
 abbrev pub invariant-loop-index : goal.invariant-loop-index
