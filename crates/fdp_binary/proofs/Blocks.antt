@@ -12,6 +12,7 @@ use Rattle.fdp_base.specs.Geometry.{IsBlockSize}
 use Rattle.fdp_base.specs.Numbers.{numbers_below, numbers_from}
 use Rattle.fdp_base.specs.Pattern.{pattern_block, repeated}
 use Rattle.fdp_base.proofs.Repeating.{front_repeated, length_repeated}
+use Rattle.fdp_queues.proofs.Data.{numbers-next}
 use Rattle.fdp_queues.specs.Data.{pattern}
 
 whole-block : (block : ℕ) → IsBlockSize block → block / 4 * 4 ≡ block
@@ -40,18 +41,6 @@ length-blocks f size first (suc n) each = omega (arith, length-append (f first) 
 
 pub pattern-size : (block count seed : ℕ) → IsBlockSize block → length (pattern block count seed) ≡ count * block
 pattern-size block count seed is = length-blocks (pattern_block block seed) block 0 count (λ i. length-pattern block seed i is)
-
--- one number more
-numbers-push : (first n : ℕ) → numbers_from first (n + 1) ≡ numbers_from first n ++ (first + n) ∷ []
-unfolding numbers_from
-numbers-push first zero = let e : first ≡ first + 0 = omega arith in ap (λ (k : ℕ). k ∷ []) e
-numbers-push first (suc n) =
-    let e : first + 1 + n ≡ first + suc n = omega arith in
-    let m : suc n + 1 ≡ suc (n + 1) = omega arith in
-    ap (numbers_from first) m ∙ ap (λ (xs : List ℕ). first ∷ xs) (numbers-push (first + 1) n ∙ ap (λ (k : ℕ). numbers_from (first + 1) n ++ k ∷ []) e)
-
-numbers-next : (n : ℕ) → numbers_below (n + 1) ≡ numbers_below n ++ n ∷ []
-numbers-next n = numbers-push 0 n ∙ ap (λ (k : ℕ). numbers_from 0 n ++ k ∷ []) (omega arith)
 
 -- one block more
 pub pattern-next : (block count seed : ℕ) → pattern block (count + 1) seed ≡ pattern block count seed ++ pattern_block block seed count

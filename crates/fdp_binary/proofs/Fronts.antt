@@ -23,51 +23,12 @@ use Rattle.fdp_layouts.proofs.Filling.{length-placed}
 use Rattle.fdp_layouts.proofs.RangeApart.{dsm_range_by_numbers}
 use Rattle.fdp_layouts.proofs.SubmissionApart.{sqe_by_numbers}
 use Rattle.fdp_queues.specs.Entry.{entry_bytes}
+use Rattle.fdp_queues.proofs.Data.{length-entry}
 use Rattle.fdp_binary.specs.declared.front.Front.{Front}
 use Rattle.fdp_binary.specs.Front.{Begins, IsEntry, IsHead, IsSound, front_bytes, head}
 use Rattle.fdp_binary.proofs.Laid.{same-front}
 
--- ---- how long a layout is
-
-and_true : (a b : Bool) → (a && b) ≡ true → (a ≡ true) × (b ≡ true)
-and_true true b e = (refl, e)
-and_true false b e = absurd cc
-
-record Ascends (from len : ℕ) (f : Field) (fs : List Field) : Type 0 where
-  above : from ≤ f.at
-  others : IsTrue (ascend (f.at + size f) len fs)
-
-ascends : (from len : ℕ) (f : Field) (fs : List Field) → IsTrue (ascend from len (f ∷ fs)) → Ascends from len f fs
-ascends from len f fs h =
-    let p = and_true (leb from f.at && eqb (bits_of f.parts % 8) 0) (ascend (f.at + size f) len fs) h in
-    let q = and_true (leb from f.at) (eqb (bits_of f.parts % 8) 0) p.0 in
-    record { above = leb-true _ _ q.0; others = p.1 }
-
-ascend_fits : (from len : ℕ) (fields : List Field) → IsTrue (ascend from len fields) → from ≤ len
-ascend_fits from len [] h = grind (arith, nat_tests)
-ascend_fits from len (f ∷ fs) h =
-    let a = ascends from len f fs h in
-    let rest = ascend_fits (f.at + size f) len fs a.others in
-    omega (arith, a.above)
-
-length-filled : (fields : List Field) (vss : List (List ℕ)) (xs : List ℕ) (from len : ℕ) → length xs ≡ len → IsTrue (ascend from len fields) → length (filled fields vss xs) ≡ len
-length-filled [] vss xs from len lx asc = lx
-length-filled (f ∷ fs) [] xs from len lx asc = lx
-length-filled (f ∷ fs) (vs ∷ vss) xs from len lx asc =
-    let a = ascends from len f fs asc in
-    let end = ascend_fits (f.at + size f) len fs a.others in
-    let bs = little_bytes (size f) (packed f.parts vs) in
-    let size-is : length bs ≡ size f = length-bytes_low_first 0 (size f) (packed f.parts vs) in
-    length-filled fs vss (placed f.at bs xs) (f.at + size f) len (length-placed f.at bs xs (omega arith) ∙ lx) a.others
-
-length-frame : (len : ℕ) (fields : List Field) (vss : List (List ℕ)) → IsTrue (ascend 0 len fields) → length (frame_of len fields vss) ≡ len
-length-frame len fields vss asc = length-filled fields vss (replicate len 0) 0 len (length-replicate len 0) asc
-
-pub length-entry : (e : Sqe) → length (entry_bytes e) ≡ 64
-length-entry e = length-frame 64 sqe (sqe_numbers e) refl
-
-pub length-range : (r : DsmRange) → length (frame_of 16 dsm_range (dsm_range_numbers r)) ≡ 16
-length-range r = length-frame 16 dsm_range (dsm_range_numbers r) refl
+-- ---- how long they are
 
 pub length-head : (admin : Bool) (len : ℕ) → length (head admin len) ≡ 16
 length-head admin len = refl

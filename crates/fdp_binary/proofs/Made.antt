@@ -33,7 +33,7 @@ use Rattle.fdp_binary.specs.Saying.{AreLaid, IsPayload, IsPid, IsRange, Says}
 use Rattle.fdp_binary.specs.Frames.{IsFrame}
 use Rattle.fdp_binary.specs.Carrying.{AreTypedPids, AreTypedRanges, IsCarried, IsCarriedPayload, IsTyped, IsTypedPayload, admin_made, entry_made}
 use Rattle.fdp_binary.proofs.Blocks.{block-from, pattern-size}
-use Rattle.fdp_binary.proofs.Fronts.{length-range}
+use Rattle.fdp_queues.proofs.Data.{length-range}
 use Rattle.fdp_binary.proofs.Laid.{laid-length, laid-out}
 
 -- ---- fields
