@@ -48,19 +48,19 @@ unfolding numbers_from
 queues_last f count i high = let none : count - i ≡ 0 = omega arith in ap (λ k. flat_map f (numbers_from (1 + i) k)) none
 
 -- the next entry
-pub history_next : (es : List Entry) (first i : ℕ) (e : Entry) → i < length es → e ≡ get_or es i e →
-    history_text (first + i) (drop i es) ≡ entry_lines (first + i) e ++ history_text (first + (i + 1)) (drop (i + 1) es)
-history_next es first i e low is =
+pub history_next : (block : ℕ) (es : List Entry) (first i : ℕ) (e : Entry) → i < length es → e ≡ get_or es i e →
+    history_text block (first + i) (drop i es) ≡ entry_lines block (first + i) e ++ history_text block (first + (i + 1)) (drop (i + 1) es)
+history_next block es first i e low is =
     let next : first + i + 1 ≡ first + (i + 1) = omega arith in
-    ap (history_text (first + i)) (from_place es i e low is) ∙ ap (λ k. entry_lines (first + i) e ++ history_text k (drop (i + 1) es)) next
+    ap (history_text block (first + i)) (from_place es i e low is) ∙ ap (λ k. entry_lines block (first + i) e ++ history_text block k (drop (i + 1) es)) next
 
-pub history_first : (es : List Entry) (first i : ℕ) → i ≡ 0 → history_text (first + i) (drop i es) ≡ history_text first es
-history_first es first i none =
+pub history_first : (block : ℕ) (es : List Entry) (first i : ℕ) → i ≡ 0 → history_text block (first + i) (drop i es) ≡ history_text block first es
+history_first block es first i none =
     let same : first + i ≡ first = omega arith in
-    ap (λ k. history_text k (drop i es)) same ∙ ap (λ k. history_text first (drop k es)) none
+    ap (λ k. history_text block k (drop i es)) same ∙ ap (λ k. history_text block first (drop k es)) none
 
-pub history_last : (es : List Entry) (first i : ℕ) → length es ≤ i → history_text (first + i) (drop i es) ≡ []
-history_last es first i high = ap (history_text (first + i)) (drop_all i es high)
+pub history_last : (block : ℕ) (es : List Entry) (first i : ℕ) → length es ≤ i → history_text block (first + i) (drop i es) ≡ []
+history_last block es first i high = ap (history_text block (first + i)) (drop_all i es high)
 
 -- the next handle
 pub usages_next : (us : List ℕ) (i u : ℕ) → i < length us → u ≡ get_or us i 0 → usage_lines i (drop i us) ≡ usage_line i u ++ usage_lines (i + 1) (drop (i + 1) us)

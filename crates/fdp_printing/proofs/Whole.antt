@@ -66,9 +66,9 @@ position_is c f es x closing = ap (λ (t : Totals). t.position) closing.totals
 
 -- the whole record
 pub record_is : (c : DriveConfig) (f : Found) (traces found : ℕ) (es : List Entry) (x : Closing) → IsClosing c (point_of c f es) x → found ≡ x.totals.position - length es →
-    run_lines c traces es x ++ history_text (found + 1) es ≡ record_of c f traces es
+    run_lines c traces es x ++ history_text c.block (found + 1) es ≡ record_of c f traces es
 unfolding record_of
 record_is c f traces found es x closing is =
     let same : found ≡ f.totals.position = omega (arith, is, position_is c f es x closing) in
-    ap (λ n. run_lines c traces es x ++ history_text (n + 1) es) same
-    ∙ ap (λ t. t ++ history_text (f.totals.position + 1) es) (output_is c f traces es x closing)
+    ap (λ n. run_lines c traces es x ++ history_text c.block (n + 1) es) same
+    ∙ ap (λ t. t ++ history_text c.block (f.totals.position + 1) es) (output_is c f traces es x closing)

@@ -2,6 +2,7 @@
 
 ghost use Rattle.std.specs.Prelude.{◌≡◌, ◌^◌, ◌+◌, ◌<◌, ◌++◌, ◌∷◌, [], OnOk, codes, decimal, length, map};
 ghost use Rattle.fdp_base.specs.EventCodes.{bit};
+ghost use Rattle.fdp_output.specs.CommandData.{own_text};
 ghost use Rattle.fdp_output.specs.CommandText.{command_text};
 ghost use Rattle.fdp_output.specs.HistoryText.{
   block_word,
@@ -13,6 +14,7 @@ ghost use Rattle.fdp_output.specs.HistoryText.{
   spot_words,
   started_words,
 };
+ghost use Rattle.fdp_output.specs.Output.{data_text};
 ghost use Rattle.fdp_base.specs.Text.{hex, status_text};
 ghost use Rattle.fdp_trace.specs.Printer.{spaced_behind};
 ghost use Rattle.fdp_printing.specs.Printing.{PrintsOn};
@@ -21,49 +23,57 @@ use crate::pieces::{Cut, write_piece};
 use fdp_base::{BlockName, Command, Entry, Host, Placed, Reply, Spot, Started};
 use fdp_io::Sink;
 use fdp_trace::{
-    print_command, push_data, push_decimal, push_hex, push_number, push_status, push_word,
+    print_command, push_data, push_decimal, push_hex, push_number, push_own_data, push_status,
+    push_word,
 };
 use std::alloc::AllocError;
 
-/// Prints the entries of a history that follow this position.
+/// Prints the entries of a history that follow this position, with blocks of so many bytes.
 pub fn print_history<K: Sink>(
+    block: u32,
     position: u64,
     entries: &[Entry],
     text: &mut Vec<u8>,
     sink: &mut K,
 ) -> Result<(), Cut>
     requires { position + length entries.now < 2 ^ 64 }
-    ensures { PrintsOn (K.state sink.old) (K.state sink.new) text.old.items text.new.items (history_text (position + 1) entries.now) result }
+    ensures { PrintsOn (K.state sink.old) (K.state sink.new) text.old.items text.new.items (history_text block (position + 1) entries.now) result }
 {
     for (index, entry) in entries.iter().enumerate() {
-        print_entry(position + 1 + index as u64, entry, text, sink)?;
+        print_entry(block, position + 1 + index as u64, entry, text, sink)?;
     }
     Ok(())
 }
 
 /// Prints the lines of the entry at this position.
 fn print_entry<K: Sink>(
+    block: u32,
     position: u64,
     entry: &Entry,
     text: &mut Vec<u8>,
     sink: &mut K,
 ) -> Result<(), Cut>
-    ensures { PrintsOn (K.state sink.old) (K.state sink.new) text.old.items text.new.items (entry_lines position entry.now) result }
+    ensures { PrintsOn (K.state sink.old) (K.state sink.new) text.old.items text.new.items (entry_lines block position entry.now) result }
 {
-    if push_entry(position, entry, text).is_err() {
+    if push_entry(block, position, entry, text).is_err() {
         return Err(Cut::NoMemory);
     }
     write_piece(text, sink)
 }
 
 /// Appends the lines of the entry at this position.
-fn push_entry(position: u64, entry: &Entry, into: &mut Vec<u8>) -> Result<(), AllocError>
-    ensures { OnOk result (into.new.items ≡ into.old.items ++ entry_lines position entry.now) }
+pub fn push_entry(
+    block: u32,
+    position: u64,
+    entry: &Entry,
+    into: &mut Vec<u8>,
+) -> Result<(), AllocError>
+    ensures { OnOk result (into.new.items ≡ into.old.items ++ entry_lines block position entry.now) }
 {
     push_decimal(into, position)?;
     push_words(entry, into)?;
     into.push(b'\n')?;
-    push_entry_data(entry, into)
+    push_entry_data(block, entry, into)
 }
 
 /// Appends what an entry says, behind its position.
@@ -175,7 +185,7 @@ fn push_block(block: &BlockName, into: &mut Vec<u8>) -> Result<(), AllocError>
     push_decimal(into, block.lba)
 }
 
-/// Appends a space and the line of a command.
+/// Appends a space and the words of a command.
 fn push_line(command: &Command, into: &mut Vec<u8>) -> Result<(), AllocError>
     ensures { OnOk result (into.new.items ≡ into.old.items ++ 32 ∷ command_text command.now) }
 {
@@ -194,12 +204,29 @@ fn push_flag(flag: bool, into: &mut Vec<u8>) -> Result<(), AllocError>
     }
 }
 
-/// Appends the lines of the data that a completion transfers.
-fn push_entry_data(entry: &Entry, into: &mut Vec<u8>) -> Result<(), AllocError>
-    ensures { OnOk result (into.new.items ≡ into.old.items ++ entry_data entry.now) }
+/// Appends the lines of the data that the command of an entry carries or answers.
+fn push_entry_data(block: u32, entry: &Entry, into: &mut Vec<u8>) -> Result<(), AllocError>
+    ensures { OnOk result (into.new.items ≡ into.old.items ++ entry_data block entry.now) }
 {
-    match entry.as_host() {
-        Some(host) => push_data(into, &host.command, host.reply.bytes.as_slice()),
-        None => Ok(()),
+    match entry {
+        Entry::Host(host) => push_host_data(block, host, into),
+        Entry::Started(started) => push_own_data(into, &started.command, block),
+        Entry::Placed(_)
+        | Entry::Copied(_)
+        | Entry::Moved(_)
+        | Entry::Erased(_)
+        | Entry::Retired(_)
+        | Entry::Aside(_)
+        | Entry::Shut(_)
+        | Entry::Worn(_)
+        | Entry::Reopened => Ok(()),
     }
+}
+
+/// Appends the lines of the data of a completion.
+fn push_host_data(block: u32, host: &Host, into: &mut Vec<u8>) -> Result<(), AllocError>
+    ensures { OnOk result (into.new.items ≡ into.old.items ++ (own_text block host.now.command ++ data_text host.now.command host.now.reply.bytes)) }
+{
+    push_own_data(into, &host.command, block)?;
+    push_data(into, &host.command, host.reply.bytes.as_slice())
 }

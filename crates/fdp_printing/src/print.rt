@@ -55,7 +55,7 @@ pub fn print_record<K: Sink>(
     let found = closing.totals.position.saturating_sub(entries.len() as u64);
     let mut text = Vec::new(alloc);
     print_run(config, entries, traces, closing, &mut text, sink)?;
-    print_history(found, entries, &mut text, sink)?;
+    print_history(config.block, found, entries, &mut text, sink)?;
     write_rest(&mut text, sink)
 }
 

@@ -8,6 +8,8 @@ use fdp_io::SinkMem;
 use std::alloc::{AllocError, Global};
 use std::test::Fail;
 
+mod entries;
+
 #[test]
 fn sums_may_exceed_64_bits(rt: HostRuntime) -> Result<(), Fail> {
     let alloc = rt.alloc();

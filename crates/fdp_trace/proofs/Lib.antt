@@ -4,7 +4,10 @@ pub mod Steps
 pub mod Printed
 pub mod Repeats
 pub mod Spelling
+pub mod SpelledLines
 pub mod ReadBack
+pub mod Entries
+pub mod OwnData
 pub mod Numerals
 pub mod Parts
 pub mod Rows

@@ -47,19 +47,19 @@ one_piece show n m size (b ∷ bs) text all one more so_far =
     ∙ ap (λ (k : ℕ). text ++ flat_map show (pieces_of k size (b ∷ bs))) (sym one)
     ∙ so_far
 
-pub some_left : (xs : List ℕ) → (length xs == 0) ≡ false → 0 < length xs
+pub some_left : {X : Type 0} (xs : List X) → (length xs == 0) ≡ false → 0 < length xs
 some_left xs e = grind (arith, nat_tests)
 
-pub none_left : (xs : List ℕ) → (length xs == 0) ≡ true → length xs ≡ 0
+pub none_left : {X : Type 0} (xs : List X) → (length xs == 0) ≡ true → length xs ≡ 0
 none_left xs e = eqb-true (length xs) 0 e
 
-pub take_min : (xs : List ℕ) (n : ℕ) → take (min (length xs) n) xs ≡ take n xs
+pub take_min : {X : Type 0} (xs : List X) (n : ℕ) → take (min (length xs) n) xs ≡ take n xs
 take_min xs n = elim (cases_lt n (length xs)) [
   | inl lt ↦ let k : min (length xs) n ≡ n = omega arith in ap (λ (k : ℕ). take k xs) k
   | inr le ↦ let k : min (length xs) n ≡ length xs = omega arith in ap (λ (k : ℕ). take k xs) k ∙ take-length xs ∙ sym (take_all n xs le)
 ]
 
-pub drop_min : (xs : List ℕ) (n : ℕ) → drop (min (length xs) n) xs ≡ drop n xs
+pub drop_min : {X : Type 0} (xs : List X) (n : ℕ) → drop (min (length xs) n) xs ≡ drop n xs
 drop_min xs n = elim (cases_lt n (length xs)) [
   | inl lt ↦ let k : min (length xs) n ≡ n = omega arith in ap (λ (k : ℕ). drop k xs) k
   | inr le ↦ nil_from_length (drop (min (length xs) n) xs) (omega (arith, length-drop (min (length xs) n) xs)) ∙ sym (nil_from_length (drop n xs) (omega (arith, length-drop n xs)))

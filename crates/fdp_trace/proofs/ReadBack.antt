@@ -1,6 +1,6 @@
 -- What is printed of a command says that command.
-use Rattle.std.proofs.Common.{◌≡◌, ℕ, zero, suc, ◌^◌, ◌<◌, ◌≤◌, Bool, true, false, not, ◌&&◌, List, [], ◌∷◌, ◌++◌, length, get_or, map, refl, sym, ap, subst, ◌∙◌, arith, nat_lt}
-use Rattle.std.specs.Prelude.{decimal, codes}
+use Rattle.std.proofs.Common.{◌≡◌, ℕ, zero, suc, ◌^◌, ◌<◌, ◌≤◌, Bool, true, false, not, List, [], ◌∷◌, ◌++◌, length, get_or, map, refl, sym, ap, subst, ◌∙◌, arith, nat_lt}
+use Rattle.std.specs.Prelude.{decimal, codes, if◌then◌else◌}
 use Rattle.std.specs.List.{flat_map, list_all, AllByRecursion, AllZip}
 use Rattle.std.specs.Str.{IsAscii, IsUtf8}
 use Rattle.std.proofs.lemmas.Bool.Decides.{nat_tests}
@@ -9,20 +9,19 @@ use Rattle.fdp_base.specs.declared.command.Command.{Command}
 use Rattle.fdp_base.specs.declared.command.Command.TheVariants as commands
 use Rattle.fdp_base.specs.declared.command.Range.{Range}
 use Rattle.fdp_base.specs.CommandKinds.{word_of}
+use Rattle.fdp_base.specs.Text.{spaced}
 use Rattle.fdp_trace.specs.Words.{is_blank, words_of}
 use Rattle.fdp_trace.specs.Lines.{Part, Fixed, Number, range_parts, IsLine, write, write_placed, read, zeroes, dealloc, flush, status, update, log, log_ctrl, log_host, set_fdp, get_fdp, set_events, create, delete}
 use Rattle.fdp_trace.specs.Demands.{IsInRange, Spells}
 use Rattle.fdp_trace.specs.Grammar.{is_skipped, Says}
-use Rattle.fdp_output.specs.CommandText.{range_words, on_word, argument_words, command_text}
+use Rattle.fdp_queues.specs.Entry.{work_of}
+use Rattle.fdp_output.specs.CommandText.{range_words, on_word, argument_words, command_text, line_words, work_words}
 use Rattle.fdp_trace.specs.Printer.{spaced_behind}
-use Rattle.fdp_trace.proofs.Parts.{zip_weaker, in_range, within_both, ranges_found}
+use Rattle.fdp_trace.proofs.Parts.{both_true, zip_weaker, in_range, within_both, ranges_found}
+use Rattle.fdp_trace.proofs.SpelledLines.{line_is_spelled}
 use Rattle.fdp_trace.proofs.Spelling.{IsWord, spaced_is, words_back, ascii_behind, number_word, number_back}
 
 -- ---- words of letters
-
-both_true : (a b : Bool) → (a && b) ≡ true → (a ≡ true) × (b ≡ true)
-both_true true b e = (refl, e)
-both_true false b e = absurd cc
 
 not_true : (b : Bool) → not b ≡ true → b ≡ false
 not_true true e = absurd cc
@@ -222,14 +221,23 @@ are_words [] (text ∷ texts) h = absurd h
 are_words (part ∷ line) [] h = absurd h
 are_words (part ∷ line) (text ∷ texts) h = (h.0.word, are_words line texts h.1)
 
+-- the words that are printed of a command are those of its line
+all_shown : (c : Command) → (p : IsPrinted c) → AllZip IsShown p.line (line_words c)
+all_shown c p = subst (λ (texts : List (List ℕ)). AllZip IsShown p.line texts) (sym p.words) (line_shown p.line p.plain p.within)
+
+pub own_spells : (line : List Part) (c : Command) → IsLine line c → list_all in_range line ≡ true → Spells (line_words c) c
+own_spells line c row within =
+    let p = printed line c row within in
+    (p.line, p.row, zip_weaker IsShown IsInRange part_is p.line (line_words c) (all_shown c p))
+
 pub said : (words : List (List ℕ)) (c : Command) → Spells words c → length (command_text c) ≤ 4096 → (is_skipped (command_text c) ≡ false) × Says (command_text c) c
 said words c (line, row, fits) short =
-    let p = printed line c row (ranges_found line words fits) in
-    let shown = subst (λ (texts : List (List ℕ)). AllZip IsShown p.line texts) (sym p.words) (line_shown p.line p.plain p.within) in
-    let e = spaced_is (word_of c) (argument_words c) in
-    let plain = are_words p.line (word_of c ∷ argument_words c) shown in
-    let cut : words_of (command_text c) ≡ word_of c ∷ argument_words c = ap words_of e ∙ words_back (word_of c) (argument_words c) plain.0 plain.1 in
+    let within = ranges_found line words fits in
+    let p = printed line c row within in
+    let text : command_text c ≡ spaced (line_words c) = ap (λ (b : Bool). spaced (if b then line_words c else work_words (work_of c 0))) (line_is_spelled line c row within) in
+    let e = text ∙ spaced_is (word_of c) (argument_words c) in
+    let plain = are_words p.line (line_words c) (all_shown c p) in
+    let cut : words_of (command_text c) ≡ line_words c = ap words_of e ∙ words_back (word_of c) (argument_words c) plain.0 plain.1 in
     let ascii = IsAscii-append (word_of c) (spaced_behind (argument_words c)) plain.0.ascii (ascii_behind (argument_words c) plain.1) in
     let utf8 = subst IsUtf8 (sym e) (IsUtf8-from_ascii _ ascii) in
-    let spells : Spells (word_of c ∷ argument_words c) c = (p.line, p.row, zip_weaker IsShown IsInRange part_is p.line (word_of c ∷ argument_words c) shown) in
-    (ap is_skipped e ∙ is_shown c (spaced_behind (argument_words c)), ((short, utf8), subst (λ (w : List (List ℕ)). Spells w c) (sym cut) spells))
+    (ap is_skipped e ∙ is_shown c (spaced_behind (argument_words c)), ((short, utf8), subst (λ (w : List (List ℕ)). Spells w c) (sym cut) (own_spells line c row within)))

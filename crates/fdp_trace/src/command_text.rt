@@ -1,7 +1,8 @@
-//! Commands in the form of a trace.
+//! Commands in the form of a trace, and as a history has them.
 
 ghost use Rattle.std.specs.Prelude.{◌≡◌, ◌≤◌, ℕ, List, ◌++◌, ◌∷◌, false, length, OnOk, OnErr, map, flat_map, decimal, []};
-ghost use Rattle.fdp_output.specs.CommandText.{payload_word, directive_words, range_words, on_word, class_words, argument_words, command_text};
+ghost use Rattle.fdp_base.specs.Text.{spaced};
+ghost use Rattle.fdp_output.specs.CommandText.{payload_word, directive_words, range_words, on_word, class_words, argument_words, line_words, command_text};
 ghost use Rattle.fdp_trace.specs.Printer.{spaced_behind};
 ghost use Rattle.fdp_trace.specs.Printer.{Extends};
 ghost use Rattle.fdp_trace.specs.Demands.{Spells};
@@ -9,11 +10,14 @@ ghost use Rattle.fdp_trace.specs.Grammar.{is_skipped, Says};
 ghost use Rattle.fdp_base.specs.declared.command.Command.{Command};
 
 use crate::decimal::push_decimal;
+use crate::entry_text::push_work;
+use crate::spelled::is_spelled;
 use fdp_base::{Command, Directive, LONGEST_LINE, Payload, Range};
+use fdp_queues::work_of;
 use std::alloc::AllocError;
 
-/// Adds a command as the line of a trace that spells it, without the line's end. One that no trace spells, of bytes
-/// or that the drive does not serve, has a text of its own. An `Err` leaves the text as it was.
+/// Adds a command as the line of a trace that spells it, or, where none does, as its entry; without the line's end. An
+/// `Err` leaves the text as it was.
 pub fn print_command(command: &Command, into: &mut Vec<u8>) -> Result<(), AllocError>
     ensures ok { OnOk result (into.new.items ≡ into.old.items ++ command_text command.now) }
     ensures err { OnErr result (into.new.items ≡ into.old.items) }
@@ -28,6 +32,18 @@ pub fn print_command(command: &Command, into: &mut Vec<u8>) -> Result<(), AllocE
 
 fn push_command(text: &mut Vec<u8>, command: &Command) -> Result<(), AllocError>
     ensures ok { OnOk result (text.new.items ≡ text.old.items ++ command_text command.now) }
+    ensures err { OnErr result (Extends text.old.items text.new.items) }
+{
+    if is_spelled(command) {
+        push_line(text, command)
+    } else {
+        push_work(text, &work_of(command, 0))
+    }
+}
+
+/// Adds the words of a line, which say the command where it is spelled.
+fn push_line(text: &mut Vec<u8>, command: &Command) -> Result<(), AllocError>
+    ensures ok { OnOk result (text.new.items ≡ text.old.items ++ spaced (line_words command.now)) }
     ensures err { OnErr result (Extends text.old.items text.new.items) }
 {
     text.extend_from_slice(command.word().as_bytes())?;
@@ -81,11 +97,7 @@ fn push_arguments(text: &mut Vec<u8>, command: &Command) -> Result<(), AllocErro
             push_number(text, create.size)?;
             push_identifiers(text, create.list.as_slice())
         }
-        Command::Other(other) => {
-            push_number(text, u64::from(other.opcode))?;
-            push_number(text, u64::from(other.flags))?;
-            push_number(text, u64::from(other.feature))
-        }
+        Command::Other(_) => Ok(()),
     }
 }
 
@@ -104,7 +116,7 @@ fn push_payload(text: &mut Vec<u8>, payload: &Payload) -> Result<(), AllocError>
 {
     match payload {
         Payload::Pattern(seed) => push_number(text, u64::from(*seed)),
-        Payload::Bytes(_) => push_word(text, b"bytes"),
+        Payload::Bytes(_) => push_word(text, b""),
     }
 }
 

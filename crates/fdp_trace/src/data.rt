@@ -36,7 +36,7 @@ pub fn push_data(text: &mut Vec<u8>, command: &Command, bytes: &[u8]) -> Result<
 }
 
 /// Adds a line for each of so many blocks, which have one size.
-fn push_blocks(text: &mut Vec<u8>, count: u32, bytes: &[u8]) -> Result<(), AllocError>
+pub fn push_blocks(text: &mut Vec<u8>, count: u32, bytes: &[u8]) -> Result<(), AllocError>
     ensures ok { OnOk result (text.new.items ≡ text.old.items ++ block_lines count bytes.now) }
     ensures err { OnErr result (Extends text.old.items text.new.items) }
 {
@@ -57,7 +57,7 @@ fn push_blocks(text: &mut Vec<u8>, count: u32, bytes: &[u8]) -> Result<(), Alloc
 }
 
 /// Adds lines of up to 32 bytes.
-fn push_data_lines(text: &mut Vec<u8>, bytes: &[u8]) -> Result<(), AllocError>
+pub fn push_data_lines(text: &mut Vec<u8>, bytes: &[u8]) -> Result<(), AllocError>
     ensures ok { OnOk result (text.new.items ≡ text.old.items ++ data_lines bytes.now) }
     ensures err { OnErr result (Extends text.old.items text.new.items) }
 {

@@ -6,4 +6,4 @@ use Rattle.fdp_printing.proofs.history.print_history.Given as goal
 abbrev pub invariant-loop-index : goal.invariant-loop-index
 invariant-loop-index g l =
     IsPrinting (g.K.Sink.state l.fn.sink) (g.K.Sink.state l.sink) l.text.items
-    (history_text (l.position + 1 + l.index) (drop l.index l.entries)) (l.fn.text.items ++ history_text (l.position + 1) l.entries)
+    (history_text l.block (l.position + 1 + l.index) (drop l.index l.entries)) (l.fn.text.items ++ history_text l.block (l.position + 1) l.entries)

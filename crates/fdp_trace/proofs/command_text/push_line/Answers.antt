@@ -4,7 +4,7 @@ use Rattle.fdp_output.specs.CommandText.{argument_words}
 use Rattle.fdp_trace.specs.Printer.{spaced_behind}
 use Rattle.fdp_trace.proofs.Printed.{when_ok}
 use Rattle.fdp_trace.proofs.Spelling.{spaced_is}
-use Rattle.fdp_trace.proofs.command_text.push_command.Goals as goal
+use Rattle.fdp_trace.proofs.command_text.push_line.Goals as goal
 
 pub returns-clause-ok : goal.returns-clause-ok
 returns-clause-ok c =
