@@ -1,5 +1,8 @@
 use fdp_base::{Bytes, Command, Flush, GetLog, Other, Read, Reply, Sequence, Status};
-use fdp_trace::{print_command, print_completion, printed_is_read};
+use fdp_trace::{
+    lines_spell_the_spelled, no_line_spells_an_entry, print_command, print_completion,
+    printed_is_read,
+};
 use std::alloc::{AllocError, Global};
 
 /// A refused command, a read of two blocks, a log of 33 bytes, and a command that no trace spells.
@@ -9,8 +12,10 @@ pub fn completions(alloc: Global) -> Result<Vec<u8>, AllocError> {
     print_read(alloc, &mut text)?;
     print_log(alloc, &mut text)?;
     print_other(&mut text)?;
-    // What is printed of a command that a trace can spell is read back as it.
+    // What is printed of a command that a trace can spell is read back as it; of no other it is a line.
     printed_is_read();
+    lines_spell_the_spelled();
+    no_line_spells_an_entry();
     Ok(text)
 }
 
