@@ -10,11 +10,18 @@ use atomic_table::{Refused, Table};
 use fdp_base::Recorded;
 use std::alloc::Global;
 use std::snapshot::Snapshot;
-use std::sync::{Mutex, Wait};
+use std::sync::{Mutex, MutexGuard, Wait};
 use std::thread;
+use std::time::Duration;
 
 // The word of the table: 1 while the value is out, and else 0.
 pub(crate) const TAKEN: usize = 0;
+
+// How often a seat that finds the gate shut looks at it before it waits there.
+const LOOKS: u8 = 20;
+
+// The microseconds that it sleeps between two looks.
+const NAP: u64 = 100;
 
 /// A lock of turns over a value that records. A turn hands out the value to one seat at a time. Seats wait before a
 /// gate, which lets the thread that runs go on; so turns have no order.
@@ -85,12 +92,26 @@ impl<V: Recorded> GroupLock<V> {
         ensures made { made_of seat.new ≡ made_of seat.old }
         ensures place { KeepsPlace seat.old seat.new }
     {
-        let gate = self.gate.lock(rt);
+        let gate = self.pass(rt);
         seat.turns += 1;
         Turn {
             value: self.take(rt, &mut seat.token),
             gate,
         }
+    }
+
+    // Goes through the gate. Who finds it shut sleeps first, with nobody to wake it, so that the thread that runs makes many turns: each wait at the gate
+    // itself has a leave wake someone, and moves the value to another processor.
+    fn pass<R: Wait>(&self, rt: &R) -> MutexGuard<'_, ()> {
+        for _ in 0..LOOKS {
+            if let Some(gate) = self.gate.try_lock() {
+                return gate;
+            }
+            self.table
+                .shared
+                .park_timeout(rt, TAKEN, 1, Duration::from_micros(NAP));
+        }
+        self.gate.lock(rt)
     }
 
     fn take<R: Wait>(&self, rt: &R, token: &mut Token<V>) -> V
