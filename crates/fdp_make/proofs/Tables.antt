@@ -31,11 +31,15 @@ shown : (t : Bool) (w : Bor Write) (o : Option (Bor Write)) → option_map (λ x
 shown true w o = refl
 shown false w o = refl
 
-joined : {X : Type 0} (a b e i : Bool) (x y : X) → cond ((a && b) && e) x (cond (a && (b && i)) x y) ≡ cond (a && (b && cond e true i)) x y
+joined : {X : Type 0} (a b e i : Bool) (x y : X) → cond ((e && b) && a) x (cond (a && (b && i)) x y) ≡ cond (a && (b && cond e true i)) x y
 joined true true true i x y = refl
 joined true true false i x y = refl
-joined true false e i x y = refl
-joined false b e i x y = refl
+joined true false true i x y = refl
+joined true false false i x y = refl
+joined false true true i x y = refl
+joined false true false i x y = refl
+joined false false true i x y = refl
+joined false false false i x y = refl
 
 -- the first blocks of a write were put into a table
 abbrev pub IsPut : ℕ → ℕ → ℕ → Write → ℕ → BTreeMap TablePlace (Bor Write) → BTreeMap TablePlace (Bor Write) → Type 0
@@ -43,12 +47,12 @@ IsPut number nsid slba w count old new =
     (queue n lba : ℕ) → write_for new queue n lba ≡ cond (number == queue && (nsid == n && is_among slba count lba)) (Some w) (write_for old queue n lba)
 
 pub put_next : (number nsid slba count : ℕ) (w : Bor Write) (old mid new : BTreeMap TablePlace (Bor Write))
-    → Updates place_cmp mid new (number, nsid, slba + count) (Some w) → IsPut number nsid slba w.now count old mid → IsPut number nsid slba w.now (count + 1) old new
+    → Updates place_cmp mid new (slba + count, nsid, number) (Some w) → IsPut number nsid slba w.now count old mid → IsPut number nsid slba w.now (count + 1) old new
 put_next number nsid slba count w old mid new updates h queue n lba =
     let e : Bool = slba + count == lba in
-    ap (option_map (λ (x : Bor Write). x.now)) (updates.0 (queue, n, lba))
-    ∙ shown (is_eq (place_cmp (number, nsid, slba + count) (queue, n, lba))) w _
-    ∙ ap₂ (λ t o. cond t (Some w.now) o) (place_is (number, nsid, slba + count) (queue, n, lba)) (h queue n lba)
+    ap (option_map (λ (x : Bor Write). x.now)) (updates.0 (lba, n, queue))
+    ∙ shown (is_eq (place_cmp (slba + count, nsid, number) (lba, n, queue))) w _
+    ∙ ap₂ (λ t o. cond t (Some w.now) o) (place_is (slba + count, nsid, number) (lba, n, queue)) (h queue n lba)
     ∙ joined (number == queue) (nsid == n) e (is_among slba count lba) (Some w.now) (write_for old queue n lba)
     ∙ ap (λ i. cond (number == queue && (nsid == n && i)) (Some w.now) (write_for old queue n lba)) (sym (among_next slba count lba))
 
@@ -81,15 +85,15 @@ when_ok P Q (Err e) so h = tt
 
 -- the table answers what a read is to find
 pub wanted_by : (block queue nsid lba at : ℕ) (es : List Entry) (table : BTreeMap TablePlace (Bor Write)) (w : Bor Write) (bytes given : List ℕ)
-    → at ≡ lba → Some w ≡ get place_cmp table (queue, nsid, at) → Tells table es → bytes ≡ given
+    → at ≡ lba → Some w ≡ get place_cmp table (at, nsid, queue) → Tells table es → bytes ≡ given
     → bytes_eq (put_by block at w.now) bytes ≡ agrees (wanted block untold queue nsid lba es) given
 wanted_by block queue nsid lba at es table w bytes given same found tells is =
     let last : Some w.now ≡ last_write queue nsid lba es =
-    ap (option_map (λ (x : Bor Write). x.now)) (found ∙ ap (λ (n : ℕ). get place_cmp table (queue, nsid, n)) same) ∙ tells queue nsid lba in
+    ap (option_map (λ (x : Bor Write). x.now)) (found ∙ ap (λ (n : ℕ). get place_cmp table (n, nsid, queue)) same) ∙ tells queue nsid lba in
     ap₂ (λ (n : ℕ) (xs : List ℕ). bytes_eq (put_by block n w.now) xs) same is
     ∙ ap (λ (o : Option Write). agrees (option_or (option_map (put_by block lba) o) None) given) last
 
 -- an empty table tells of no entry
 pub tells_nothing : (table : BTreeMap TablePlace (Bor Write)) → table.entries ≡ [] → Tells table []
 unfolding last_write
-tells_nothing table none queue nsid lba = ap (λ (xs : List (TablePlace × Bor Write)). option_map (λ (w : Bor Write). w.now) (lookup (is_at (place_cmp (queue, nsid, lba))) xs)) none
+tells_nothing table none queue nsid lba = ap (λ (xs : List (TablePlace × Bor Write)). option_map (λ (w : Bor Write). w.now) (lookup (is_at (place_cmp (lba, nsid, queue))) xs)) none

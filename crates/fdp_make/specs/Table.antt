@@ -8,7 +8,7 @@ use Rattle.fdp_base.specs.declared.entry.Entry.{Entry}
 use Rattle.fdp_make.specs.Summary.{last_write}
 use Rattle.std.specs.Borrow.{Bor}
 
--- a queue, a namespace and an address
+-- an address, a namespace and a queue
 abbrev pub TablePlace : Type 0
 TablePlace = ℕ × ℕ × ℕ
 
@@ -18,7 +18,7 @@ place_cmp a b = ordering_then (ordering_then (nat_cmp a.0 b.0) (nat_cmp a.1 b.1)
 
 -- the write that a table has for a place
 abbrev pub write_for : BTreeMap TablePlace (Bor Write) → ℕ → ℕ → ℕ → Option Write
-write_for table queue nsid lba = option_map (λ w. w.now) (get place_cmp table (queue, nsid, lba))
+write_for table queue nsid lba = option_map (λ w. w.now) (get place_cmp table (lba, nsid, queue))
 
 -- the table has the last applied write of each queue to each block, and no other
 abbrev pub Tells : BTreeMap TablePlace (Bor Write) → List Entry → Type 0

@@ -60,7 +60,7 @@ fn is_as_wanted(host: &Host, read: &Read, index: u32, writes: &LastWrites<'_>, b
 {
     let lba = u128::from(read.slba) + u128::from(index);
     let bytes = cut(host.reply.bytes.as_slice(), u128::from(index), block);
-    match writes.get(&(host.queue, read.nsid, lba)) {
+    match writes.get(&(lba, read.nsid, host.queue)) {
         Some(write) => is_put_by(write, lba, block, bytes),
         None => true,
     }

@@ -12,8 +12,9 @@ use fdp_base::{Entry, Host, Write};
 use std::alloc::AllocError;
 use std::collections::BTreeMap;
 
-/// A queue, a namespace, and the address of a block. Behind the last address of 64 bits there is no block, but a command may ask for one.
-pub type Place = (u8, u32, u128);
+/// The address of a block, a namespace, and a queue: the address comes first, since it tells most places apart at once. Behind the last address of 64 bits
+/// there is no block, but a command may ask for one.
+pub type Place = (u128, u32, u8);
 
 /// The last applied write of each queue to each block.
 pub type LastWrites<'a> = BTreeMap<Place, &'a Write>;
@@ -51,7 +52,7 @@ fn note_write<'a>(
 {
     for index in 0..write.count {
         let lba = u128::from(write.slba) + u128::from(index);
-        writes.insert((number, write.nsid, lba), write)?;
+        writes.insert((lba, write.nsid, number), write)?;
     }
     Ok(())
 }
