@@ -5,7 +5,7 @@ use std::alloc::Global;
 #[derive(Drop)]
 pub struct Heard<K> {
     sink: K,
-    line: String,
+    line: Vec<u8>,
 }
 
 impl<K: Sink> Heard<K> {
@@ -14,29 +14,24 @@ impl<K: Sink> Heard<K> {
     pub fn new(alloc: Global, sink: K) -> Heard<K> {
         Heard {
             sink,
-            line: String::new(alloc),
+            line: Vec::new(alloc),
         }
     }
 
-    /// The line of the fault that was handed on last, with its end; it is empty where there was none, or no memory for a copy.
+    /// The line of the fault that the other sink took, with its end; it is empty where there was none, or no memory for a copy.
     pub fn line(&self) -> &str {
-        self.line.as_str()
+        str::from_utf8(self.line.as_slice()).unwrap_or("")
     }
 
-    /// Keeps a piece that is the line of a fault: a run hands it on as one.
-    fn listen(&mut self, bytes: &[u8])
+    /// Keeps what was taken from the piece that begins the line of a fault on: it is the last that a run prints.
+    fn listen(&mut self, taken: &[u8])
         ensures { self.new.sink ≡ self.old.sink }
     {
-        if !bytes.starts_with(b"fault ") {
+        if self.line.is_empty() && !taken.starts_with(b"fault ") {
             return;
         }
-        let Ok(text) = str::from_utf8(bytes) else {
-            return;
-        };
-        let alloc = *self.line.allocator();
-        if let Ok(line) = String::from_str(alloc, text) {
-            self.line = line;
-        }
+        // Of a line that memory is wanting for, the front is kept.
+        drop(self.line.extend_from_slice(taken));
     }
 }
 
@@ -48,7 +43,10 @@ impl<K: Sink> Sink for Heard<K> {
     }
 
     fn write(&mut self, bytes: &[u8]) -> SinkEnd {
-        self.listen(bytes);
-        self.sink.write(bytes)
+        let end = self.sink.write(bytes);
+        if let SinkEnd::Took(count) = end {
+            self.listen(&bytes[..count]);
+        }
+        end
     }
 }

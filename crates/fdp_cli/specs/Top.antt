@@ -28,12 +28,11 @@ use Rattle.fdp_drive.specs.fdp_workers.declared.ends.End.TheVariants as ends
 use Rattle.fdp_cli.specs.Loading.{of_opening}
 use Rattle.fdp_cli.specs.Session.{IsCut, IsRecordOf}
 
--- the line of the fault was printed; or a write of the sink failed, or memory was wanting
+-- the line of the fault was printed; or a write of the sink failed
 abbrev pub Refuses : SinkState → SinkState → Fault → ℕ → Type 0
 Refuses old new fault status =
     ((status ≡ status_of fault) × Holds old new (fault_text fault))
     ⊎ ((status ≡ 8) × HoldsFront old new (fault_text fault))
-    ⊎ ((status ≡ 7) × HoldsSome old new (fault_text fault))
 
 -- ---- on a flash
 

@@ -13,7 +13,7 @@ use crate::closing::closing_of;
 use crate::loading::fault_of;
 use fdp_base::{Command, DriveConfig, Entry};
 use fdp_drive::{End, Group, NotLoaded, SessionEnd, run_session};
-use fdp_finding::{Fault, Form, Wanted, find, push_fault};
+use fdp_finding::{Fault, Form, Wanted, find, write_fault};
 use fdp_flash::Flash;
 use fdp_io::{Bench, Gate, NotTaken, Sink, write_all};
 use fdp_make::{push_summary, summary_of};
@@ -50,22 +50,18 @@ pub fn drive_top<B: Bench, K: Sink, G: Gate + Sync, R: Threads + Wait + Sync>(
 {
     match find(alloc, words, bench) {
         Ok(wanted) => run(rt, alloc, wanted, bench, sink, gate),
-        Err(fault) => refuse(alloc, fault, sink),
+        Err(fault) => refuse(fault, sink),
     }
 }
 
-/// Prints the line of a fault.
-fn refuse<K: Sink>(alloc: Global, fault: Fault, sink: &mut K) -> u8
+/// Prints the line of a fault. It takes no memory, so that no fault is answered as want of it.
+fn refuse<K: Sink>(fault: Fault, sink: &mut K) -> u8
     ensures told { (K.state sink.new).told ≡ (K.state sink.old).told }
     ensures faults { (K.state sink.old).faults ≤ (K.state sink.new).faults }
     ensures unfailing { result ≢ 8 → (K.state sink.new).faults ≡ (K.state sink.old).faults }
     ensures refuses { Refuses (K.state sink.old) (K.state sink.new) fault result }
 {
-    let mut text = Vec::new(alloc);
-    if push_fault(alloc, &fault, &mut text).is_err() {
-        return 7;
-    }
-    match write_all(sink, &text) {
+    match write_fault(sink, &fault) {
         Ok(()) => fault.status(),
         Err(_failed) => 8,
     }
@@ -102,7 +98,7 @@ fn run<B: Bench, K: Sink, G: Gate + Sync, R: Threads + Wait + Sync>(
             bench.give_flash(image, end.flash);
             end.status
         }
-        Err(NotTaken::Failed) => refuse(alloc, Fault::Flash, sink),
+        Err(NotTaken::Failed) => refuse(Fault::Flash, sink),
         Err(NotTaken::NoMemory) => 7,
     }
 }
@@ -147,7 +143,7 @@ fn run_on<F: Flash + Send + Drop, K: Sink, G: Gate + Sync, R: Threads + Wait + S
             RunEnd { flash, status }
         }
         Err(NotLoaded { flash, cause }) => {
-            let status = refuse(alloc, fault_of(cause), sink);
+            let status = refuse(fault_of(cause), sink);
             RunEnd { flash, status }
         }
     }
@@ -170,7 +166,7 @@ fn show<F: Flash, K: Sink>(
     match end {
         End::Whole => print(alloc, group, form, traces, sink),
         End::NoMemory => 7,
-        End::Turns => refuse(alloc, Fault::Turns, sink),
+        End::Turns => refuse(Fault::Turns, sink),
     }
 }
 

@@ -3,4 +3,5 @@ pub mod CommandLines
 pub mod Configuring
 pub mod Formed
 pub mod Loads
+pub mod Parts
 pub mod Traces

@@ -1,6 +1,6 @@
 -- The limits that the definitions name, with their numbers: those of a queue entry as the public standard's fields have them, the others as
 -- docs/REFERENCE.md, docs/DRIVE.md and docs/FORMATS.md give them.
-use Rattle.std.specs.Prelude.{◌≡◌, ◌-◌, ◌^◌, ℕ}
+use Rattle.std.specs.Prelude.{◌≡◌, ◌-◌, ◌^◌}
 use Rattle.fdp_base.specs.declared.limits.TheConstants as limits
 use Rattle.fdp_config.specs.declared.limits.TheConstants as configs
 use Rattle.fdp_finding.specs.declared.asked.TheConstants as words

@@ -1,10 +1,9 @@
-ghost use Rattle.std.specs.Prelude.{◌≡◌, ◌++◌, OnOk, codes};
-ghost use Rattle.fdp_finding.specs.Faults.{config_fault, fault_text, image_fault, no_trace_words, status_of, trace_fault};
+ghost use Rattle.std.specs.Prelude.{◌≡◌};
+ghost use Rattle.fdp_finding.specs.Faults.{status_of};
 
 use crate::image::ImageFault;
 use crate::no_trace::NoTrace;
 use fdp_config::{ConfigFault, NoConfig};
-use std::alloc::{AllocError, Global};
 
 /// Why a run ended without its output.
 #[derive(Debug, Drop)]
@@ -65,54 +64,4 @@ impl From<ConfigFault> for Fault {
             | ConfigFault::NoRoom { .. } => Fault::Config(NoConfig::Faulty(cause)),
         }
     }
-}
-
-/// Appends the line of a fault; want of memory has none.
-pub fn push_fault(alloc: Global, fault: &Fault, into: &mut Vec<u8>) -> Result<(), AllocError>
-    ensures { OnOk result (into.new.items ≡ into.old.items ++ fault_text fault.now) }
-{
-    match fault {
-        Fault::Usage => into.extend_from_slice(b"fault 1 usage\n"),
-        Fault::Config(cause) => push_config_fault(alloc, cause, into),
-        Fault::NoQueue { trace } => push_queue_fault(alloc, *trace, into),
-        Fault::Trace { trace, cause } => push_trace_fault(alloc, *trace, *cause, into),
-        Fault::Image(cause) => push_image_fault(alloc, *cause, into),
-        Fault::Flash => into.extend_from_slice(b"fault 5 flash\n"),
-        Fault::Source => into.extend_from_slice(b"fault 6 source\n"),
-        Fault::Turns => into.extend_from_slice(b"fault 9 turns\n"),
-        Fault::NoMemory => Ok(()),
-    }
-}
-
-fn push_config_fault(alloc: Global, cause: &NoConfig, into: &mut Vec<u8>) -> Result<(), AllocError>
-    ensures { OnOk result (into.new.items ≡ into.old.items ++ config_fault cause.now) }
-{
-    let line = format!(in alloc; "fault 2 {cause}\n")?;
-    into.extend_from_slice(line.as_bytes())
-}
-
-fn push_image_fault(alloc: Global, cause: ImageFault, into: &mut Vec<u8>) -> Result<(), AllocError>
-    ensures { OnOk result (into.new.items ≡ into.old.items ++ image_fault cause) }
-{
-    let line = format!(in alloc; "fault 4 {cause}\n")?;
-    into.extend_from_slice(line.as_bytes())
-}
-
-fn push_queue_fault(alloc: Global, trace: usize, into: &mut Vec<u8>) -> Result<(), AllocError>
-    ensures { OnOk result (into.new.items ≡ into.old.items ++ trace_fault trace (codes "queue")) }
-{
-    let line = format!(in alloc; "fault 3 trace {trace} queue\n")?;
-    into.extend_from_slice(line.as_bytes())
-}
-
-fn push_trace_fault(
-    alloc: Global,
-    trace: usize,
-    cause: NoTrace,
-    into: &mut Vec<u8>,
-) -> Result<(), AllocError>
-    ensures { OnOk result (into.new.items ≡ into.old.items ++ trace_fault trace (no_trace_words cause)) }
-{
-    let line = format!(in alloc; "fault 3 trace {trace} {cause}\n")?;
-    into.extend_from_slice(line.as_bytes())
 }

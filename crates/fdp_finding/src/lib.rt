@@ -6,12 +6,14 @@ mod command_line;
 mod fault;
 mod image;
 mod laws;
+mod line;
 mod no_trace;
 mod reading;
 
 pub use asked::{Form, MOST_TRACES};
-pub use fault::{Fault, push_fault};
+pub use fault::Fault;
 pub use image::ImageFault;
 pub use laws::limits_are_those_of_the_documents;
+pub use line::write_fault;
 pub use no_trace::NoTrace;
 pub use reading::{Wanted, find};

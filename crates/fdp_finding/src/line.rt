@@ -1,0 +1,123 @@
+//! The line of a fault. It is written part by part, so that it takes no memory, however long a key is that it names.
+
+ghost use Rattle.std.specs.Prelude.{codes};
+ghost use Rattle.std.specs.List.{flat_map};
+ghost use Rattle.fdp_config.specs.declared.fault.NoConfig.TheVariants.{Faulty};
+ghost use Rattle.fdp_finding.specs.Faults.{config_fault, fault_text, image_fault, no_trace_words, trace_fault};
+ghost use Rattle.fdp_finding.specs.Line.{Writes};
+
+use crate::fault::Fault;
+use crate::image::ImageFault;
+use crate::no_trace::NoTrace;
+use fdp_config::{ConfigFault, NoConfig};
+use fdp_io::{Sink, SinkFailed, write_all};
+use itoa::Buffer;
+
+/// Writes the line of a fault; want of memory has none.
+pub fn write_fault<K: Sink>(sink: &mut K, fault: &Fault) -> Result<(), SinkFailed>
+    ensures { Writes (K.state sink.old) (K.state sink.new) (fault_text fault.now) result }
+{
+    match fault {
+        Fault::Usage => write_parts(sink, &["fault 1 usage\n"]),
+        Fault::Config(cause) => write_no_config(sink, cause),
+        Fault::NoQueue { trace } => write_no_queue(sink, *trace),
+        Fault::Trace { trace, cause } => write_no_trace(sink, *trace, *cause),
+        Fault::Image(cause) => write_image_fault(sink, *cause),
+        Fault::Flash => write_parts(sink, &["fault 5 flash\n"]),
+        Fault::Source => write_parts(sink, &["fault 6 source\n"]),
+        Fault::Turns => write_parts(sink, &["fault 9 turns\n"]),
+        Fault::NoMemory => Ok(()),
+    }
+}
+
+/// Writes the line where there is no configuration.
+fn write_no_config<K: Sink>(sink: &mut K, cause: &NoConfig) -> Result<(), SinkFailed>
+    ensures { Writes (K.state sink.old) (K.state sink.new) (config_fault cause.now) result }
+{
+    match cause {
+        NoConfig::Absent => write_parts(sink, &["fault 2 config absent\n"]),
+        NoConfig::TooLong => write_parts(sink, &["fault 2 config long\n"]),
+        NoConfig::Faulty(fault) => write_config_fault(sink, fault),
+    }
+}
+
+/// Writes the line of a faulty configuration.
+fn write_config_fault<K: Sink>(sink: &mut K, cause: &ConfigFault) -> Result<(), SinkFailed>
+    ensures { Writes (K.state sink.old) (K.state sink.new) (config_fault (Faulty cause.now)) result }
+{
+    match cause {
+        ConfigFault::NotToml => write_parts(sink, &["fault 2 config toml\n"]),
+        ConfigFault::Unknown { key } => {
+            write_parts(sink, &["fault 2 config unknown ", key.as_str(), "\n"])
+        }
+        ConfigFault::Missing { key } => {
+            write_parts(sink, &["fault 2 config missing ", key.word(), "\n"])
+        }
+        ConfigFault::Kind { key } => {
+            write_parts(sink, &["fault 2 config kind ", key.word(), "\n"])
+        }
+        ConfigFault::Range { key, .. } => {
+            write_parts(sink, &["fault 2 config range ", key.word(), "\n"])
+        }
+        ConfigFault::NoRoom { .. } => write_parts(sink, &["fault 2 config room\n"]),
+        ConfigFault::NoMemory => write_parts(sink, &["fault 2 out of memory\n"]),
+    }
+}
+
+/// Writes the line for the trace of this number, which has no queue.
+fn write_no_queue<K: Sink>(sink: &mut K, trace: usize) -> Result<(), SinkFailed>
+    ensures { Writes (K.state sink.old) (K.state sink.new) (trace_fault trace (codes "queue")) result }
+{
+    let mut number = Buffer::new();
+    write_parts(sink, &["fault 3 trace ", number.format(trace), " queue\n"])
+}
+
+/// Writes the line for the trace of this number, which is none.
+fn write_no_trace<K: Sink>(sink: &mut K, trace: usize, cause: NoTrace) -> Result<(), SinkFailed>
+    ensures { Writes (K.state sink.old) (K.state sink.new) (trace_fault trace (no_trace_words cause)) result }
+{
+    let mut number = Buffer::new();
+    let number = number.format(trace);
+    match cause {
+        NoTrace::Absent => write_parts(sink, &["fault 3 trace ", number, " absent\n"]),
+        NoTrace::TooLong => write_parts(sink, &["fault 3 trace ", number, " long\n"]),
+        NoTrace::Line { line, kind } => {
+            let mut place = Buffer::new();
+            let (line, word) = (place.format(line), kind.word());
+            write_parts(
+                sink,
+                &["fault 3 trace ", number, " line ", line, " ", word, "\n"],
+            )
+        }
+    }
+}
+
+/// Writes the line for an image that a drive does not go on from.
+fn write_image_fault<K: Sink>(sink: &mut K, cause: ImageFault) -> Result<(), SinkFailed>
+    ensures { Writes (K.state sink.old) (K.state sink.new) (image_fault cause) result }
+{
+    match cause {
+        ImageFault::Other { key } => {
+            write_parts(sink, &["fault 4 image other ", key.word(), "\n"])
+        }
+        ImageFault::NotADrive => write_parts(sink, &["fault 4 image not-a-drive\n"]),
+        ImageFault::Bad { page } => {
+            let mut number = Buffer::new();
+            write_parts(sink, &["fault 4 image bad ", number.format(page), "\n"])
+        }
+        ImageFault::Spent => write_parts(sink, &["fault 4 image spent\n"]),
+    }
+}
+
+/// Writes texts one behind another.
+fn write_parts<K: Sink>(sink: &mut K, parts: &[&str]) -> Result<(), SinkFailed>
+    ensures { Writes (K.state sink.old) (K.state sink.new) (flat_map (λ part. part.now) parts.now) result }
+{
+    for part in parts {
+        match write_all(sink, part.as_bytes()) {
+            Ok(()) => {}
+            Err(failed) => return Err(failed),
+        }
+    }
+    Ok(())
+}
