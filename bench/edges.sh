@@ -146,6 +146,26 @@ ends 2 "fault 2 config long" "" run longer.toml drive.img first.trace
 serves "a trace of more than 1 MiB" run s.toml drive.img middle.trace < first.output
 serves "a trace of 16 MiB" run s.toml drive.img longest.trace < first.output
 ends 3 "fault 3 trace 1 long" "" run s.toml drive.img longer.trace
+
+# streams: one of 16,777,216 bytes, in 32 writes of 32,763 blocks, each of more blocks than a command may have; one with a byte more; one with another end; the folder and the absent
+# file that no stream is
+little() { for place in 0 8 16 24; do printf "\\$(printf %03o $(($1 >> place & 255)))"; done; }
+zeros() { head -c "$1" /dev/zero; }
+blocks_written() { little 0; little $((512 * $1)); zeros 8; little 1; little 1; zeros 40; little $(($1 - 1)); zeros $((12 + 512 * $1)); }
+{ for write in $(seq 31); do blocks_written 1024; done; blocks_written 1019; } > longest.stream
+check "the length of the longest stream" 16777216 "$(wc -c < longest.stream)"
+{ cat longest.stream; zeros 1; } > longer.stream
+{ head -c 16777215 longest.stream; } > cut.stream
+awk 'BEGIN { print "queue 1"; for (i = 0; i < 32; i++) print i " write 0/02 00000000" }' > longest.output
+cp new.img drive.img
+serves "a stream of 16 MiB" stream s.toml drive.img longest.stream < longest.output
+ends 12 "fault 12 stream 1 long" "" stream s.toml drive.img longer.stream
+ends 12 "fault 12 stream 1 at $((31 * (80 + 1024 * 512))) cut" "" stream s.toml drive.img cut.stream
+ends 12 "fault 12 stream 1 absent" "" stream s.toml drive.img absent
+ends 12 "fault 12 stream 1 long" "" stream-record s.toml drive.img /dev/zero
+ends 6 "fault 6 source" "folder: the file cannot be read" stream s.toml drive.img folder
+ends 0 "queue 1" "" stream-record s.toml drive.img empty
+
 cp new.img drive.img
 awk 'BEGIN { print "queue 1"; for (i = 0; i < 8192; i++) print i " write 0/00 00000000" }' > long.output
 serves "a trace of 8,192 commands" run s.toml drive.img long.trace < long.output

@@ -47,6 +47,8 @@ impl fmt::Display for Advice<'_> {
             write_config(f, self.words, cause)
         } else if let Some(cause) = self.fault.strip_prefix("3 trace ") {
             write_trace(f, self.words, cause)
+        } else if let Some(cause) = self.fault.strip_prefix("12 stream ") {
+            write_stream(f, self.words, cause)
         } else if let Some(cause) = self.fault.strip_prefix("4 image ") {
             write_image(f, self.words, cause, self.values)
         } else {
@@ -67,7 +69,7 @@ fn write_call<W: fmt::Write>(
             word_at(words, 2)
         ),
         "6 source" => f.write_str(
-            "a configuration or a trace cannot be read: name files that can be",
+            "a configuration, a trace or a stream cannot be read: name files that can be",
         ),
         "9 turns" => f.write_str(
             "the traces need more than the 1,073,741,824 steps of a run: make them shorter, and begin with a copy of the image",
@@ -132,15 +134,15 @@ fn write_trace<W: fmt::Write>(
     let Some((number, kind)) = cause.split_once(' ') else {
         return f.write_str(cause);
     };
-    let name = match number.parse::<usize>() {
-        Ok(trace) => word_at(words, trace.saturating_add(2)),
-        Err(_) => "",
-    };
+    let name = name_of(words, number);
     match kind {
-        "queue" => write!(
-            f,
-            "trace {number}, `{name}`, has no queue: give fewer traces, or make a new image with more `queues`"
-        ),
+        "queue" => {
+            let text = text_of(words);
+            write!(
+                f,
+                "{text} {number}, `{name}`, has no queue: give fewer {text}s, or make a new image with more `queues`"
+            )
+        }
         "absent" => write!(
             f,
             "trace {number}, `{name}`, is not there: name a file that is"
@@ -151,6 +153,62 @@ fn write_trace<W: fmt::Write>(
         ),
         _ => write_line(f, name, kind),
     }
+}
+
+/// The name of the trace or the stream of this number, from 1.
+fn name_of<'a>(words: &'a [String], number: &str) -> &'a str {
+    match number.parse::<usize>() {
+        Ok(number) => word_at(words, number.saturating_add(2)),
+        Err(_) => "",
+    }
+}
+
+/// What the texts of a run with these words are.
+fn text_of(words: &[String]) -> &str {
+    if word_at(words, 0).starts_with("stream") {
+        "stream"
+    } else {
+        "trace"
+    }
+}
+
+fn write_stream<W: fmt::Write>(
+    f: &mut fmt::Formatter<W>,
+    words: &[String],
+    cause: &str,
+) -> fmt::Result {
+    let Some((number, kind)) = cause.split_once(' ') else {
+        return f.write_str(cause);
+    };
+    let name = name_of(words, number);
+    match kind {
+        "absent" => write!(
+            f,
+            "stream {number}, `{name}`, is not there: name a file that is"
+        ),
+        "long" => write!(
+            f,
+            "stream {number}, `{name}`, has more than {LONGEST_TRACE} bytes: split it"
+        ),
+        _ => write_frame(f, name, kind),
+    }
+}
+
+fn write_frame<W: fmt::Write>(f: &mut fmt::Formatter<W>, name: &str, cause: &str) -> fmt::Result {
+    let Some((place, kind)) = cause.rsplit_once(' ') else {
+        return f.write_str(cause);
+    };
+    let found = match kind {
+        "head" => "has a reserved bit or byte that is not zero",
+        "create" => "is a create, which has no frame",
+        "length" => "has another length of data than its entry",
+        "many" => "is the first one too many",
+        _ => "is not whole",
+    };
+    write!(
+        f,
+        "the frame {place} of the stream `{name}` {found}: docs/STREAMS.md has the frames byte by byte"
+    )
 }
 
 fn write_line<W: fmt::Write>(f: &mut fmt::Formatter<W>, name: &str, cause: &str) -> fmt::Result {

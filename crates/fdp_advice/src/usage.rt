@@ -19,12 +19,14 @@ impl fmt::Display for Usage<'_> {
             return write!(f, "there are no words, or one is not UTF-8: {HELP}");
         };
         match form.as_str() {
-            "run" => write_names(f, "run", others),
-            "record" => write_names(f, "record", others),
+            "run" => write_names(f, "run", "trace", others),
+            "record" => write_names(f, "record", "trace", others),
+            "stream" => write_names(f, "stream", "stream", others),
+            "stream-record" => write_names(f, "stream-record", "stream", others),
             "make" => write_load(f, others),
             _ => write!(
                 f,
-                "the first word `{form}` is none of run, record and make: {HELP}"
+                "the first word `{form}` is none of run, record, stream, stream-record and make: {HELP}"
             ),
         }
     }
@@ -33,7 +35,7 @@ impl fmt::Display for Usage<'_> {
 /// Where the forms of a run stand.
 const HELP: &str = "./fdpdrive help tells the forms";
 
-/// Traces of a run, and the words in front of them.
+/// Traces or streams of a run, and the words in front of them.
 const MOST_WORDS: usize = 18;
 
 fn is_option(word: &String) -> bool {
@@ -43,21 +45,28 @@ fn is_option(word: &String) -> bool {
 fn write_names<W: fmt::Write>(
     f: &mut fmt::Formatter<W>,
     form: &str,
+    text: &str,
     words: &[String],
 ) -> fmt::Result {
     match words {
         [] => write!(f, "a configuration is wanting behind `{form}`")?,
         [config] => write!(f, "an image is wanting behind `{config}`")?,
-        [_, image] => write!(f, "a trace is wanting behind `{image}`")?,
+        [_, image] => write!(f, "a {text} is wanting behind `{image}`")?,
         _ => match words.get(MOST_WORDS) {
-            Some(word) => write!(f, "`{word}` is a seventeenth trace")?,
+            Some(word) => write!(f, "`{word}` is a seventeenth {text}")?,
             None => f.write_str("the words have no form")?,
         },
     }
     write!(
         f,
-        "\nusage: fdpdrive {form} CONFIG IMAGE TRACE .. (one to sixteen traces)"
+        "\nusage: fdpdrive {form} CONFIG IMAGE {} .. (one to sixteen {text}s)",
+        place_of(text)
     )
+}
+
+/// What stands for such a text in the forms.
+fn place_of(text: &str) -> &str {
+    if text == "trace" { "TRACE" } else { "STREAM" }
 }
 
 fn write_load<W: fmt::Write>(f: &mut fmt::Formatter<W>, words: &[String]) -> fmt::Result {

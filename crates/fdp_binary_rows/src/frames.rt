@@ -1,5 +1,7 @@
+ghost use Rattle.fdp_base.specs.Geometry.{IsBlockSize};
+
 use crate::streams::{read_pieces, shown};
-use anyhow::{Result, bail};
+use anyhow::{Context, Result, bail};
 use fdp_base::{Bytes, Command, Other, Payload, Write};
 use fdp_binary::encode_command;
 use fdp_trace::read_trace;
@@ -10,13 +12,26 @@ const SHOWN: usize = 80;
 
 /// The frame of the command of a trace's line, and whether it is read back.
 pub fn tell_back(alloc: Global, line: &str) -> Result<String> {
+    tell_frame(alloc, &command_of(alloc, line)?)
+}
+
+/// The bytes of that frame on a drive with blocks of this size.
+pub fn frame_of(alloc: Global, block: u32, line: &str) -> Result<String>
+    requires { IsBlockSize block }
+{
+    let mut frame = Vec::new(alloc);
+    match encode_command(&command_of(alloc, line)?, block, &mut frame) {
+        Ok(()) => Ok(hex::encode(alloc, frame.as_slice())?),
+        Err(refused) => Ok(format!(in alloc; "{refused:?}")?),
+    }
+}
+
+/// The command of a trace's line.
+fn command_of(alloc: Global, line: &str) -> Result<Command> {
     let Ok(commands) = read_trace(alloc, line.as_bytes()) else {
         bail!("trace");
     };
-    match commands.as_slice() {
-        [command] => tell_frame(alloc, command),
-        _ => bail!("one line"),
-    }
+    commands.into_iter().next().context("one line")
 }
 
 /// The frame of a write that has these bytes.

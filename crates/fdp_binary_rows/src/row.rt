@@ -1,5 +1,5 @@
 use crate::bytes::bytes_of;
-use crate::frames::{tell_back, tell_other, tell_payload};
+use crate::frames::{frame_of, tell_back, tell_other, tell_payload};
 use crate::streams::{tell_stream, tell_times};
 use anyhow::{Context, Result, bail};
 use std::alloc::Global;
@@ -13,6 +13,14 @@ pub fn answer_row(alloc: Global, row: &str) -> Result<String> {
             match block {
                 "512" => tell_stream(alloc, 512, bytes.as_slice()),
                 "4096" => tell_stream(alloc, 4096, bytes.as_slice()),
+                _ => bail!("block size"),
+            }
+        }
+        Some(("frame", rest)) => {
+            let (block, line) = rest.split_once(' ').context("line")?;
+            match block {
+                "512" => frame_of(alloc, 512, line),
+                "4096" => frame_of(alloc, 4096, line),
                 _ => bail!("block size"),
             }
         }

@@ -40,6 +40,8 @@ Refuses old new fault status =
 abbrev pub text_of : Form → DriveConfig → Found → ℕ → List Entry → List ℕ
 text_of forms.Run c f traces es = output_of c f traces es
 text_of forms.Record c f traces es = record_of c f traces es
+text_of forms.Stream c f traces es = output_of c f traces es
+text_of forms.StreamRecord c f traces es = record_of c f traces es
 text_of (forms.Make number) c f traces es = summary_text number.now c.block es (unrefuted_blocks c.block es)
 
 -- the text of a run over a history

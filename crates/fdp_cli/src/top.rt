@@ -22,15 +22,16 @@ use std::alloc::Global;
 use std::sync::Wait;
 use std::thread::Threads;
 
-/// Serves the traces that the words ask for on the drive in the image that they name, which is made where there is none, each by a host of its own in its
-/// queue, with the collectors that the configuration asks for beside them; prints the output, for `record` with the history behind it, for `make` a summary in its
-/// place, and answers the status of the run:
+/// Serves the traces or streams that the words ask for on the drive in the image that they name, which is made where there is none, each by a host of its own in its
+/// queue, with the collectors that the configuration asks for beside them; prints the output, for `record` and `stream-record` with the history behind it, for `make`
+/// a summary in its place, and answers the status of the run:
 ///
 /// - 0: the traces were served, and the sink took the whole text.
 /// - 1, 2, 3, 4, 5, 6: what [`Fault`] says; the sink took the line of the fault.
 /// - 7: memory was wanting.
 /// - 8: a write of the sink failed.
 /// - 9: the traces need more steps than a drive may make; the sink took the line of that fault.
+/// - 12: a stream is none; the sink took the line of that fault.
 ///
 /// A flash that was taken is given back, whatever the status.
 pub fn drive_top<B: Bench, K: Sink, G: Gate + Sync, R: Threads + Wait + Sync>(
@@ -211,8 +212,10 @@ fn print_text<K: Sink>(
         → Prints (K.state sink.old) (K.state sink.new) (text_of form.entry config.now f traces entries.now) result }
 {
     match form {
-        Form::Run => print_output(alloc, config, entries, traces, closing, sink),
-        Form::Record => print_record(alloc, config, entries, traces, closing, sink),
+        Form::Run | Form::Stream => print_output(alloc, config, entries, traces, closing, sink),
+        Form::Record | Form::StreamRecord => {
+            print_record(alloc, config, entries, traces, closing, sink)
+        }
         Form::Make(number) => print_summary(alloc, number, config.block, entries, sink),
     }
 }

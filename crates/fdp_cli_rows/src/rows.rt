@@ -89,7 +89,7 @@ impl Rows {
         }
     }
 
-    /// `text NAME` begins a text; `bench N` and `sink N` let that call of the next run fail, and `room N` gives its sink so
+    /// `text NAME` begins a text, and `bytes NAME WORD..` is one; `bench N` and `sink N` let that call of the next run fail, and `room N` gives its sink so
     /// much room; `again` lets it find the flash that the last run left, `tear PAGE` tears a page of that, and `flash N` lets it find a blank
     /// flash whose call N fails; `run WORD..` makes it. An underscore is an empty word.
     fn command<R: Threads + Wait + Sync>(
@@ -102,6 +102,7 @@ impl Rows {
         let (word, rest) = line.split_once(' ').unwrap_or((line, ""));
         match word {
             "text" => self.open = Some(Text::new(alloc, rest)?),
+            "bytes" => self.texts.push(Text::of_hex(alloc, rest)?)?,
             "bench" => self.bench_fails = rest.parse().ok(),
             "sink" => self.sink_fails = rest.parse().ok(),
             "room" => self.room = rest.parse().unwrap_or(AMPLE),

@@ -1,5 +1,5 @@
 -- The commands of a trace are well formed.
-use Rattle.std.proofs.Common.{◌≡◌, ℕ, suc, true, List, [], ◌∷◌, length, refl, arith}
+use Rattle.std.proofs.Common.{◌≡◌, ℕ, suc, true, List, [], ◌∷◌, length, refl, subst, sym, arith}
 use Rattle.std.specs.Prelude.{not, ◌==◌, codes, IsFalse, Result, Ok, Err, IfErr, IfOk, MatchResult}
 use Rattle.std.specs.Global.{Vec}
 use Rattle.std.specs.List.{All, AllZip, filter}
@@ -9,6 +9,8 @@ use Rattle.fdp_base.specs.declared.config.DriveConfig.{DriveConfig}
 use Rattle.fdp_base.specs.declared.limits.TheConstants.{MOST_ENTRY_BLOCKS}
 use Rattle.fdp_base.specs.CommandKinds.{IsWellFormed}
 use Rattle.fdp_base.specs.Geometry.{IsWithin}
+use Rattle.fdp_binary.specs.Streams.{IsStream}
+use Rattle.fdp_binary.proofs.Serving.{stream-formed}
 use Rattle.fdp_trace.specs.declared.fault.TraceFault.{TraceFault}
 use Rattle.fdp_trace.specs.Answer.{IsCause}
 use Rattle.fdp_trace.specs.Demands.{IsInRange}
@@ -72,6 +74,11 @@ formed_lines c (line ∷ ls) (command ∷ commands) say =
 pub servable_trace : (c : DriveConfig) (text : List ℕ) (commands : List Command) → IsTraceOf text commands → IsServable c commands
 servable_trace c text commands trace =
     record { formed = formed_lines c (filter (λ line. not (is_skipped line)) (lines text)) commands trace.0; few = trace.1.0 }
+
+-- a stream is one that a drive with blocks of its size can serve
+pub servable_stream : (c : DriveConfig) (block : ℕ) (bytes : List ℕ) (commands : List Command) → IsStream block bytes commands → c.block ≡ block → IsServable c commands
+servable_stream c block bytes commands stream is =
+    record { formed = stream-formed c bytes commands (subst (λ (b : ℕ). IsStream b bytes commands) (sym is) stream); few = stream.few.0 }
 
 -- what is read of a text, by its grammar
 pub read_answer : (text : List ℕ) (r : Result (Vec Command) TraceFault) → IfOk r (λ commands. IsTraceOf text commands.items) → IfErr r (IsCause text)

@@ -4,4 +4,4 @@ pub mod Configuring
 pub mod Formed
 pub mod Loads
 pub mod Parts
-pub mod Traces
+pub mod Texts

@@ -4,6 +4,8 @@ use Rattle.std.specs.Char.{is_ascii_digit}
 use Rattle.std.specs.List.{list_all, list_any}
 use Rattle.std.specs.declared.alloc.Global.{Global}
 use Rattle.fdp_trace.specs.Numbers.{value_of}
+use Rattle.fdp_finding.specs.declared.asked.Texts.{Texts}
+use Rattle.fdp_finding.specs.declared.asked.Texts.TheVariants as texts
 use Rattle.fdp_finding.specs.declared.asked.TheConstants.{LONGEST_NUMBER, MOST_NUMBER, MOST_TRACES}
 
 -- the names of the texts that a run reads, and of the image that holds its drive
@@ -17,10 +19,12 @@ pub record Load : Type 0 where
   pub number : List ℕ
   pub image : List ℕ
 
--- what is asked for: to serve the traces of these names and print the output, or that and the history, or to serve a generated load
+-- what is asked for: to serve the traces of these names and print the output, or that and the history; the same of streams; or to serve a generated load
 pub data Asked : Type 0 where
   running : Names → Asked
   recording : Names → Asked
+  streaming : Names → Asked
+  recording_streams : Names → Asked
   making : Load → Asked
 
 -- a word that begins with `-`
@@ -28,7 +32,7 @@ abbrev pub begins_with_dash : List ℕ → Bool
 begins_with_dash [] = false
 begins_with_dash (first ∷ rest) = first == 45
 
--- the words behind `run` and `record`: a configuration, an image, and 1 to 16 traces
+-- the words behind `run` and `record`, `stream` and `stream-record`: a configuration, an image, and 1 to 16 traces or streams
 abbrev pub names_of : List (List ℕ) → Option Names
 names_of [] = None
 names_of (config ∷ []) = None
@@ -59,10 +63,12 @@ abbrev pub chosen_by : List ℕ → List (List ℕ) → Option Asked
 chosen_by word words =
     if bytes_eq word (codes "run") then option_map running (names_of words)
     else if bytes_eq word (codes "record") then option_map recording (names_of words)
+    else if bytes_eq word (codes "stream") then option_map streaming (names_of words)
+    else if bytes_eq word (codes "stream-record") then option_map recording_streams (names_of words)
     else if bytes_eq word (codes "make") then option_map making (load_of words)
     else None
 
--- what the words ask for, where they have one of the three forms and none of them begins with `-`
+-- what the words ask for, where they have one of the five forms and none of them begins with `-`
 abbrev pub asked_by : List (List ℕ) → Option Asked
 asked_by [] = None
 asked_by (word ∷ words) = if list_any begins_with_dash (word ∷ words) then None else chosen_by word words
@@ -70,12 +76,14 @@ asked_by (word ∷ words) = if list_any begins_with_dash (word ∷ words) then N
 abbrev pub asked_of : List (String Global) → Option Asked
 asked_of words = asked_by (map string_bytes words)
 
--- the texts that are asked for
-abbrev pub texts_of : Asked → Option Names
-texts_of (running names) = Some names
-texts_of (recording names) = Some names
+-- the texts that are asked for, and what they are
+abbrev pub texts_of : Asked → Option (Texts × Names)
+texts_of (running names) = Some (texts.Traces, names)
+texts_of (recording names) = Some (texts.Traces, names)
+texts_of (streaming names) = Some (texts.Streams, names)
+texts_of (recording_streams names) = Some (texts.Streams, names)
 texts_of (making load) = None
 
 -- the words ask for these texts
-abbrev pub AsksForTexts : List (String Global) → Names → Type 0
-AsksForTexts words names = option_and_then texts_of (asked_of words) ≡ Some names
+abbrev pub AsksForTexts : List (String Global) → Texts → Names → Type 0
+AsksForTexts words kind names = option_and_then texts_of (asked_of words) ≡ Some (kind, names)

@@ -12,7 +12,7 @@ use Rattle.fdp_finding.specs.declared.asked.NamesAsked.{NamesAsked}
 use Rattle.fdp_finding.specs.declared.asked.NotAsked.{NotAsked}
 use Rattle.fdp_finding.specs.declared.asked.NotAsked.TheVariants as causes
 use Rattle.fdp_finding.specs.declared.asked.TheConstants.{MOST_NUMBER, MOST_TRACES}
-use Rattle.fdp_finding.specs.Asked.{Asked, Load, Names, making, recording, running}
+use Rattle.fdp_finding.specs.Asked.{Asked, Load, Names, making, recording, recording_streams, running, streaming}
 
 -- the texts behind words
 abbrev pub spelled : List (String Global) → List (List ℕ)
@@ -57,6 +57,8 @@ pub record Counts (load : LoadAsked) : Type 0 where
 abbrev pub AsksFor : Option Asked → Request → Type 0
 AsksFor found (requests.Run names) = found ≡ Some (running (as_names names))
 AsksFor found (requests.Record names) = found ≡ Some (recording (as_names names))
+AsksFor found (requests.Stream names) = found ≡ Some (streaming (as_names names))
+AsksFor found (requests.StreamRecord names) = found ≡ Some (recording_streams (as_names names))
 AsksFor found (requests.Make load) = (found ≡ Some (making (as_load load))) × Counts load
 
 -- nothing is found for a faulty command line; want of memory comes freely

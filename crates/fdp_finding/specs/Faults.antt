@@ -1,5 +1,6 @@
 -- The statuses and the lines of the faults.
 use Rattle.std.specs.Prelude.{ℕ, List, [], ◌∷◌, ◌++◌, codes, decimal}
+use Rattle.fdp_binary.specs.FaultWord.{kind_word as frame_word}
 use Rattle.fdp_config.specs.declared.fault.ConfigFault.{ConfigFault}
 use Rattle.fdp_config.specs.declared.fault.ConfigFault.TheVariants as configs
 use Rattle.fdp_config.specs.declared.fault.NoConfig.{NoConfig}
@@ -11,6 +12,8 @@ use Rattle.fdp_finding.specs.declared.fault.Fault.{Fault}
 use Rattle.fdp_finding.specs.declared.fault.Fault.TheVariants as faults
 use Rattle.fdp_finding.specs.declared.image.ImageFault.{ImageFault}
 use Rattle.fdp_finding.specs.declared.image.ImageFault.TheVariants as images
+use Rattle.fdp_finding.specs.declared.no_stream.NoStream.{NoStream}
+use Rattle.fdp_finding.specs.declared.no_stream.NoStream.TheVariants as streams
 use Rattle.fdp_finding.specs.declared.no_trace.NoTrace.{NoTrace}
 use Rattle.fdp_finding.specs.declared.no_trace.NoTrace.TheVariants as traces
 
@@ -34,6 +37,7 @@ status_of faults.Flash = 5
 status_of faults.Source = 6
 status_of faults.NoMemory = 7
 status_of faults.Turns = 9
+status_of (faults.Stream stream cause) = 12
 
 -- the line where there is no configuration
 abbrev pub config_fault : NoConfig → List ℕ
@@ -60,6 +64,16 @@ no_trace_words (traces.Line line kind) = codes "line " ++ (decimal line ++ (code
 abbrev pub trace_fault : ℕ → List ℕ → List ℕ
 trace_fault number words = codes "fault 3 trace " ++ (decimal number ++ (32 ∷ (words ++ 10 ∷ [])))
 
+-- the words for a text that is no stream
+abbrev pub no_stream_words : NoStream → List ℕ
+no_stream_words streams.Absent = codes "absent"
+no_stream_words streams.TooLong = codes "long"
+no_stream_words (streams.Broken fault) = codes "at " ++ (decimal fault.at ++ (codes " " ++ frame_word fault.kind))
+
+-- the line for the stream of a number
+abbrev pub stream_fault : ℕ → List ℕ → List ℕ
+stream_fault number words = codes "fault 12 stream " ++ (decimal number ++ (32 ∷ (words ++ 10 ∷ [])))
+
 -- the line that a run prints; want of memory has none
 abbrev pub fault_text : Fault → List ℕ
 fault_text faults.Usage = codes "fault 1 usage\n"
@@ -71,3 +85,4 @@ fault_text faults.Flash = codes "fault 5 flash\n"
 fault_text faults.Source = codes "fault 6 source\n"
 fault_text faults.NoMemory = []
 fault_text faults.Turns = codes "fault 9 turns\n"
+fault_text (faults.Stream stream cause) = stream_fault stream (no_stream_words cause)

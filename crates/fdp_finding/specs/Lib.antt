@@ -4,5 +4,6 @@ pub mod Configured
 pub mod Faults
 pub mod Limits
 pub mod Line
+pub mod Streamed
 pub mod Traced
 pub mod Wanted

@@ -1,4 +1,4 @@
--- What a run finds to serve: a configuration, an image and traces; or what it lacks.
+-- What a run finds to serve: a configuration, an image and traces, which may come as streams; or what it lacks.
 use Rattle.std.specs.Prelude.{String, ◌≡◌, ℕ, ◌+◌, ◌<◌, ◌≤◌, List, [], length, take, map, slice_index_or, Some, None}
 use Rattle.std.specs.Global.{Vec}
 use Rattle.std.specs.List.{AllZip}
@@ -14,28 +14,37 @@ use Rattle.fdp_finding.specs.declared.asked.Form.{Form}
 use Rattle.fdp_finding.specs.declared.asked.Form.TheVariants as forms
 use Rattle.fdp_finding.specs.declared.fault.Fault.{Fault}
 use Rattle.fdp_finding.specs.declared.fault.Fault.TheVariants as faults
+use Rattle.fdp_finding.specs.declared.asked.Texts.{Texts}
+use Rattle.fdp_finding.specs.declared.asked.Texts.TheVariants as texts
+use Rattle.fdp_finding.specs.declared.no_stream.NoStream.{NoStream}
 use Rattle.fdp_finding.specs.declared.no_trace.NoTrace.{NoTrace}
-use Rattle.fdp_finding.specs.Asked.{Asked, AsksForTexts, Names, asked_of, making, recording, running}
+use Rattle.fdp_finding.specs.Asked.{Asked, AsksForTexts, Names, asked_of, making, recording, recording_streams, running, streaming}
 use Rattle.fdp_finding.specs.Configured.{ReadsConfig, ReadsNoConfig}
+use Rattle.fdp_finding.specs.Streamed.{ReadsNoStream, ReadsStream}
 use Rattle.fdp_finding.specs.Traced.{ReadsNoTrace, ReadsTrace}
 
 -- the commands of each trace
 abbrev pub commands_of : List (Vec Command) → List (List Command)
 commands_of traces = map (λ trace. trace.items) traces
 
--- the texts of these names are those of a configuration, with which a drive can be made, and of traces, a trace a queue
-pub record HasTexts (bench : BenchState) (names : Names) (c : DriveConfig) (image : List ℕ) (traces : List (List Command)) : Type 0 where
+-- the text of this name says these commands: as a trace, or as a stream for blocks of this size
+abbrev pub ReadsCommands : Texts → ℕ → BenchState → List ℕ → List Command → Type 0
+ReadsCommands texts.Traces block bench name commands = ReadsTrace bench name commands
+ReadsCommands texts.Streams block bench name commands = ReadsStream block bench name commands
+
+-- the texts of these names are those of a configuration, with which a drive can be made, and of traces, or streams for its blocks, one a queue
+pub record HasTexts (kind : Texts) (bench : BenchState) (names : Names) (c : DriveConfig) (image : List ℕ) (traces : List (List Command)) : Type 0 where
   pub config : ReadsConfig bench names.config c
   pub valid : IsValidConfig c
   pub image_is : image ≡ names.image
   pub queued : length names.traces ≤ c.queues
-  pub commands : AllZip (ReadsTrace bench) names.traces traces
+  pub commands : AllZip (ReadsCommands kind c.block bench) names.traces traces
 
 -- the words ask in this form for names, and these are their texts
-pub record FindsTexts (bench : BenchState) (words : List (String Global)) (asks : Names → Asked) (c : DriveConfig) (image : List ℕ) (traces : List (List Command)) : Type 0 where
+pub record FindsTexts (kind : Texts) (bench : BenchState) (words : List (String Global)) (asks : Names → Asked) (c : DriveConfig) (image : List ℕ) (traces : List (List Command)) : Type 0 where
   pub names : Names
   pub asked : asked_of words ≡ Some (asks names)
-  pub found : HasTexts bench names c image traces
+  pub found : HasTexts kind bench names c image traces
 
 -- the words ask for a generated load of this number, and this are its drive and its traces
 pub record FindsLoad (words : List (String Global)) (number : List ℕ) (c : DriveConfig) (image : List ℕ) (traces : List (List Command)) : Type 0 where
@@ -50,8 +59,10 @@ pub data Sought : Type 0 where
 
 -- what the words ask for, in each form
 abbrev pub Finds : BenchState → List (String Global) → Sought → Type 0
-Finds bench words (session forms.Run c image traces) = FindsTexts bench words running c image traces
-Finds bench words (session forms.Record c image traces) = FindsTexts bench words recording c image traces
+Finds bench words (session forms.Run c image traces) = FindsTexts texts.Traces bench words running c image traces
+Finds bench words (session forms.Record c image traces) = FindsTexts texts.Traces bench words recording c image traces
+Finds bench words (session forms.Stream c image traces) = FindsTexts texts.Streams bench words streaming c image traces
+Finds bench words (session forms.StreamRecord c image traces) = FindsTexts texts.Streams bench words recording_streams c image traces
 Finds bench words (session (forms.Make number) c image traces) = FindsLoad words number.now c image traces
 
 -- ---- what is lacking
@@ -61,39 +72,50 @@ pub record AreUnqueued (queues : ℕ) (names : List (List ℕ)) (trace : ℕ) : 
   pub many : queues < length names
   pub first : trace ≡ queues + 1
 
--- each of these names has a queue, the texts in front of this one are traces, and this one is none, for this cause
-pub record IsFirstLacking (bench : BenchState) (queues : ℕ) (names : List (List ℕ)) (trace : ℕ) (cause : NoTrace) : Type 0 where
+-- each of these names has a queue, the texts in front of this one say commands, and this one says none, for a cause
+pub record IsFirstLacking (Reads : List ℕ → List Command → Type 0) (ReadsNo : List ℕ → Type 0) (queues : ℕ) (names : List (List ℕ)) (trace : ℕ) : Type 0 where
   pub queued : length names ≤ queues
   pub index : ℕ
   pub number : trace ≡ index + 1
   pub within : index < length names
   pub front : List (List Command)
-  pub read : AllZip (ReadsTrace bench) (take index names) front
-  pub none : ReadsNoTrace bench (slice_index_or names index []) cause
+  pub read : AllZip Reads (take index names) front
+  pub none : ReadsNo (slice_index_or names index [])
 
--- the text of the configuration is one, and this holds of its queues and of the names of the traces
-pub record LacksTraces (bench : BenchState) (names : Names) (Lacking : ℕ → List (List ℕ) → Type 0) : Type 0 where
+-- they are traces, and the one of this number is the first that is none, for this cause
+abbrev pub LacksTrace : Texts → BenchState → DriveConfig → List (List ℕ) → ℕ → NoTrace → Type 0
+LacksTrace kind bench c names trace cause = (kind ≡ texts.Traces) × IsFirstLacking (ReadsTrace bench) (λ name. ReadsNoTrace bench name cause) c.queues names trace
+
+-- they are streams, and the one of this number is the first that is none, for this cause
+abbrev pub LacksStream : Texts → BenchState → DriveConfig → List (List ℕ) → ℕ → NoStream → Type 0
+LacksStream kind bench c names stream cause =
+    (kind ≡ texts.Streams) × IsFirstLacking (ReadsStream c.block bench) (λ name. ReadsNoStream c.block bench name cause) c.queues names stream
+
+-- the text of the configuration is one, and this holds of it and of the names of the traces
+pub record LacksTraces (bench : BenchState) (names : Names) (Lacking : DriveConfig → List (List ℕ) → Type 0) : Type 0 where
   pub config : DriveConfig
   pub configured : ReadsConfig bench names.config config
-  pub lacking : Lacking config.queues names.traces
+  pub lacking : Lacking config names.traces
 
 -- why a run does not find the texts of these names
-abbrev pub TextsLack : BenchState → BenchState → Names → Fault → Type 0
-TextsLack old new names faults.Usage = ⊥
-TextsLack old new names (faults.Config cause) = ReadsNoConfig old names.config cause
-TextsLack old new names (faults.NoQueue trace) = LacksTraces old names (λ queues traces. AreUnqueued queues traces trace)
-TextsLack old new names (faults.Trace trace cause) = LacksTraces old names (λ queues traces. IsFirstLacking old queues traces trace cause)
-TextsLack old new names (faults.Image cause) = ⊥
-TextsLack old new names faults.Flash = ⊥
-TextsLack old new names faults.Source = Rose old.faults new.faults
-TextsLack old new names faults.NoMemory = Unit {0}
-TextsLack old new names faults.Turns = ⊥
+abbrev pub TextsLack : Texts → BenchState → BenchState → Names → Fault → Type 0
+TextsLack kind old new names faults.Usage = ⊥
+TextsLack kind old new names (faults.Config cause) = ReadsNoConfig old names.config cause
+TextsLack kind old new names (faults.NoQueue trace) = LacksTraces old names (λ c traces. AreUnqueued c.queues traces trace)
+TextsLack kind old new names (faults.Trace trace cause) = LacksTraces old names (λ c traces. LacksTrace kind old c traces trace cause)
+TextsLack kind old new names (faults.Stream stream cause) = LacksTraces old names (λ c streams. LacksStream kind old c streams stream cause)
+TextsLack kind old new names (faults.Image cause) = ⊥
+TextsLack kind old new names faults.Flash = ⊥
+TextsLack kind old new names faults.Source = Rose old.faults new.faults
+TextsLack kind old new names faults.NoMemory = Unit {0}
+TextsLack kind old new names faults.Turns = ⊥
 
 -- the words ask for texts, which are not found, for this cause
 pub record LacksTexts (old new : BenchState) (words : List (String Global)) (fault : Fault) : Type 0 where
+  pub kind : Texts
   pub names : Names
-  pub asked : AsksForTexts words names
-  pub lacks : TextsLack old new names fault
+  pub asked : AsksForTexts words kind names
+  pub lacks : TextsLack kind old new names fault
 
 -- the cause of each fault
 abbrev pub Lacks : BenchState → BenchState → List (String Global) → Fault → Type 0
@@ -101,6 +123,7 @@ Lacks old new words faults.Usage = asked_of words ≡ None
 Lacks old new words (faults.Config cause) = LacksTexts old new words (faults.Config cause)
 Lacks old new words (faults.NoQueue trace) = LacksTexts old new words (faults.NoQueue trace)
 Lacks old new words (faults.Trace trace cause) = LacksTexts old new words (faults.Trace trace cause)
+Lacks old new words (faults.Stream stream cause) = LacksTexts old new words (faults.Stream stream cause)
 Lacks old new words (faults.Image cause) = ⊥
 Lacks old new words faults.Flash = ⊥
 Lacks old new words faults.Source = LacksTexts old new words faults.Source
@@ -113,35 +136,38 @@ ConfigLacks old new name faults.Usage = ⊥
 ConfigLacks old new name (faults.Config cause) = ReadsNoConfig old name cause
 ConfigLacks old new name (faults.NoQueue trace) = ⊥
 ConfigLacks old new name (faults.Trace trace cause) = ⊥
+ConfigLacks old new name (faults.Stream stream cause) = ⊥
 ConfigLacks old new name (faults.Image cause) = ⊥
 ConfigLacks old new name faults.Flash = ⊥
 ConfigLacks old new name faults.Source = Rose old.faults new.faults
 ConfigLacks old new name faults.NoMemory = Unit {0}
 ConfigLacks old new name faults.Turns = ⊥
 
--- why it finds no traces of these names, with so many queues
-abbrev pub TracesLack : BenchState → BenchState → ℕ → List (List ℕ) → Fault → Type 0
-TracesLack old new queues names faults.Usage = ⊥
-TracesLack old new queues names (faults.Config cause) = ⊥
-TracesLack old new queues names (faults.NoQueue trace) = AreUnqueued queues names trace
-TracesLack old new queues names (faults.Trace trace cause) = IsFirstLacking old queues names trace cause
-TracesLack old new queues names (faults.Image cause) = ⊥
-TracesLack old new queues names faults.Flash = ⊥
-TracesLack old new queues names faults.Source = Rose old.faults new.faults
-TracesLack old new queues names faults.NoMemory = Unit {0}
-TracesLack old new queues names faults.Turns = ⊥
+-- why it finds no commands of these names, with this configuration
+abbrev pub TracesLack : Texts → DriveConfig → BenchState → BenchState → List (List ℕ) → Fault → Type 0
+TracesLack kind c old new names faults.Usage = ⊥
+TracesLack kind c old new names (faults.Config cause) = ⊥
+TracesLack kind c old new names (faults.NoQueue trace) = AreUnqueued c.queues names trace
+TracesLack kind c old new names (faults.Trace trace cause) = LacksTrace kind old c names trace cause
+TracesLack kind c old new names (faults.Stream stream cause) = LacksStream kind old c names stream cause
+TracesLack kind c old new names (faults.Image cause) = ⊥
+TracesLack kind c old new names faults.Flash = ⊥
+TracesLack kind c old new names faults.Source = Rose old.faults new.faults
+TracesLack kind c old new names faults.NoMemory = Unit {0}
+TracesLack kind c old new names faults.Turns = ⊥
 
--- why it finds no commands of the name of the trace with this number
-abbrev pub TraceLacks : BenchState → BenchState → ℕ → List ℕ → Fault → Type 0
-TraceLacks old new number name faults.Usage = ⊥
-TraceLacks old new number name (faults.Config cause) = ⊥
-TraceLacks old new number name (faults.NoQueue trace) = ⊥
-TraceLacks old new number name (faults.Trace trace cause) = (trace ≡ number) × ReadsNoTrace old name cause
-TraceLacks old new number name (faults.Image cause) = ⊥
-TraceLacks old new number name faults.Flash = ⊥
-TraceLacks old new number name faults.Source = Rose old.faults new.faults
-TraceLacks old new number name faults.NoMemory = Unit {0}
-TraceLacks old new number name faults.Turns = ⊥
+-- why it finds no commands of the name with this number, for blocks of this size
+abbrev pub CommandsLack : Texts → ℕ → BenchState → BenchState → ℕ → List ℕ → Fault → Type 0
+CommandsLack kind block old new number name faults.Usage = ⊥
+CommandsLack kind block old new number name (faults.Config cause) = ⊥
+CommandsLack kind block old new number name (faults.NoQueue trace) = ⊥
+CommandsLack kind block old new number name (faults.Trace trace cause) = (kind ≡ texts.Traces) × (trace ≡ number) × ReadsNoTrace old name cause
+CommandsLack kind block old new number name (faults.Stream stream cause) = (kind ≡ texts.Streams) × (stream ≡ number) × ReadsNoStream block old name cause
+CommandsLack kind block old new number name (faults.Image cause) = ⊥
+CommandsLack kind block old new number name faults.Flash = ⊥
+CommandsLack kind block old new number name faults.Source = Rose old.faults new.faults
+CommandsLack kind block old new number name faults.NoMemory = Unit {0}
+CommandsLack kind block old new number name faults.Turns = ⊥
 
 -- a call of the bench that failed was counted where that is the fault, and nothing was where it is another
 abbrev pub CountsSource : ℕ → ℕ → Fault → Type 0
@@ -149,6 +175,7 @@ CountsSource old new faults.Usage = new ≡ old
 CountsSource old new (faults.Config cause) = new ≡ old
 CountsSource old new (faults.NoQueue trace) = new ≡ old
 CountsSource old new (faults.Trace trace cause) = new ≡ old
+CountsSource old new (faults.Stream stream cause) = new ≡ old
 CountsSource old new (faults.Image cause) = new ≡ old
 CountsSource old new faults.Flash = new ≡ old
 CountsSource old new faults.Source = Rose old new

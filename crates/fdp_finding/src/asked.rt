@@ -22,8 +22,21 @@ pub enum Form<'a> {
     Run,
     /// `record`: that output, and then the history.
     Record,
+    /// `stream`: the output of the streams that are named.
+    Stream,
+    /// `stream-record`: that output, and then the history.
+    StreamRecord,
     /// `make`: a summary of a generated load, with this number of commands, as the words give it.
     Make(&'a str),
+}
+
+/// What the texts are whose commands a run serves.
+#[derive(Clone, Copy, Debug, PartialEq, Eq)]
+pub enum Texts {
+    /// Commands, one a line.
+    Traces,
+    /// Frames of queue entries.
+    Streams,
 }
 
 /// What the words ask for.
@@ -33,6 +46,10 @@ pub enum Request<'a> {
     Run(NamesAsked<'a>),
     /// That, and to print the history behind it.
     Record(NamesAsked<'a>),
+    /// To serve streams and print the output.
+    Stream(NamesAsked<'a>),
+    /// That, and to print the history behind it.
+    StreamRecord(NamesAsked<'a>),
     /// To serve a generated load.
     Make(LoadAsked<'a>),
 }
@@ -42,6 +59,7 @@ pub enum Request<'a> {
 pub struct NamesAsked<'a> {
     pub config: &'a str,
     pub image: &'a str,
+    /// The traces, or the streams.
     pub traces: Vec<&'a str>,
 }
 
@@ -86,6 +104,10 @@ fn chosen<'a>(alloc: Global, word: &String, others: &'a [String]) -> Result<Requ
         Ok(Request::Run(names_in(alloc, others)?))
     } else if is_word(word, "record") {
         Ok(Request::Record(names_in(alloc, others)?))
+    } else if is_word(word, "stream") {
+        Ok(Request::Stream(names_in(alloc, others)?))
+    } else if is_word(word, "stream-record") {
+        Ok(Request::StreamRecord(names_in(alloc, others)?))
     } else if is_word(word, "make") {
         Ok(Request::Make(load_in(alloc, others)?))
     } else {

@@ -14,7 +14,7 @@ use clap::{Arg, ArgMatches, Command, Error};
 use fdp_trace::number_of_digits;
 use std::alloc::Global;
 
-/// The names behind `run` and `record`.
+/// The names behind `run`, `record`, `stream` and `stream-record`.
 pub fn names_in(alloc: Global, words: &[String]) -> Result<NamesAsked<'_>, NotAsked>
     requires { list_any begins_with_dash (spelled words.now) ≡ false }
     ensures { MatchResult result

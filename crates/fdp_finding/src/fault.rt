@@ -2,21 +2,24 @@ ghost use Rattle.std.specs.Prelude.{◌≡◌};
 ghost use Rattle.fdp_finding.specs.Faults.{status_of};
 
 use crate::image::ImageFault;
+use crate::no_stream::NoStream;
 use crate::no_trace::NoTrace;
 use fdp_config::{ConfigFault, NoConfig};
 
 /// Why a run ended without its output.
 #[derive(Debug, Drop)]
 pub enum Fault {
-    /// The words have none of the forms `run CONFIG IMAGE TRACE..`, `record CONFIG IMAGE TRACE..` and `make NUMBER IMAGE`, or one of them begins
-    /// with `-`.
+    /// The words have none of the forms `run CONFIG IMAGE TRACE..`, `record CONFIG IMAGE TRACE..`, `stream CONFIG IMAGE STREAM..`,
+    /// `stream-record CONFIG IMAGE STREAM..` and `make NUMBER IMAGE`, or one of them begins with `-`.
     Usage,
     /// There is no configuration.
     Config(NoConfig),
-    /// There are more traces than queues; `trace` is the number of the first one without a queue.
+    /// There are more traces or streams than queues; `trace` is the number of the first one without a queue.
     NoQueue { trace: usize },
     /// The trace of this number, from 1, is none.
     Trace { trace: usize, cause: NoTrace },
+    /// The stream of this number, from 1, is none.
+    Stream { stream: usize, cause: NoStream },
     /// The image is not one that this configuration goes on with.
     Image(ImageFault),
     /// A call failed while the flash was taken or opened, or while a drive was made on it.
@@ -43,6 +46,7 @@ impl Fault {
             Fault::Source => 6,
             Fault::NoMemory => 7,
             Fault::Turns => 9,
+            Fault::Stream { .. } => 12,
         }
     }
 }

@@ -1,4 +1,4 @@
-//! What a run is asked for: its words, its configuration and its traces, and the faults of a run with their lines.
+//! What a run is asked for: its words, its configuration and its traces or streams, and the faults of a run with their lines.
 #![tactic(auto)]
 
 mod asked;
@@ -7,13 +7,16 @@ mod fault;
 mod image;
 mod laws;
 mod line;
+mod no_stream;
 mod no_trace;
 mod reading;
+mod traces;
 
 pub use asked::{Form, MOST_TRACES};
 pub use fault::Fault;
 pub use image::ImageFault;
 pub use laws::limits_are_those_of_the_documents;
 pub use line::write_fault;
+pub use no_stream::NoStream;
 pub use no_trace::NoTrace;
 pub use reading::{Wanted, find};

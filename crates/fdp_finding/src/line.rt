@@ -3,12 +3,14 @@
 ghost use Rattle.std.specs.Prelude.{codes};
 ghost use Rattle.std.specs.List.{flat_map};
 ghost use Rattle.fdp_config.specs.declared.fault.NoConfig.TheVariants.{Faulty};
-ghost use Rattle.fdp_finding.specs.Faults.{config_fault, fault_text, image_fault, no_trace_words, trace_fault};
+ghost use Rattle.fdp_finding.specs.Faults.{config_fault, fault_text, image_fault, no_stream_words, no_trace_words, stream_fault, trace_fault};
 ghost use Rattle.fdp_finding.specs.Line.{Writes};
 
 use crate::fault::Fault;
 use crate::image::ImageFault;
+use crate::no_stream::NoStream;
 use crate::no_trace::NoTrace;
+use fdp_binary::StreamFault;
 use fdp_config::{ConfigFault, NoConfig};
 use fdp_io::{Sink, SinkFailed, write_all};
 use itoa::Buffer;
@@ -26,6 +28,7 @@ pub fn write_fault<K: Sink>(sink: &mut K, fault: &Fault) -> Result<(), SinkFaile
         Fault::Flash => write_parts(sink, &["fault 5 flash\n"]),
         Fault::Source => write_parts(sink, &["fault 6 source\n"]),
         Fault::Turns => write_parts(sink, &["fault 9 turns\n"]),
+        Fault::Stream { stream, cause } => write_no_stream(sink, *stream, *cause),
         Fault::NoMemory => Ok(()),
     }
 }
@@ -87,6 +90,26 @@ fn write_no_trace<K: Sink>(sink: &mut K, trace: usize, cause: NoTrace) -> Result
             write_parts(
                 sink,
                 &["fault 3 trace ", number, " line ", line, " ", word, "\n"],
+            )
+        }
+    }
+}
+
+/// Writes the line for the stream of this number, which is none.
+fn write_no_stream<K: Sink>(sink: &mut K, stream: usize, cause: NoStream) -> Result<(), SinkFailed>
+    ensures { Writes (K.state sink.old) (K.state sink.new) (stream_fault stream (no_stream_words cause)) result }
+{
+    let mut number = Buffer::new();
+    let number = number.format(stream);
+    match cause {
+        NoStream::Absent => write_parts(sink, &["fault 12 stream ", number, " absent\n"]),
+        NoStream::TooLong => write_parts(sink, &["fault 12 stream ", number, " long\n"]),
+        NoStream::Broken(StreamFault { at, kind }) => {
+            let mut place = Buffer::new();
+            let (at, word) = (place.format(at), kind.word());
+            write_parts(
+                sink,
+                &["fault 12 stream ", number, " at ", at, " ", word, "\n"],
             )
         }
     }

@@ -1,27 +1,22 @@
-ghost use Rattle.std.specs.Prelude.{◌≡◌, ◌≤◌, All, IfErr, IfOk, MatchResult, length, map};
-ghost use Rattle.std.specs.List.{AllZip};
-ghost use Rattle.fdp_base.specs.declared.config.DriveConfig.{DriveConfig};
+ghost use Rattle.std.specs.Prelude.{◌≡◌, ◌≤◌, All, IfErr, IfOk, MatchResult, length};
 ghost use Rattle.fdp_base.specs.Config.{IsValidConfig};
 ghost use Rattle.fdp_io.specs.Bench.{SameFlashes, SameTexts};
-ghost use Rattle.fdp_trace.specs.Answer.{IsCause};
 ghost use Rattle.fdp_make.specs.Load.{make_config, make_traces};
-ghost use Rattle.fdp_trace.specs.Grammar.{IsTraceOf};
 ghost use Rattle.fdp_trace.specs.Numbers.{value_of};
 ghost use Rattle.fdp_finding.specs.Configured.{ReadsConfig};
 ghost use Rattle.fdp_finding.specs.CommandLine.{Counts, as_names};
-ghost use Rattle.fdp_finding.specs.Traced.{IsServable, ReadsTrace};
-ghost use Rattle.fdp_finding.specs.Wanted.{ConfigLacks, CountsSource, Finds, HasTexts, Lacks, TextsLack, TraceLacks, TracesLack, commands_of, session};
+ghost use Rattle.fdp_finding.specs.Traced.{IsServable};
+ghost use Rattle.fdp_finding.specs.Wanted.{ConfigLacks, CountsSource, Finds, HasTexts, Lacks, TextsLack, commands_of, session};
 
-use crate::asked::{Form, LoadAsked, NamesAsked, NotAsked, Request, asked};
+use crate::asked::{Form, LoadAsked, NamesAsked, NotAsked, Request, Texts, asked};
 use crate::fault::Fault;
-use crate::no_trace::NoTrace;
-use fdp_base::{Command, DriveConfig, LONGEST_CONFIG, LONGEST_TRACE};
+use crate::traces::find_traces;
+use fdp_base::{Command, DriveConfig, LONGEST_CONFIG};
 use fdp_config::{NoConfig, read_config};
 use fdp_io::{Bench, TextRead};
-use fdp_trace::{TraceFault, read_trace};
 use std::alloc::Global;
 
-/// The form of a run, a configuration, the name of an image, and the commands of each trace, the first for queue 1.
+/// The form of a run, a configuration, the name of an image, and the commands of each trace or stream, the first for queue 1.
 #[derive(Debug, Drop)]
 pub struct Wanted<'a> {
     pub form: Form<'a>,
@@ -50,8 +45,16 @@ pub fn find<'a, B: Bench>(
     ensures servable { IfOk result (λ found. All (λ trace. IsServable found.config trace.items) found.traces.items) }
 {
     match asked(alloc, words) {
-        Ok(Request::Run(names)) => find_texts(alloc, Form::Run, names, bench),
-        Ok(Request::Record(names)) => find_texts(alloc, Form::Record, names, bench),
+        Ok(Request::Run(names)) => find_texts(alloc, Form::Run, Texts::Traces, names, bench),
+        Ok(Request::Record(names)) => {
+            find_texts(alloc, Form::Record, Texts::Traces, names, bench)
+        }
+        Ok(Request::Stream(names)) => {
+            find_texts(alloc, Form::Stream, Texts::Streams, names, bench)
+        }
+        Ok(Request::StreamRecord(names)) => {
+            find_texts(alloc, Form::StreamRecord, Texts::Streams, names, bench)
+        }
         Ok(Request::Make(load)) => find_load(alloc, load),
         Err(NotAsked::Usage) => Err(Fault::Usage),
         Err(NotAsked::NoMemory) => Err(Fault::NoMemory),
@@ -62,6 +65,7 @@ pub fn find<'a, B: Bench>(
 fn find_texts<'a, B: Bench>(
     alloc: Global,
     form: Form<'a>,
+    texts: Texts,
     names: NamesAsked<'a>,
     bench: &mut B,
 ) -> Result<Wanted<'a>, Fault>
@@ -72,14 +76,14 @@ fn find_texts<'a, B: Bench>(
         (λ _. (B.state bench.new).faults ≡ (B.state bench.old).faults)
         (λ fault. CountsSource (B.state bench.old).faults (B.state bench.new).faults fault) }
     ensures answer { MatchResult result
-        (λ found. (found.form ≡ form.entry) × HasTexts (B.state bench.old) (as_names names.entry) found.config found.image.now (commands_of found.traces.items))
-        (λ fault. TextsLack (B.state bench.old) (B.state bench.new) (as_names names.entry) fault) }
+        (λ found. (found.form ≡ form.entry) × HasTexts texts (B.state bench.old) (as_names names.entry) found.config found.image.now (commands_of found.traces.items))
+        (λ fault. TextsLack texts (B.state bench.old) (B.state bench.new) (as_names names.entry) fault) }
     ensures valid { IfOk result (λ found. IsValidConfig found.config) }
     ensures queued { IfOk result (λ found. length found.traces.items ≤ found.config.queues) }
     ensures servable { IfOk result (λ found. All (λ trace. IsServable found.config trace.items) found.traces.items) }
 {
     let config = find_config(alloc, names.config, bench)?;
-    match find_traces(alloc, &names.traces, config.queues, bench) {
+    match find_traces(alloc, texts, &names.traces, &config, bench) {
         Ok(traces) => Ok(Wanted {
             form,
             config,
@@ -139,92 +143,4 @@ fn find_config<B: Bench>(alloc: Global, name: &str, bench: &mut B) -> Result<Dri
         TextRead::Failed => Err(Fault::Source),
         TextRead::NoMemory => Err(Fault::NoMemory),
     }
-}
-
-/// The commands of the traces of these names, each of which has a queue.
-fn find_traces<B: Bench>(
-    alloc: Global,
-    names: &[&str],
-    queues: u8,
-    bench: &mut B,
-) -> Result<Vec<Vec<Command>>, Fault>
-    ensures texts { SameTexts (B.state bench.old) (B.state bench.new) }
-    ensures flashes { SameFlashes (B.state bench.old) (B.state bench.new) }
-    ensures faults { (B.state bench.old).faults ≤ (B.state bench.new).faults }
-    ensures counts { MatchResult result
-        (λ _. (B.state bench.new).faults ≡ (B.state bench.old).faults)
-        (λ fault. CountsSource (B.state bench.old).faults (B.state bench.new).faults fault) }
-    ensures answer { MatchResult result
-        (λ traces. AllZip (ReadsTrace (B.state bench.old)) (map (λ name. name.now) names.now) (commands_of traces.items))
-        (λ fault. TracesLack (B.state bench.old) (B.state bench.new) queues (map (λ name. name.now) names.now) fault) }
-    ensures queued { IfOk result (λ traces. (length names.now ≤ queues) × (length traces.items ≡ length names.now)) }
-    ensures servable { IfOk result (λ traces. (c : DriveConfig) → All (λ trace. IsServable c trace.items) traces.items) }
-{
-    if names.len() > usize::from(queues) {
-        let trace = usize::from(queues) + 1;
-        return Err(Fault::NoQueue { trace });
-    }
-    let mut traces = Vec::new(alloc);
-    for (index, name) in names.iter().enumerate() {
-        match find_trace(alloc, index + 1, *name, bench) {
-            Ok(trace) => {
-                if traces.push(trace).is_err() {
-                    return Err(Fault::NoMemory);
-                }
-            }
-            Err(fault) => return Err(fault),
-        }
-    }
-    Ok(traces)
-}
-
-/// The commands of the name of the trace with this number.
-fn find_trace<B: Bench>(
-    alloc: Global,
-    number: usize,
-    name: &str,
-    bench: &mut B,
-) -> Result<Vec<Command>, Fault>
-    ensures texts { SameTexts (B.state bench.old) (B.state bench.new) }
-    ensures flashes { SameFlashes (B.state bench.old) (B.state bench.new) }
-    ensures faults { (B.state bench.old).faults ≤ (B.state bench.new).faults }
-    ensures counts { MatchResult result
-        (λ _. (B.state bench.new).faults ≡ (B.state bench.old).faults)
-        (λ fault. CountsSource (B.state bench.old).faults (B.state bench.new).faults fault) }
-    ensures answer { MatchResult result
-        (λ commands. ReadsTrace (B.state bench.old) name.now commands.items)
-        (λ fault. TraceLacks (B.state bench.old) (B.state bench.new) number name.now fault) }
-    ensures servable { IfOk result (λ commands. (c : DriveConfig) → IsServable c commands.items) }
-{
-    let mut text = Vec::new(alloc);
-    match bench.read_text(name, &mut text, LONGEST_TRACE) {
-        TextRead::Done => match read_commands(alloc, text.as_slice()) {
-            Ok(commands) => Ok(commands),
-            Err(TraceFault::Line { line, kind }) => Err(Fault::Trace {
-                trace: number,
-                cause: NoTrace::Line { line, kind },
-            }),
-            Err(TraceFault::NoMemory) => Err(Fault::NoMemory),
-        },
-        TextRead::Missing => Err(Fault::Trace {
-            trace: number,
-            cause: NoTrace::Absent,
-        }),
-        TextRead::TooLong => Err(Fault::Trace {
-            trace: number,
-            cause: NoTrace::TooLong,
-        }),
-        TextRead::Failed => Err(Fault::Source),
-        TextRead::NoMemory => Err(Fault::NoMemory),
-    }
-}
-
-/// The commands of a text. Their grammar makes them well formed on a drive of any configuration.
-fn read_commands(alloc: Global, text: &[u8]) -> Result<Vec<Command>, TraceFault>
-    ensures answer { MatchResult result
-        (λ commands. IsTraceOf text.now commands.items)
-        (λ fault. IsCause text.now fault) }
-    ensures servable { IfOk result (λ commands. (c : DriveConfig) → IsServable c commands.items) }
-{
-    read_trace(alloc, text)
 }

@@ -1,5 +1,5 @@
 use Rattle.fdp_finding.proofs.Formed.{read_answer, read_servable}
-use Rattle.fdp_finding.proofs.reading.read_commands.Goals as goal
+use Rattle.fdp_finding.proofs.traces.read_commands.Goals as goal
 
 pub returns : goal.returns
 returns c = record {
