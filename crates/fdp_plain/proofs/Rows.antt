@@ -67,8 +67,8 @@ counted_within {V} count xs i n some =
 
 -- the places of each write that is going after an entry: those that were there, or those that were made for it
 pub places_from : (c : DriveConfig) (k m : Kept) (e : Entry) → HasRows k → (plain_of m).going ≡ (changed_by c (plain_of k) e).going
-    → ((ticket : ℕ) → ticket < length k.sites.items → places_of m ticket ≡ places_of k ticket)
-    → places_of m (length k.sites.items) ≡ Some (pages_of e)
+    → ((ticket : ℕ) → ticket < length k.sites.rows → places_of m ticket ≡ places_of k ticket)
+    → places_of m (length k.sites.rows) ≡ Some (pages_of e)
     → (queue : ℕ) (g : Going) → (plain_of m).going queue ≡ Some g → places_of m g.ticket ≡ Some (blocks_written g.command)
 places_from c k m e rows going earlier latest queue g some =
     let changed : (changed_by c (plain_of k) e).going queue ≡ Some g = sym (ap (λ (f : ℕ → Option Going). f queue) going) ∙ some in
@@ -77,7 +77,7 @@ places_from c k m e rows going earlier latest queue g some =
     let x = old.0 in
     let there : places_of k x.ticket ≡ Some (blocks_written x.command) = rows.pages queue x old.1 in
     ap (places_of m) (sym old.2)
-    ∙ earlier x.ticket (counted_within (λ pages. length pages.items) k.sites.items x.ticket _ there)
+    ∙ earlier x.ticket (counted_within (λ pages. length pages) k.sites.rows x.ticket _ there)
     ∙ there
     ∙ ap (λ command. Some (blocks_written command)) old.3)
     (λ new.

@@ -16,14 +16,16 @@ use Rattle.fdp_rules.specs.Point.{Point}
 use Rattle.fdp_rules.specs.Sites.{trail_of}
 use Rattle.fdp_rules.specs.Step.{Follows}
 use Rattle.fdp_tables.specs.declared.state.Kept.{Kept}
-use Rattle.fdp_tables.specs.State.{copies_at, copy_of, plain_of, point_kept, row, site_at}
+use Rattle.fdp_tables.specs.Copies.{copy_of}
+use Rattle.fdp_tables.specs.PageSites.{site_in}
+use Rattle.fdp_tables.specs.State.{copies_at, plain_of, point_kept, row, site_at}
 use Rattle.fdp_plain.specs.Reserved.{IsSame}
 use Rattle.fdp_plain.specs.Rows.{HasRows}
 use Rattle.fdp_plain.specs.Telling.{TellsHistory}
 
 -- a page stands where it stood by the same rows, configuration and entries
-pub same_site : (k m : Kept) → m.sites.items ≡ k.sites.items → m.config ≡ k.config → m.entries.items ≡ k.entries.items → (name : PageName) → site_at m name ≡ site_at k name
-same_site k m sites config entries (written ticket index) = ap (λ (rows : List (Vec (Option Spot) Global)). option_and_then (λ pages. row pages.items index) (slice_get rows ticket)) sites
+pub same_site : (k m : Kept) → m.sites.rows ≡ k.sites.rows → m.config ≡ k.config → m.entries.items ≡ k.entries.items → (name : PageName) → site_at m name ≡ site_at k name
+same_site k m sites config entries (written ticket index) = ap (λ rows. site_in rows ticket index) sites
 same_site k m sites config entries (found spot) =
     ap (λ (c : DriveConfig). (trail_of c m.entries.items).site (found spot)) config
     ∙ ap (λ (es : List Entry). (trail_of k.config es).site (found spot)) entries
@@ -90,7 +92,7 @@ module _ (k m : Kept) (h : IsSame k m) where
         worn = rows.worn;
         sites = rw (h.sites, h.entries) rows.sites;
         copies = sym (length-map m.copies.items vec_items) ∙ ap length h.copies ∙ length-map k.copies.items vec_items ∙ rows.copies;
-        pages = λ queue g e. ap (λ sites. option_map (λ pages. length pages.items) (slice_get sites g.ticket)) h.sites ∙ rows.pages queue g e;
+        pages = λ queue g e. ap (λ sites. option_map (λ pages. length pages) (slice_get sites g.ticket)) h.sites ∙ rows.pages queue g e;
       } in
       subst HasRows (sym h.rest) there
 

@@ -73,7 +73,7 @@ module _ (k a b m : Kept) (e : Entry) (events : List Event)
   trail_before : (point_kept a).trail ≡ (point_kept k).trail
   trail_before =
       let site : site_at a ≡ site_at k = λ d name.
-      same_site k a (ap (λ (x : Kept). x.sites.items) rest) (ap (λ (x : Kept). x.config) rest) (ap (λ (x : Kept). x.entries.items) rest) name d in
+      same_site k a (ap (λ (x : Kept). x.sites.rows) rest) (ap (λ (x : Kept). x.config) rest) (ap (λ (x : Kept). x.entries.items) rest) name d in
       let copies : copies_at a ≡ copies_at k = ap copies_at rest in
       cc
 
@@ -133,12 +133,12 @@ module _ (k a b m : Kept) (e : Entry) (events : List Event)
 
   -- ---- rows
 
-  as_many_sites : length a.sites.items ≡ length k.sites.items
-  as_many_sites = ap (λ (x : Kept). length x.sites.items) rest
+  as_many_sites : length a.sites.rows ≡ length k.sites.rows
+  as_many_sites = ap (λ (x : Kept). length x.sites.rows) rest
 
-  sites_are : length m.sites.items ≡ length m.entries.items + 1
+  sites_are : length m.sites.rows ≡ length m.entries.items + 1
   sites_are =
-      ap (λ (x : Kept). length x.sites.items) longer.rest
+      ap (λ (x : Kept). length x.sites.rows) longer.rest
       ∙ traced.site_rows
       ∙ ap (λ (n : ℕ). n + 1) (as_many_sites ∙ history.rows.sites ∙ sym count_is)
 
@@ -152,7 +152,7 @@ module _ (k a b m : Kept) (e : Entry) (events : List Event)
       ap (λ (x : Kept). places_of x ticket) longer.rest
       ∙ traced.earlier ticket (subst (λ (n : ℕ). ticket < n) (sym as_many_sites) below)
       ∙ ap (λ (x : Kept). places_of x ticket) rest)
-      (ap (places_of m) (sym as_many_sites) ∙ ap (λ (x : Kept). places_of x (length a.sites.items)) longer.rest ∙ traced.latest)
+      (ap (places_of m) (sym as_many_sites) ∙ ap (λ (x : Kept). places_of x (length a.sites.rows)) longer.rest ∙ traced.latest)
 
   rows_are : HasRows m
   rows_are =

@@ -14,10 +14,10 @@ pub record IsTraced (old new : Kept) (e : Entry) (pages : ℕ) : Type 0 where
   pub sites : (ticket index : ℕ) → site_at new (written ticket index) ≡ (traced_by old.config (point_kept old).trail e).site (written ticket index)
   pub copies : copies_at new ≡ (traced_by old.config (point_kept old).trail e).copies
   pub rest : new ≡ record old { sites = new.sites; copies = new.copies }
-  pub site_rows : length new.sites.items ≡ length old.sites.items + 1
+  pub site_rows : length new.sites.rows ≡ length old.sites.rows + 1
   pub copy_rows : length new.copies.items ≡ length old.copies.items
-  pub earlier : (ticket : ℕ) → ticket < length old.sites.items → places_of new ticket ≡ places_of old ticket
-  pub latest : places_of new (length old.sites.items) ≡ Some pages
+  pub earlier : (ticket : ℕ) → ticket < length old.sites.rows → places_of new ticket ≡ places_of old ticket
+  pub latest : places_of new (length old.sites.rows) ≡ Some pages
 
 -- the sums, the events and the entries have an entry more
 pub record IsLonger (old new : Kept) (e : Entry) (kept : List Event) : Type 0 where

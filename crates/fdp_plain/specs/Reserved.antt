@@ -38,14 +38,15 @@ pub record HasSpare (k : Kept) (e : Entry) (count : ℕ) : Type 0 where
   pub entries : vec_len k.entries < vec_capacity k.entries
   pub events : vec_len k.events + count ≤ vec_capacity k.events
   pub moment : HasMomentSpare k
-  pub sites : vec_len k.sites < vec_capacity k.sites
+  pub rows : 0 < k.sites.row_room
+  pub sites : 0 < k.sites.site_room
   pub copy : HasCopySpare k e
 
 -- all lists hold the same; only their spare room may be another
 pub record IsSame (old new : Kept) : Type 0 where
   pub entries : new.entries.items ≡ old.entries.items
   pub media : new.media.items ≡ old.media.items
-  pub sites : new.sites.items ≡ old.sites.items
+  pub sites : new.sites.rows ≡ old.sites.rows
   pub copies : map vec_items new.copies.items ≡ map vec_items old.copies.items
   pub events : new.events.items ≡ old.events.items
   pub rest : new ≡ record old { entries = new.entries; media = new.media; sites = new.sites; copies = new.copies; events = new.events }

@@ -14,6 +14,6 @@ pub record HasRows (k : Kept) : Type 0 where
   pub going : length k.going.items ≡ k.config.queues + 1
   pub lost : length k.lost.items ≡ k.config.groups * k.config.units
   pub worn : length k.worn.items ≡ k.config.groups
-  pub sites : length k.sites.items ≡ length k.entries.items + 1
+  pub sites : length k.sites.rows ≡ length k.entries.items + 1
   pub copies : length k.copies.items ≡ k.config.groups
   pub pages : (queue : ℕ) (g : Going) → (plain_of k).going queue ≡ Some g → places_of k g.ticket ≡ Some (blocks_written g.command)

@@ -36,11 +36,12 @@ pub(crate) fn commit(kept: &mut Kept, prepared: Prepared, events: &[Event])
 /// The pages that are to be written get their places, and what stands moves as an entry says.
 fn trace(kept: &mut Kept, pages: Vec<Option<Spot>>, entry: &Entry)
     requires places { HasPlaces kept.old entry.now }
-    requires spare { vec_len kept.old.sites < vec_capacity kept.old.sites }
+    requires row_room { 0 < kept.old.sites.row_room }
+    requires site_room { 0 < kept.old.sites.site_room }
     requires blank { pages.items ≡ replicate (length pages.items) None }
     ensures { IsTraced kept.old kept.new entry.now (length pages.items) }
 {
-    kept.sites.push_reserved(pages);
+    kept.sites.push(pages);
     fdp_plain_trail::trace(kept, entry);
 }
 

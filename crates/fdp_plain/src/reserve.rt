@@ -17,7 +17,7 @@ pub(crate) fn reserve(kept: &mut Kept, entry: &Entry, events: usize) -> Result<(
     kept.entries.reserve(1)?;
     kept.events.reserve(events)?;
     kept.media.reserve(1)?;
-    kept.sites.reserve(1)?;
+    kept.sites.reserve()?;
     Ok(())
 }
 

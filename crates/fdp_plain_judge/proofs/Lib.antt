@@ -2,6 +2,7 @@ pub mod Comparing
 pub mod Emptied
 pub mod Handles
 pub mod Moments
+pub mod Picking
 pub mod Referenced
 pub mod Replying
 pub mod Ruling

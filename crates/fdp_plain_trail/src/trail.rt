@@ -3,7 +3,8 @@ ghost use Rattle.fdp_plain_trail.specs.Places.{HasGroupOf, HasPlaces};
 ghost use Rattle.fdp_plain_trail.specs.Rows.{KeepsPlaces};
 ghost use Rattle.fdp_rules.specs.PlainState.{PageName.written};
 ghost use Rattle.fdp_rules.specs.Sites.{group_of, last_run, moved_by, outside, traced_by};
-ghost use Rattle.fdp_tables.specs.State.{copies_at, copy_of, point_kept, site_at};
+ghost use Rattle.fdp_tables.specs.Copies.{copy_of};
+ghost use Rattle.fdp_tables.specs.State.{copies_at, point_kept, site_at};
 ghost use Rattle.std.specs.Option.{IfSome};
 ghost use Rattle.std.specs.Prelude.{◌≡◌, ℕ, ◌+◌, ◌*◌, ◌<◌, ◌==◌, ◌&&◌, if◌then◌else◌, Some, [], ◌∷◌, ◌++◌, Option, length, map, option_map, option_and_then, slice_get};
 ghost use Rattle.std.specs.Vec.{vec_items, vec_len, vec_capacity};
@@ -34,46 +35,47 @@ fn add_copy(kept: &mut Kept, rg: u32, from: Spot, to: Spot)
 
 /// A page of a write stands somewhere.
 fn set_site(kept: &mut Kept, ticket: u64, index: u32, spot: Spot)
-    requires ticket { ticket < length kept.old.sites.items }
-    requires index { IfSome (slice_get kept.old.sites.items ticket) (λ pages. index < length pages.items) }
+    requires ticket { ticket < length kept.old.sites.rows }
+    requires index { IfSome (slice_get kept.old.sites.rows ticket) (λ pages. index < length pages) }
+    requires room { 0 < kept.old.sites.site_room }
     ensures sites { (t i : ℕ) → site_at kept.new (written t i) ≡ (if ticket == t && index == i then Some spot else site_at kept.old (written t i)) }
     ensures rest { kept.new ≡ record kept.old { sites = kept.new.sites } }
-    ensures rows { length kept.new.sites.items ≡ length kept.old.sites.items }
+    ensures rows { length kept.new.sites.rows ≡ length kept.old.sites.rows }
     ensures places { KeepsPlaces kept.old kept.new }
 {
-    kept.sites[ticket as usize][index as usize] = Some(spot);
+    kept.sites.place(ticket, index, spot);
 }
 
-/// No page of a write stands in an erased unit any longer. It looks at each page.
+/// No page of a write stands in an erased unit any longer.
 fn erase_sites(kept: &mut Kept, unit: u32)
     ensures sites { (t i : ℕ) → site_at kept.new (written t i) ≡ option_and_then (outside unit) (site_at kept.old (written t i)) }
     ensures rest { kept.new ≡ record kept.old { sites = kept.new.sites } }
-    ensures rows { length kept.new.sites.items ≡ length kept.old.sites.items }
+    ensures rows { length kept.new.sites.rows ≡ length kept.old.sites.rows }
     ensures places { KeepsPlaces kept.old kept.new }
 {
-    erase_all(&mut kept.sites, unit);
+    kept.sites.erase(unit);
 }
 
-/// The pages of writes stand where the pass of a group moved them. It looks at each page.
+/// The pages of writes stand where the pass of a group moved them.
 fn move_sites(kept: &mut Kept, rg: u16)
     requires { rg < length kept.old.copies.items }
     ensures sites { (t i : ℕ) → site_at kept.new (written t i) ≡ option_map (moved_by (last_run (copies_at kept.old rg))) (site_at kept.old (written t i)) }
     ensures rest { kept.new ≡ record kept.old { sites = kept.new.sites } }
-    ensures rows { length kept.new.sites.items ≡ length kept.old.sites.items }
+    ensures rows { length kept.new.sites.rows ≡ length kept.old.sites.rows }
     ensures places { KeepsPlaces kept.old kept.new }
 {
     let pass = last_run(kept.copies[usize::from(rg)].as_slice());
-    move_all(&mut kept.sites, pass);
+    kept.sites.relocate(pass);
 }
 
-/// Where pages stand after an entry, and what was copied. An erase and a move look at each page.
+/// Where pages stand after an entry, and what was copied. An erase and a move look at each page of the writes of which one stands somewhere.
 #[tactic(auto, unfolding(fdp_rules::specs::Sites::traced_by))]
 pub fn trace(kept: &mut Kept, entry: &Entry)
     requires { HasPlaces kept.old entry.now }
     ensures sites { (t i : ℕ) → site_at kept.new (written t i) ≡ (traced_by kept.old.config (point_kept kept.old).trail entry.now).site (written t i) }
     ensures copies { copies_at kept.new ≡ (traced_by kept.old.config (point_kept kept.old).trail entry.now).copies }
     ensures rest { kept.new ≡ record kept.old { sites = kept.new.sites; copies = kept.new.copies } }
-    ensures site_rows { length kept.new.sites.items ≡ length kept.old.sites.items }
+    ensures site_rows { length kept.new.sites.rows ≡ length kept.old.sites.rows }
     ensures places { KeepsPlaces kept.old kept.new }
     ensures copy_rows { length kept.new.copies.items ≡ length kept.old.copies.items }
 {
@@ -111,7 +113,7 @@ fn end_pass(kept: &mut Kept, rg: u16)
     ensures sites { (t i : ℕ) → site_at kept.new (written t i) ≡ option_map (moved_by (last_run (copies_at kept.old rg))) (site_at kept.old (written t i)) }
     ensures copies { copies_at kept.new ≡ with_at (copies_at kept.old) rg [] }
     ensures rest { kept.new ≡ record kept.old { sites = kept.new.sites; copies = kept.new.copies } }
-    ensures site_rows { length kept.new.sites.items ≡ length kept.old.sites.items }
+    ensures site_rows { length kept.new.sites.rows ≡ length kept.old.sites.rows }
     ensures places { KeepsPlaces kept.old kept.new }
     ensures copy_rows { length kept.new.copies.items ≡ length kept.old.copies.items }
 {
@@ -125,92 +127,10 @@ fn empty(kept: &mut Kept, unit: u32)
     ensures sites { (t i : ℕ) → site_at kept.new (written t i) ≡ option_and_then (outside unit) (site_at kept.old (written t i)) }
     ensures copies { copies_at kept.new ≡ with_at (copies_at kept.old) (group_of kept.old.config unit) [] }
     ensures rest { kept.new ≡ record kept.old { sites = kept.new.sites; copies = kept.new.copies } }
-    ensures site_rows { length kept.new.sites.items ≡ length kept.old.sites.items }
+    ensures site_rows { length kept.new.sites.rows ≡ length kept.old.sites.rows }
     ensures places { KeepsPlaces kept.old kept.new }
     ensures copy_rows { length kept.new.copies.items ≡ length kept.old.copies.items }
 {
     erase_sites(kept, unit);
     forget_copies(kept, kept.group_of(unit));
-}
-
-fn erase_all(sites: &mut Vec<Vec<Option<Spot>>>, unit: u32)
-    ensures pages { map vec_items sites.new.items ≡ map (map (option_and_then (outside unit))) (map vec_items sites.old.items) }
-    ensures rows { length sites.new.items ≡ length sites.old.items }
-{
-    for pages in sites.iter_mut() {
-        erase_row(pages, unit);
-    }
-}
-
-fn erase_row(pages: &mut Vec<Option<Spot>>, unit: u32)
-    ensures { pages.new.items ≡ map (option_and_then (outside unit)) pages.old.items }
-{
-    erase_pages(pages.as_mut_slice(), unit);
-}
-
-fn move_all(sites: &mut Vec<Vec<Option<Spot>>>, pass: &[(Spot, Spot)])
-    ensures pages { map vec_items sites.new.items ≡ map (map (option_map (moved_by (map copy_of pass.now)))) (map vec_items sites.old.items) }
-    ensures rows { length sites.new.items ≡ length sites.old.items }
-{
-    for pages in sites.iter_mut() {
-        move_row(pages, pass);
-    }
-}
-
-fn move_row(pages: &mut Vec<Option<Spot>>, pass: &[(Spot, Spot)])
-    ensures { pages.new.items ≡ map (option_map (moved_by (map copy_of pass.now))) pages.old.items }
-{
-    move_pages(pages.as_mut_slice(), pass);
-}
-
-/// Of these pages none stands in an erased unit any longer.
-#[tactic(auto, using(fdp_tables::proofs::Walks::mapped_start, fdp_tables::proofs::Walks::mapped_end))]
-fn erase_pages(pages: &mut [Option<Spot>], unit: u32)
-    ensures { pages.new ≡ map (option_and_then (outside unit)) pages.old }
-{
-    for page in pages.iter_mut() {
-        *page = outside(unit, *page);
-    }
-}
-
-fn outside(unit: u32, page: Option<Spot>) -> Option<Spot>
-    ensures { result ≡ option_and_then (outside unit) page }
-{
-    match page {
-        Some(spot) if spot.unit == unit => None,
-        Some(spot) => Some(spot),
-        None => None,
-    }
-}
-
-/// Where these pages stand after a pass.
-#[tactic(auto, using(fdp_tables::proofs::Walks::mapped_start, fdp_tables::proofs::Walks::mapped_end))]
-fn move_pages(pages: &mut [Option<Spot>], pass: &[(Spot, Spot)])
-    ensures { pages.new ≡ map (option_map (moved_by (map copy_of pass.now))) pages.old }
-{
-    for page in pages.iter_mut() {
-        *page = moved_page(*page, pass);
-    }
-}
-
-fn moved_page(page: Option<Spot>, pass: &[(Spot, Spot)]) -> Option<Spot>
-    ensures { result ≡ option_map (moved_by (map copy_of pass.now)) page }
-{
-    match page {
-        Some(spot) => Some(moved(spot, pass)),
-        None => None,
-    }
-}
-
-/// Where a pass moves what stands at a page.
-#[tactic(auto, using(fdp_tables::proofs::Walks::seeking_copy_next, fdp_tables::proofs::Walks::seeking_copy_found, fdp_tables::proofs::Walks::seeking_copy_end))]
-fn moved(spot: Spot, pass: &[(Spot, Spot)]) -> Spot
-    ensures { result ≡ moved_by (map copy_of pass.now) spot }
-{
-    for (from, to) in pass {
-        if *from == spot {
-            return *to;
-        }
-    }
-    spot
 }

@@ -86,7 +86,7 @@ blank_sound c valid k h =
     let none : (queue : ℕ) → (plain_of k).going queue ≡ None = λ queue.
     ap (λ (rows : List (Option KeptGoing)). option_map going_of (row rows queue)) h.going
     ∙ ap (λ (o : Option KeptGoing). option_map going_of o) (row_absent {X = KeptGoing} (c.queues + 1) queue) in
-    let one : length k.sites.items ≡ 1 = sym (length-map k.sites.items vec_items) ∙ ap length h.sites in
+    let one : length k.sites.rows ≡ 1 = ap length h.sites in
     record {
       config = subst IsValidConfig (sym h.config) valid;
       index = rw (h.index, h.config) valid.ranges.index;

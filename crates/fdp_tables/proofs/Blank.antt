@@ -22,8 +22,9 @@ use Rattle.fdp_tables.specs.declared.state.KeptReports.{KeptReports}
 use Rattle.fdp_tables.specs.Fresh.{IsBlank, whole_reference}
 use Rattle.fdp_tables.specs.Reports.{no_reports}
 use Rattle.fdp_tables.proofs.Spaces.{row_absent}
-use Rattle.fdp_tables.proofs.Walks.{row_of_row, row_read}
-use Rattle.fdp_tables.specs.State.{copies_at, copy_of, going_of, keeps, plain_of, point_kept, reference_of, row, site_at}
+use Rattle.fdp_tables.specs.PageSites.{site_in}
+use Rattle.fdp_tables.specs.Copies.{copy_of}
+use Rattle.fdp_tables.specs.State.{copies_at, going_of, keeps, plain_of, point_kept, reference_of, row, site_at}
 
 -- what is read of any row, where all rows are the same and a row that is not there reads so too
 pub read_same : {X Y : Type 0} (f : X → Y) (y : Y) (n i : ℕ) (x : X) → f x ≡ y → option_map_or f (slice_get (replicate n x) i) y ≡ y
@@ -68,13 +69,13 @@ blank_state c k h = λ d. record {
   media = ap reverse h.media d;
 }
 
-first_row : {X : Type 0} (t i : ℕ) → row_of_row {X = X} ([] ∷ []) t i ≡ None
+first_row : (t i : ℕ) → site_in ([] ∷ []) t i ≡ None
 first_row zero i = refl
 first_row (suc t) i = refl
 
 blank_site : (c : DriveConfig) (k : Kept) → IsBlank c k → (name : PageName) → site_at k name ≡ first_site name
 unfolding trail_of
-blank_site c k h (written ticket index) = row_read vec_items k.sites.items ticket index ∙ ap (λ rows. row_of_row rows ticket index) h.sites ∙ first_row {X = Spot} ticket index
+blank_site c k h (written ticket index) = ap (λ rows. site_in rows ticket index) h.sites ∙ first_row ticket index
 blank_site c k h (found spot) = ap (λ (es : List Entry). (trail_of k.config es).site (found spot)) h.entries
 
 through : {X Y Z : Type 0} (f : Y → Z) (g : X → Y) (z : Z) (o : Option X) → option_map_or (λ (x : X). f (g x)) o z ≡ option_map_or f (option_map g o) z

@@ -1,5 +1,5 @@
 -- Numbers in a row, taken from the front: counts, sums and searches over them.
-use Rattle.std.proofs.Common.{◌≡◌, ℕ, ◌+◌, ◌-◌, ◌<◌, ◌≤◌, Bool, true, false, List, [], ◌∷◌, None, Some, refl, ap, ◌∙◌, arith, cond}
+use Rattle.std.proofs.Common.{◌≡◌, ℕ, ◌+◌, ◌<◌, ◌≤◌, Bool, true, false, List, ◌∷◌, None, Some, refl, ap, ◌∙◌, arith, cond}
 use Rattle.std.specs.Prelude.{not, ◌&&◌, ◌==◌, sum_by, find, length, get_or}
 use Rattle.std.proofs.Common.{drop, drop-cons, add-one}
 use Rattle.std.proofs.lemmas.List.{drop_all}

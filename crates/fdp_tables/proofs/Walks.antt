@@ -4,12 +4,14 @@ use Rattle.std.specs.Prelude.{◌==◌, ◌&&◌, nat_lt, option_and_then, optio
 use Rattle.std.specs.Option.{option_flatten, option_map_or}
 use Rattle.std.proofs.lemmas.Bool.{cases_lt}
 use Rattle.std.proofs.lemmas.Option.{slice_get-map, slice_get_past, slice_get_read}
-use Rattle.std.proofs.lemmas.List.{append-nil, append_assoc, drop_all, drop_more, take_all, take_more, map-append, set_at, length-map, length-take-le, get_or_at, get_or-map, map-set, length-drop}
+use Rattle.std.proofs.lemmas.List.{append-nil, append_assoc, drop_all, drop_more, take_all, take_more, map-append, set_at, length-map, length-take-le, get_or_at, length-drop}
 use Rattle.fdp_rules.specs.Point.{Copy}
 use Rattle.fdp_rules.specs.Sites.{ascends, last_run}
 use Rattle.fdp_base.specs.declared.entry.Spot.{Spot}
 use Rattle.fdp_base.specs.Numbers.{numbers_from, with_at}
-use Rattle.fdp_tables.specs.State.{copy_of, row}
+use Rattle.fdp_tables.specs.Copies.{copy_of}
+use Rattle.fdp_tables.specs.State.{row}
+use Rattle.fdp_tables.specs.PageSites.{site_in}
 use Rattle.fdp_tables.proofs.Tables.{read-set}
 
 -- the rows before place i are changed, and the others are not
@@ -134,44 +136,17 @@ module _ {X : Type 0} (f : X → X) where
   pub mapped_step : (xs : List X) (i : ℕ) (ys : List X) (d y : X) → i < length xs → IsMapped f xs i ys → y ≡ f (get_or ys i d) → IsMapped f xs (i + 1) (set ys i y)
   mapped_step xs i ys d y below h e = mapped_next f xs i ys d y below h (e ∙ ap f (mapped_here f xs i ys d below h))
 
-  -- the same of rows that are read by a word
-  pub mapped_step_by : {V : Type 0} (read : V → X) (us : List V) (i : ℕ) (vs : List V) (v w : V) → i < length us → length vs ≡ length us → IsMapped f (map read us) i (map read vs) → v ≡ get_or vs i v → read w ≡ f (read (get_or vs i v)) → IsMapped f (map read us) (i + 1) (map read (set vs i w))
-  mapped_step_by read us i vs v w below same h at e =
-      let there : i < length vs = omega arith in
-      let within : i < length (map read us) = omega (arith, length-map us read) in
-      let element : get_or (map read vs) i (read v) ≡ read v = get_or-map read vs i v (read v) there ∙ ap read (sym at) in
-      subst (IsMapped f (map read us) (i + 1)) (sym (map-set read vs i w)) (mapped_step (map read us) i (map read vs) (read v) (read w) within h (e ∙ ap f (ap read (sym at) ∙ sym element)))
-
-  pub mapped_end_by : {V : Type 0} (read : V → X) (us : List V) (i : ℕ) (vs : List V) → length us ≤ i → IsMapped f (map read us) i (map read vs) → map read vs ≡ map f (map read us)
-  mapped_end_by read us i vs past h = let past_all : length (map read us) ≤ i = omega (arith, length-map us read) in mapped_end f (map read us) i (map read vs) past_all h
-
 -- a row of a table whose rows were all changed
 pub row-map : {X : Type 0} (f : Option X → Option X) (xs : List (Option X)) (i : ℕ) → f None ≡ None → row (map f xs) i ≡ f (row xs i)
 row-map {X} f xs i none =
     ap option_flatten (slice_get-map f xs i)
     ∙ elim (slice_get xs i) as (λ x. option_flatten (option_map f x) ≡ f (option_flatten x)) [ None ↦ sym none | Some y ↦ refl ]
 
--- a row of a row, by the rows that are read
-abbrev pub row_of_row : {X : Type 0} → List (List (Option X)) → ℕ → ℕ → Option X
-row_of_row xss t i = option_and_then (λ xs. row xs i) (slice_get xss t)
-
-pub row_read : {V X : Type 0} (read : V → List (Option X)) (vs : List V) (t i : ℕ) → option_and_then (λ v. row (read v) i) (slice_get vs t) ≡ row_of_row (map read vs) t i
-row_read read vs t i =
-    elim (slice_get vs t) as (λ x. option_and_then (λ v. row (read v) i) x ≡ option_and_then (λ xs. row xs i) (option_map read x)) [ None ↦ refl | Some v ↦ refl ]
-    ∙ ap (option_and_then (λ xs. row xs i)) (sym (slice_get-map read vs t))
-
-row_of_row-map : {X : Type 0} (f : Option X → Option X) (xss : List (List (Option X))) (t i : ℕ) → f None ≡ None → row_of_row (map (map f) xss) t i ≡ f (row_of_row xss t i)
-row_of_row-map f xss t i none =
-    ap (option_and_then (λ xs. row xs i)) (slice_get-map (map f) xss t)
-    ∙ elim (slice_get xss t) as (λ x. option_and_then (λ xs. row xs i) (option_map (map f) x) ≡ f (option_and_then (λ xs. row xs i) x)) [ None ↦ sym none | Some xs ↦ row-map f xs i none ]
-
--- a row of a row of a table whose rows were all changed
-pub row_of_rows : {V X : Type 0} (read : V → List (Option X)) (f : Option X → Option X) (vs ws : List V) (t i : ℕ) → f None ≡ None → map read ws ≡ map (map f) (map read vs) → option_and_then (λ v. row (read v) i) (slice_get ws t) ≡ f (option_and_then (λ v. row (read v) i) (slice_get vs t))
-row_of_rows read f vs ws t i none e =
-    row_read read ws t i
-    ∙ ap (λ xss. row_of_row xss t i) e
-    ∙ row_of_row-map f (map read vs) t i none
-    ∙ ap f (sym (row_read read vs t i))
+-- where a page stands once the sites of all pages were changed
+pub site-changed : (f : Option Spot → Option Spot) (rows : List (List (Option Spot))) (ticket index : ℕ) → f None ≡ None → site_in (map (map f) rows) ticket index ≡ f (site_in rows ticket index)
+site-changed f rows ticket index none =
+    ap (option_and_then (λ pages. row pages index)) (slice_get-map (map f) rows ticket)
+    ∙ elim (slice_get rows ticket) as (λ x. option_and_then (λ pages. row pages index) (option_map (map f) x) ≡ f (option_and_then (λ pages. row pages index) x)) [ None ↦ sym none | Some pages ↦ row-map f pages index none ]
 
 -- the copies of a group, read from a table
 abbrev pub copies_of : {V : Type 0} → (V → List (Spot × Spot)) → List V → ℕ → List Copy

@@ -37,7 +37,7 @@ pub record IsBlank (c : DriveConfig) (k : Kept) : Type 0 where
   pub lost : k.lost.items ≡ replicate (c.groups * c.units) false
   pub worn : k.worn.items ≡ replicate c.groups false
   pub media : k.media.items ≡ []
-  pub sites : map vec_items k.sites.items ≡ [] ∷ []
+  pub sites : k.sites.rows ≡ [] ∷ []
   pub copies : map vec_items k.copies.items ≡ replicate c.groups []
   pub host_blocks : k.host_blocks ≡ 0
   pub media_blocks : k.media_blocks ≡ 0

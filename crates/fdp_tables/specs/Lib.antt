@@ -1,3 +1,5 @@
+pub mod Copies
+pub mod PageSites
 pub mod State
 pub mod Sound
 pub mod Spaces

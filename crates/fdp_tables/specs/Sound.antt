@@ -20,7 +20,7 @@ pub record IsSoundGoing (k : Kept) (g : Going) : Type 0 where
   pub birth : g.birth ≤ length k.entries.items
   pub blocks : blocks_written g.command ≤ 64
   pub placed : g.placed ≤ blocks_written g.command
-  pub pages : IsSomeAnd (slice_get k.sites.items g.ticket) (λ pages. length pages.items ≡ blocks_written g.command)
+  pub pages : IsSomeAnd (slice_get k.sites.rows g.ticket) (λ pages. length pages ≡ blocks_written g.command)
   pub range : IsTrue (is_there (plain_of k) g) → IfSome (write_of g.command) (λ (w : Write). w.slba + w.count ≤ size_of (plain_of k) w.nsid)
 
 -- each table has its rows: an identifier, a queue and a group may be looked up
@@ -39,7 +39,7 @@ pub record IsSound (k : Kept) : Type 0 where
   pub tickets : (a b : ℕ) (g h : Going) → (plain_of k).going a ≡ Some g → (plain_of k).going b ≡ Some h → g.ticket ≡ h.ticket → a ≡ b
   pub lost : length k.lost.items ≡ k.config.groups * k.config.units
   pub worn : length k.worn.items ≡ k.config.groups
-  pub sites : length k.sites.items ≡ length k.entries.items + 1
+  pub sites : length k.sites.rows ≡ length k.entries.items + 1
   pub copies : length k.copies.items ≡ k.config.groups
   pub host_blocks : k.host_blocks ≤ 64 * length k.entries.items
   pub media_blocks : k.media_blocks ≤ length k.entries.items

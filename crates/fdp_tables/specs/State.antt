@@ -15,6 +15,8 @@ use Rattle.fdp_tables.specs.declared.state.KeptGoing.{KeptGoing}
 use Rattle.fdp_tables.specs.declared.state.KeptReference.{KeptReference}
 use Rattle.fdp_tables.specs.declared.state.KeptReports.{KeptReports}
 use Rattle.fdp_tables.specs.declared.state.Space.{Space}
+use Rattle.fdp_tables.specs.Copies.{copy_of}
+use Rattle.fdp_tables.specs.PageSites.{site_in}
 
 -- what stands in a row of a table whose rows may be empty
 abbrev pub row : {X : Type 0} → List (Option X) → ℕ → Option X
@@ -42,9 +44,6 @@ going_of g = record {
   roomiest = g.roomiest;
   placed = g.placed;
 }
-
-abbrev pub copy_of : Spot × Spot → Copy
-copy_of x = record { from = x.0; to = x.1 }
 
 -- whether events of a kind are kept
 abbrev pub keeps : EventKind → KeptReports → Bool
@@ -89,7 +88,7 @@ plain_of k = record {
 
 -- where a page stands. A run that begins fresh has no block at a page that was found: of those the entries tell.
 abbrev pub site_at : Kept → PageName → Option Spot
-site_at k (written ticket index) = option_and_then (λ pages. row pages.items index) (slice_get k.sites.items ticket)
+site_at k (written ticket index) = site_in k.sites.rows ticket index
 site_at k (found spot) = (trail_of k.config k.entries.items).site (found spot)
 
 abbrev pub copies_at : Kept → ℕ → List Copy

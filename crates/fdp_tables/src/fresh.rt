@@ -6,6 +6,7 @@ ghost use Rattle.fdp_tables.specs.Reports.{no_reports};
 ghost use Rattle.fdp_tables.specs.Spaces.{IsMade};
 
 use crate::create::make_space;
+use crate::page_sites::PageSites;
 use crate::state::{Kept, KeptGoing, KeptReference, KeptReports, Space};
 use fdp_base::{DriveConfig, HandleList, NamespaceConfig, Spot};
 use std::alloc::{AllocError, Global};
@@ -101,12 +102,13 @@ fn all_unset(alloc: Global, count: usize) -> Result<Vec<bool>, AllocError>
 }
 
 /// No ticket is 0, so its row stays empty.
-fn first_sites(alloc: Global) -> Result<Vec<Vec<Option<Spot>>>, AllocError>
-    ensures { IfOk result (λ rows. map vec_items rows.items ≡ [] ∷ []) }
+fn first_sites(alloc: Global) -> Result<PageSites, AllocError>
+    ensures { IfOk result (λ sites. sites.rows ≡ [] ∷ []) }
 {
-    let mut rows = Vec::new(alloc);
-    rows.push(Vec::new(alloc))?;
-    Ok(rows)
+    let mut sites = PageSites::new(alloc);
+    sites.reserve()?;
+    sites.push(Vec::new(alloc));
+    Ok(sites)
 }
 
 #[tactic(auto, using(std::proofs::lemmas::List::replicate_more))]

@@ -1,5 +1,5 @@
 ghost use Rattle.fdp_rules.specs.Sites.{ascends, last_run};
-ghost use Rattle.fdp_tables.specs.State.{copy_of};
+ghost use Rattle.fdp_tables.specs.Copies.{copy_of};
 ghost use Rattle.std.specs.Prelude.{◌≡◌, ◌<◌, ◌==◌, ◌&&◌, nat_lt, List, [], map};
 
 use fdp_base::Spot;

@@ -1,7 +1,8 @@
 ghost use Rattle.std.specs.Prelude.{◌≡◌, map};
 ghost use Rattle.fdp_rules.specs.PlainState.{PageName.written};
 ghost use Rattle.fdp_rules.specs.Sites.{is_there, site_of};
-ghost use Rattle.fdp_tables.specs.State.{copies_at, copy_of, going_of, plain_of, point_kept, site_at};
+ghost use Rattle.fdp_tables.specs.Copies.{copy_of};
+ghost use Rattle.fdp_tables.specs.State.{copies_at, going_of, plain_of, point_kept, site_at};
 
 use crate::standing::Standing;
 use crate::state::KeptGoing;
@@ -12,14 +13,7 @@ impl Standing<'_> {
     pub fn site(&self, ticket: u64, index: u32) -> Option<Spot>
         ensures { result ≡ site_at self.now (written ticket index) }
     {
-        match self.kept.sites.as_slice().get(ticket as usize) {
-            Some(pages) => match pages.as_slice().get(index as usize) {
-                Some(Some(spot)) => Some(*spot),
-                Some(None) => None,
-                None => None,
-            },
-            None => None,
-        }
+        self.kept.sites.get(ticket, index)
     }
 
     /// What relocation copied in a group since its last pass.

@@ -1,3 +1,4 @@
+use crate::page_sites::PageSites;
 use fdp_base::{Bytes, Command, DriveConfig, Entry, Event, HandleList, Spot};
 
 /// A block of a namespace. Its page is named by the ticket of its write and its index there.
@@ -81,8 +82,8 @@ pub struct Kept {
     pub worn: Vec<bool>,
     /// The moments of the media errors, the oldest first.
     pub media: Vec<u64>,
-    /// By ticket and index: where the pages of writes stand.
-    pub sites: Vec<Vec<Option<Spot>>>,
+    /// Where the pages of writes stand.
+    pub sites: PageSites,
     /// By group: what relocation copied since its last pass.
     pub copies: Vec<Vec<(Spot, Spot)>>,
     pub host_blocks: u128,

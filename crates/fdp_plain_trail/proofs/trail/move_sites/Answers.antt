@@ -4,9 +4,11 @@ use Rattle.std.specs.Vec.{vec_items}
 use Rattle.std.proofs.lemmas.Option.{slice_get_read}
 use Rattle.fdp_rules.specs.PlainState.PageName.{written}
 use Rattle.fdp_rules.specs.Sites.{last_run, moved_by}
-use Rattle.fdp_tables.specs.State.{copies_at, copy_of, site_at}
-use Rattle.fdp_plain_trail.proofs.Placing.{count_of_rows}
-use Rattle.fdp_tables.proofs.Walks.{row_of_rows}
+use Rattle.fdp_tables.specs.Copies.{copy_of}
+use Rattle.fdp_tables.specs.State.{copies_at, site_at}
+use Rattle.fdp_plain_trail.proofs.Placing.{count-changed, count_at}
+use Rattle.fdp_tables.proofs.Walks.{site-changed}
+use Rattle.fdp_tables.specs.PageSites.{site_in}
 use Rattle.fdp_plain_trail.proofs.trail.move_sites.Goals as goal
 
 pub returns-clause-sites : goal.returns-clause-sites
@@ -20,9 +22,10 @@ returns-clause-sites c =
     ∙ ap (λ xs. last_run (map copy_of xs)) c.as_slice.ensures.value
     ∙ ap (λ o. last_run (option_map_or (λ u. map copy_of (vec_items u)) o [])) (sym before) in
     λ t i.
-    row_of_rows vec_items (option_map (moved_by (map copy_of c.last_run-pass.result.now))) k.sites.items c.move_all.new.sites.items t i refl c.move_all.ensures.pages
+    ap (λ rows. site_in rows t i) c.relocate.ensures
+    ∙ site-changed (option_map (moved_by (map copy_of c.last_run-pass.result.now))) k.sites.rows t i refl
     ∙ ap (λ p. option_map (moved_by p) (site_at k (written t i))) pass
 
 pub returns-clause-places : goal.returns-clause-places
 returns-clause-places c =
-    λ t. count_of_rows vec_items (option_map (moved_by (map copy_of c.last_run-pass.result.now))) c.args.kept.now.sites.items c.move_all.new.sites.items t c.move_all.ensures.pages
+    λ t. ap (λ rows. count_at rows t) c.relocate.ensures ∙ count-changed (option_map (moved_by (map copy_of c.last_run-pass.result.now))) c.args.kept.now.sites.rows t
