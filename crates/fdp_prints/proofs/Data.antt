@@ -1,11 +1,10 @@
 -- The lines of data tell their bytes.
-use Rattle.std.proofs.Common.{◌≡◌, ◌≢◌, inl, inr, ℕ, zero, suc, ◌+◌, ◌-◌, ◌*◌, ◌/◌, ◌%◌, ◌^◌, ◌<◌, ◌≤◌, min, Bool, true, false, List, [], ◌∷◌, ◌++◌, length, take, drop, get_or, refl, sym, ap, subst, ◌∙◌, arith, append_assoc, ne_eqb, eq-eqb}
+use Rattle.std.proofs.Common.{◌≡◌, inl, inr, ℕ, zero, suc, ◌+◌, ◌-◌, ◌*◌, ◌/◌, ◌%◌, ◌^◌, ◌<◌, ◌≤◌, min, Bool, true, false, List, [], ◌∷◌, ◌++◌, length, take, drop, get_or, refl, sym, ap, ◌∙◌, arith, append_assoc, ne_eqb, eq-eqb}
 use Rattle.std.specs.Prelude.{codes, bytes_eq, flat_map, if◌then◌else◌, ◌==◌}
 use Rattle.std.specs.Int.{from_le_bytes, to_le_bytes, w32}
-use Rattle.std.specs.List.{AllByRecursion, before_first, after_first}
-use Rattle.std.proofs.lemmas.Bool.{cases_Bool, cases_lt, eqb-true, or_cases}
-use Rattle.std.proofs.lemmas.Bool.Decides.{nat_tests}
-use Rattle.std.proofs.lemmas.List.{nil_from_length, length-append, length-take, length-drop, take-append-drop, take_all}
+use Rattle.std.specs.List.{before_first, after_first}
+use Rattle.std.proofs.lemmas.Bool.{cases_lt, eqb-true, or_cases}
+use Rattle.std.proofs.lemmas.List.{nil_from_length, length-take, length-drop, take-append-drop, take_all}
 use Rattle.std.proofs.lemmas.Nat.{le_bytes_4, div-mul-add}
 use Rattle.std.proofs.lemmas.Slice.Eq.{bytes_eq-Decides}
 use Rattle.fdp_base.specs.declared.command.Command.{Command}
@@ -15,14 +14,13 @@ use Rattle.fdp_base.specs.declared.status.Status.{Status}
 use Rattle.fdp_base.specs.Geometry.{IsBlockSize}
 use Rattle.fdp_base.specs.Pattern.{repeated}
 use Rattle.fdp_base.specs.Text.{hex, hex_bytes}
-use Rattle.fdp_output.specs.Output.{pieces_of, block_text, block_line, block_lines, data_line, data_lines, data_text}
-use Rattle.fdp_trace.specs.Numbers.{value_of}
+use Rattle.fdp_output.specs.Output.{pieces_of, block_text, block_line, block_lines, data_lines, data_text}
 use Rattle.fdp_trace.specs.Reader.FrontOf.{is_line_feed}
 use Rattle.fdp_prints.specs.Told.{AreBytes, data_size, is_success, reply_size}
-use Rattle.fdp_prints.specs.Reader.{block_in, bytes_in, lines_in, reply_in, success_in}
+use Rattle.fdp_prints.specs.Reader.{block_in, bytes_in, hex_number, lines_in, reply_in, success_in}
 use Rattle.fdp_prints.proofs.Cutting.{HasNone, after-is, before-is, none-append}
 use Rattle.fdp_prints.proofs.Visible.{AllShow, no_feed, show-append, show-hex}
-use Rattle.fdp_prints.proofs.Digits.{FitsDigits, bytes-back, dword-fits, hex-back, length-hex, length-hex_bytes}
+use Rattle.fdp_prints.proofs.Digits.{bytes-back, dword-fits, length-hex, length-hex_bytes, number-hex}
 
 -- ---- bytes of a part
 
@@ -72,7 +70,7 @@ unfolding block_in
 word-back x long h is =
     let small = word-fits x long h in
     let eight : (length (hex 8 (word x)) == 8) ≡ true = eight-is (hex 8 (word x)) (length-hex 8 (word x)) in
-    let number : value_of 16 (hex 8 (word x)) % 2 ^ 32 ≡ word x = omega (arith, hex-back 8 (word x) (dword-fits (word x) small), small) in
+    let number : hex_number (hex 8 (word x)) % 2 ^ 32 ≡ word x = omega (arith, number-hex 8 (word x) (dword-fits (word x) small) (omega (arith, small)), small) in
     rw (eight, number, front-back x long h) (sym is)
 
 few-words : (n : ℕ) (xs : List ℕ) → n ≡ 0 → repeated n xs ≡ []
@@ -87,7 +85,7 @@ short-back x short is =
     let none : length x / 4 ≡ 0 = omega (arith, short) in
     let eight : (length (hex 8 (word x)) == 8) ≡ true = eight-is (hex 8 (word x)) (length-hex 8 (word x)) in
     let nil : x ≡ [] = is ∙ few-words (length x / 4) (take 4 x) none in
-    rw eight (few-words (length x / 4) (to_le_bytes w32 (value_of 16 (hex 8 (word x)) % 2 ^ 32)) none ∙ sym nil)
+    rw eight (few-words (length x / 4) (to_le_bytes w32 (hex_number (hex 8 (word x)) % 2 ^ 32)) none ∙ sym nil)
 
 once : (xs : List ℕ) (n : ℕ) → n ≡ 1 → repeated n xs ≡ xs
 unfolding repeated

@@ -1,18 +1,14 @@
 -- Hexadecimal digits tell their number.
-use Rattle.std.proofs.Common.{◌≡◌, ℕ, zero, suc, ◌+◌, ◌-◌, ◌*◌, ◌/◌, ◌%◌, ◌^◌, ◌<◌, ◌≤◌, true, false, nat_le, List, [], ◌∷◌, ◌++◌, length, take, drop, Result, Ok, Err, refl, sym, ap, subst, ◌∙◌, arith}
-use Rattle.std.specs.Prelude.{if◌then◌else◌}
-use Rattle.std.specs.List.{AllByRecursion, fold}
+use Rattle.std.proofs.Common.{◌≡◌, ℕ, zero, suc, ◌+◌, ◌*◌, ◌/◌, ◌%◌, ◌^◌, ◌<◌, ◌≤◌, true, nat_le, List, [], ◌∷◌, ◌++◌, length, take, drop, Ok, refl, sym, ap, ◌∙◌, arith}
 use Rattle.std.specs.Char.{digit_value}
 use Rattle.std.proofs.lemmas.Bool.Decides.{nat_tests}
 use Rattle.std.proofs.lemmas.List.{length-append}
 use Rattle.std.proofs.lemmas.List.Sums.{fold-append}
 use Rattle.std.proofs.Math.Seq.{take-append_seam, drop-append_seam}
 use Rattle.fdp_base.specs.Text.{digit, hex, hex_bytes}
-use Rattle.fdp_trace.specs.declared.fault.FaultKind.{FaultKind}
-use Rattle.fdp_trace.specs.declared.fault.FaultKind.TheVariants as kinds
 use Rattle.fdp_trace.specs.Numbers.{value_of}
 use Rattle.fdp_prints.specs.Told.{AreBytes}
-use Rattle.fdp_prints.specs.Reader.{bytes_in, hex_within}
+use Rattle.fdp_prints.specs.Reader.{bytes_in, hex_number, hex_within}
 
 digit-back : (n : ℕ) → n < 16 → digit_value (digit n) ≡ n
 digit-back n lt = grind (arith, nat_tests)
@@ -39,10 +35,15 @@ pub digit-fits : (n : ℕ) → n < 16 → FitsDigits 1 n
 digit-fits n lt = omega (arith, lt)
 
 -- digits of a number up to a bound are within it
-pub within-hex : (k n high : ℕ) → FitsDigits k n → n ≤ high → hex_within high (hex k n) ≡ Ok n
-within-hex k n high fits le =
+pub number-hex : (k n : ℕ) → FitsDigits k n → n < 2 ^ 64 → hex_number (hex k n) ≡ n
+number-hex k n fits lt = omega (arith, hex-back k n fits, lt)
+
+pub within-hex : (k n high : ℕ) → FitsDigits k n → n < 2 ^ 64 → n ≤ high → hex_within high (hex k n) ≡ Ok n
+unfolding hex_within
+within-hex k n high fits lt le =
     let test : nat_le n high ≡ true = grind (arith, nat_tests) in
-    rw (hex-back k n fits, test) refl
+    let is = number-hex k n fits lt in
+    rw (is, test) refl
 
 pub length-hex : (k n : ℕ) → length (hex k n) ≡ k
 unfolding hex
@@ -51,10 +52,10 @@ length-hex (suc k) n = omega (arith, length-append (hex k (n / 16)) (digit (n % 
 
 -- ---- bytes
 
-first-byte : (n : ℕ) (xs : List ℕ) → n < 256 → value_of 16 (take 2 (hex 2 n ++ xs)) % 256 ≡ n
+first-byte : (n : ℕ) (xs : List ℕ) → n < 256 → hex_number (take 2 (hex 2 n ++ xs)) % 256 ≡ n
 first-byte n xs lt =
     let front : take 2 (hex 2 n ++ xs) ≡ hex 2 n = ap (λ (k : ℕ). take k (hex 2 n ++ xs)) (sym (length-hex 2 n)) ∙ take-append_seam (hex 2 n) xs in
-    let is : value_of 16 (take 2 (hex 2 n ++ xs)) ≡ n = ap (value_of 16) front ∙ hex-back 2 n (byte-fits n lt) in
+    let is : hex_number (take 2 (hex 2 n ++ xs)) ≡ n = ap hex_number front ∙ number-hex 2 n (byte-fits n lt) (omega (arith, lt)) in
     omega (arith, is, lt)
 
 other-bytes : (n : ℕ) (xs : List ℕ) → drop 2 (hex 2 n ++ xs) ≡ xs

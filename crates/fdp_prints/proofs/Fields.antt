@@ -1,6 +1,6 @@
 -- The fields of an entry are read back from the words that are printed of them.
-use Rattle.std.proofs.Common.{◌≡◌, ◌≢◌, ℕ, zero, suc, ◌+◌, ◌*◌, ◌%◌, ◌^◌, ◌<◌, ◌≤◌, Bool, true, false, ◌&&◌, nat_le, List, [], ◌∷◌, ◌++◌, length, take, drop, map, refl, sym, ap, ◌∙◌, arith, append_assoc, Result, Ok, Err, Option, Some, None}
-use Rattle.std.specs.Prelude.{decimal, codes, ◌==◌}
+use Rattle.std.proofs.Common.{◌≡◌, ℕ, ◌+◌, ◌%◌, ◌^◌, ◌<◌, ◌≤◌, Bool, true, false, ◌&&◌, nat_le, List, [], ◌∷◌, ◌++◌, map, refl, ap, ◌∙◌, arith, append_assoc, Result, Ok, Some}
+use Rattle.std.specs.Prelude.{decimal, ◌==◌}
 use Rattle.std.specs.List.{AllByRecursion, before_first, after_first}
 use Rattle.std.proofs.lemmas.Bool.Decides.{nat_tests}
 use Rattle.std.proofs.lemmas.Fmt.{decimal_by_steps}
@@ -42,15 +42,15 @@ flag-back false ws = ap (λ (r : Result (ℕ × Words) FaultKind). r >>= λ x. O
 
 pub dword-back : (n : ℕ) (ws : Words) → n < 2 ^ 32 → dword_field (hex 8 n ∷ ws) ≡ Ok (n, ws)
 unfolding dword_field
-dword-back n ws lt = ap (λ (r : Result ℕ FaultKind). r >>= λ n. Ok (n, ws)) (within-hex 8 n 4294967295 (dword-fits n lt) (omega (arith, lt)))
+dword-back n ws lt = ap (λ (r : Result ℕ FaultKind). r >>= λ n. Ok (n, ws)) (within-hex 8 n 4294967295 (dword-fits n lt) (omega (arith, lt)) (omega (arith, lt)))
 
 -- ---- a status
 
 status-word : (s : Status) → s.sct < 16 → s.sc < 256 → status_in (status_text s) ≡ Ok s
 unfolding status_in hex
 status-word s low small =
-    let front = within-hex 1 s.sct 15 (digit-fits s.sct low) (omega (arith, low)) in
-    let back = within-hex 2 s.sc 255 (byte-fits s.sc small) (omega (arith, small)) in
+    let front = within-hex 1 s.sct 15 (digit-fits s.sct low) (omega (arith, low)) (omega (arith, low)) in
+    let back = within-hex 2 s.sc 255 (byte-fits s.sc small) (omega (arith, small)) (omega (arith, small)) in
     rw (front, back) refl
 
 pub status-back : (s : Status) (ws : Words) → s.sct < 16 → s.sc < 256 → status_field (status_text s ∷ ws) ≡ Ok (s, ws)

@@ -1,6 +1,6 @@
 -- The lines of an entry tell it, and the lines of entries tell them all.
-use Rattle.std.proofs.Common.{◌≡◌, ℕ, zero, suc, ◌+◌, ◌^◌, ◌<◌, ◌≤◌, Bool, true, false, List, [], ◌∷◌, ◌++◌, length, drop, map, refl, sym, ap, subst, ◌∙◌, arith, append_assoc, Result, Ok, Err}
-use Rattle.std.specs.Prelude.{decimal, codes, flat_map}
+use Rattle.std.proofs.Common.{◌≡◌, ℕ, ◌+◌, ◌^◌, ◌<◌, List, [], ◌∷◌, ◌++◌, refl, sym, ap, ◌∙◌, arith, append_assoc, Result, Ok, Err}
+use Rattle.std.specs.Prelude.{decimal, codes}
 use Rattle.std.specs.List.{AllByRecursion, before_first, after_first}
 use Rattle.std.proofs.lemmas.List.{append_cancel_left}
 use Rattle.fdp_base.specs.declared.command.Command.{Command}
@@ -22,8 +22,8 @@ use Rattle.fdp_trace.specs.Words.{words_of}
 use Rattle.fdp_trace.proofs.Meaning.{spells_is}
 use Rattle.fdp_trace.proofs.Spelling.{spaced_is, words_back}
 use Rattle.fdp_prints.specs.Told.{AreTold, IsSpelled, IsTold, IsToldHost, IsToldStart, printed}
-use Rattle.fdp_prints.specs.Reader.{Words, first_entry, placed_entry, reply_in, told_bytes, with_bytes}
-use Rattle.fdp_prints.proofs.Cutting.{HasNone, after-is, before-is}
+use Rattle.fdp_prints.specs.Reader.{Words, first_entry, placed_entry, told_bytes, with_bytes}
+use Rattle.fdp_prints.proofs.Cutting.{after-is, before-is}
 use Rattle.fdp_prints.proofs.Data.{reply-back}
 use Rattle.fdp_prints.proofs.Reading.{placed-back, words}
 use Rattle.fdp_prints.proofs.Visible.{IsShown, are_words, is_word, no_feed_in, show-decimal, tag}

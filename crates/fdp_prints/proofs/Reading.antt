@@ -1,5 +1,5 @@
 -- An entry is read back from the words of its line, but for the bytes of a reply.
-use Rattle.std.proofs.Common.{◌≡◌, ℕ, ◌^◌, ◌<◌, ◌≤◌, Bool, List, [], ◌∷◌, map, refl, sym, ap, ◌∙◌, arith, Result, Ok, Err}
+use Rattle.std.proofs.Common.{◌≡◌, ℕ, ◌^◌, ◌<◌, [], ◌∷◌, map, refl, arith, Ok}
 use Rattle.std.specs.Prelude.{decimal, codes}
 use Rattle.fdp_base.specs.declared.config.DriveConfig.{DriveConfig}
 use Rattle.fdp_base.specs.declared.entry.Copied.{Copied}
@@ -14,8 +14,6 @@ use Rattle.fdp_base.specs.EventCodes.{bit}
 use Rattle.fdp_base.specs.Text.{hex, status_text}
 use Rattle.fdp_output.specs.CommandText.{argument_words}
 use Rattle.fdp_output.specs.HistoryText.{block_word, entry_words, spot_words}
-use Rattle.fdp_trace.specs.declared.fault.FaultKind.{FaultKind}
-use Rattle.fdp_trace.specs.Reader.Reading.{◌>>=◌}
 use Rattle.fdp_trace.proofs.Meaning.{spells_is}
 use Rattle.fdp_prints.specs.Told.{IsTold, IsToldCopy, IsToldHost, IsToldMove, IsToldPage, IsToldStart}
 use Rattle.fdp_prints.specs.Reader.{Words, copied_in, entry_in, host_in, moved_in, placed_entry, placed_in, shut_in, started_in, with_bytes}

@@ -1,9 +1,8 @@
 -- The words of an entry's line: each shows.
-use Rattle.std.proofs.Common.{◌≡◌, ℕ, zero, suc, ◌+◌, ◌-◌, ◌^◌, ◌<◌, ◌≤◌, Bool, true, false, List, [], ◌∷◌, ◌++◌, length, map, refl, sym, ap, subst, ◌∙◌, arith}
+use Rattle.std.proofs.Common.{ℕ, ◌^◌, ◌<◌, Bool, true, false, List, [], ◌∷◌, ◌++◌, map, refl, arith}
 use Rattle.std.specs.Prelude.{decimal, codes, flat_map}
 use Rattle.std.specs.List.{AllByRecursion, AllZip}
 use Rattle.fdp_base.specs.declared.command.Command.{Command}
-use Rattle.fdp_base.specs.declared.command.Command.TheVariants as commands
 use Rattle.fdp_base.specs.declared.command.Range.{Range}
 use Rattle.fdp_base.specs.declared.entry.BlockName.{BlockName}
 use Rattle.fdp_base.specs.declared.status.Status.{Status}
@@ -12,11 +11,10 @@ use Rattle.fdp_base.specs.EventCodes.{bit}
 use Rattle.fdp_base.specs.Text.{hex, status_text}
 use Rattle.fdp_output.specs.CommandText.{argument_words, on_word, range_words}
 use Rattle.fdp_output.specs.HistoryText.{block_word}
-use Rattle.fdp_trace.specs.Lines.{Part, Fixed, Number, range_parts, IsLine, write, write_placed, read, zeroes, dealloc, flush, status, update, log, log_ctrl, log_host, set_fdp, get_fdp, set_events, create, delete}
-use Rattle.fdp_trace.specs.Demands.{IsInRange, Spells}
+use Rattle.fdp_trace.specs.Lines.{Part, Number, range_parts, IsLine, write, write_placed, read, zeroes, dealloc, flush, status, update, log, log_ctrl, log_host, set_fdp, get_fdp, set_events, create, delete}
+use Rattle.fdp_trace.specs.Demands.{IsInRange}
 use Rattle.fdp_prints.specs.Told.{IsSpelled, IsToldName}
-use Rattle.fdp_prints.proofs.Cutting.{HasNone}
-use Rattle.fdp_prints.proofs.Visible.{AllShow, IsShown, show-append, show-decimal, show-hex, tag}
+use Rattle.fdp_prints.proofs.Visible.{IsShown, show-append, show-decimal, show-hex, tag}
 use Rattle.fdp_prints.proofs.Digits.{length-hex}
 use Rattle.std.proofs.lemmas.List.{length-append}
 

@@ -1,5 +1,5 @@
 -- The reader's own words: what is read of the lines of an entry, without a look at whether they are just those that are printed of it.
-use Rattle.std.specs.Prelude.{ℕ, zero, suc, ◌+◌, ◌-◌, ◌*◌, ◌/◌, ◌%◌, ◌^◌, min, Bool, ◌==◌, if◌then◌else◌, nat_le, List, [], ◌∷◌, ◌++◌, length, take, drop, codes, bytes_eq, Result, Ok, Err}
+use Rattle.std.specs.Prelude.{ℕ, zero, suc, ◌-◌, ◌*◌, ◌/◌, ◌%◌, ◌^◌, min, Bool, ◌==◌, if◌then◌else◌, nat_le, List, [], ◌∷◌, ◌++◌, length, take, drop, codes, bytes_eq, Result, Ok, Err}
 use Rattle.std.specs.List.{before_first, after_first}
 use Rattle.std.specs.Option.{option_map_or}
 use Rattle.std.specs.Int.{to_le_bytes, w32}
@@ -28,9 +28,13 @@ Words = List (List ℕ)
 
 -- ---- single words
 
--- the number that hexadecimal digits spell, up to a bound
-abbrev pub hex_within : ℕ → List ℕ → Result ℕ FaultKind
-hex_within high digits = if nat_le (value_of 16 digits) high then Ok (value_of 16 digits) else Err kinds.Range
+-- the number that hexadecimal digits spell, or 2^64 where it is at least that
+abbrev pub hex_number : List ℕ → ℕ
+hex_number digits = min (2 ^ 64) (value_of 16 digits)
+
+-- and up to a bound
+unfoldable pub hex_within : ℕ → List ℕ → Result ℕ FaultKind
+hex_within high digits = if nat_le (hex_number digits) high then Ok (hex_number digits) else Err kinds.Range
 
 -- 1 or 0, and the words after it
 unfoldable pub flag : Words → Result (Bool × Words) FaultKind
@@ -165,18 +169,22 @@ placed_entry ws = do
 -- so many bytes, from two digits each
 unfoldable pub bytes_in : ℕ → List ℕ → List ℕ
 bytes_in zero digits = []
-bytes_in (suc size) digits = value_of 16 (take 2 digits) % 256 ∷ bytes_in size (drop 2 digits)
+bytes_in (suc size) digits = hex_number (take 2 digits) % 256 ∷ bytes_in size (drop 2 digits)
 
 -- a block of so many bytes: one word over and over where there are eight digits, else two digits a byte
 unfoldable pub block_in : ℕ → List ℕ → List ℕ
-block_in size digits = if length digits == 8 then repeated (size / 4) (to_le_bytes w32 (value_of 16 digits % 2 ^ 32)) else bytes_in size digits
+block_in size digits = if length digits == 8 then repeated (size / 4) (to_le_bytes w32 (hex_number digits % 2 ^ 32)) else bytes_in size digits
+
+-- the bytes of a line behind two blanks
+abbrev pub piece_in : (ℕ → List ℕ → List ℕ) → ℕ → List ℕ → List ℕ
+piece_in piece size line = piece size (drop 2 line)
 
 -- so many bytes, from at most so many lines of pieces that have a size, the last maybe less
 unfoldable pub lines_in : (ℕ → List ℕ → List ℕ) → ℕ → ℕ → ℕ → List ℕ → List ℕ
 lines_in piece size zero left text = []
 lines_in piece size (suc n) zero text = []
 lines_in piece size (suc n) (suc left) text =
-    piece (min size (suc left)) (drop 2 (before_first is_line_feed text)) ++ lines_in piece size n (suc left - size) (after_first is_line_feed text)
+    piece_in piece (min size (suc left)) (before_first is_line_feed text) ++ lines_in piece size n (suc left - size) (after_first is_line_feed text)
 
 -- the bytes that a command answers where it succeeds
 abbrev pub success_in : DriveConfig → Command → List ℕ → List ℕ

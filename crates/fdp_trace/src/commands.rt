@@ -17,8 +17,9 @@ use fdp_base::{
 };
 use std::alloc::Global;
 
+/// The number of the next word, within bounds, and the words after it.
 #[tactic(auto, unfolding(crate::specs::Reader::Reading::field))]
-fn field(line: &[u8], low: u64, high: u64) -> Result<(u64, &[u8]), FaultKind>
+pub fn field(line: &[u8], low: u64, high: u64) -> Result<(u64, &[u8]), FaultKind>
     ensures gives { Reads (λ x. (x.0, words_of x.1.now)) result (field low high (words_of line.now)) }
     ensures bounds { IfOk result (λ x. (low ≤ x.0) × (x.0 ≤ high)) }
 {

@@ -4,7 +4,7 @@ ghost use Rattle.std.specs.Str.{is_utf8};
 ghost use Rattle.fdp_trace.specs.Words.{is_blank, words_of};
 ghost use Rattle.fdp_trace.specs.Reader.Shapes.{words_fit, numbers_fit};
 ghost use Rattle.fdp_trace.specs.Reader.Reading.{Gives};
-ghost use Rattle.fdp_trace.specs.Reader.Commands.{checked, command_of, spelled};
+ghost use Rattle.fdp_trace.specs.Reader.Commands.{checked, command_of, listed, spelled};
 ghost use Rattle.fdp_trace.specs.Grammar.{is_skipped};
 ghost use Rattle.fdp_trace.specs.Reader.Line.{line_of, listed_in};
 
@@ -31,9 +31,16 @@ pub fn read_line(alloc: Global, line: &[u8]) -> Result<Option<Command>, LineErro
     if !is_text(line) {
         return Err(LineError::Fault(FaultKind::Utf8));
     }
-    let (word, rest) = judged(line)?;
-    let command = spelled(alloc, word, rest)?;
+    let command = read_command(alloc, line)?;
     Ok(Some(command))
+}
+
+/// The command that the words of a line say, however long the line is.
+pub fn read_command(alloc: Global, line: &[u8]) -> Result<Command, LineError>
+    ensures { Gives listed result (command_of (words_of line.now)) }
+{
+    let (word, rest) = judged(line)?;
+    spelled(alloc, word, rest)
 }
 
 fn is_skipped(line: &[u8]) -> bool
