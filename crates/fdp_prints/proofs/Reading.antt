@@ -9,10 +9,9 @@ use Rattle.fdp_base.specs.declared.entry.Host.{Host}
 use Rattle.fdp_base.specs.declared.entry.Moved.{Moved}
 use Rattle.fdp_base.specs.declared.entry.Placed.{Placed}
 use Rattle.fdp_base.specs.declared.entry.Started.{Started}
-use Rattle.fdp_base.specs.CommandKinds.{word_of}
 use Rattle.fdp_base.specs.EventCodes.{bit}
 use Rattle.fdp_base.specs.Text.{hex, status_text}
-use Rattle.fdp_output.specs.CommandText.{argument_words}
+use Rattle.fdp_output.specs.CommandText.{line_words}
 use Rattle.fdp_output.specs.HistoryText.{block_word, entry_words, spot_words}
 use Rattle.fdp_trace.proofs.Meaning.{spells_is}
 use Rattle.fdp_prints.specs.Told.{IsTold, IsToldCopy, IsToldHost, IsToldMove, IsToldPage, IsToldStart}
@@ -22,8 +21,8 @@ use Rattle.fdp_prints.proofs.Fields.{dword-back, field-back, flag-back, names-ba
 -- the words of an entry's line behind its position, those of a command among them
 abbrev pub words : Entry → Words
 words (entries.Host h) =
-    codes "host" ∷ decimal h.queue ∷ decimal h.number ∷ decimal (bit h.reply.applied) ∷ status_text h.reply.status ∷ hex 8 h.reply.dw0 ∷ decimal h.moment ∷ word_of h.command ∷ argument_words h.command
-words (entries.Started s) = codes "started" ∷ decimal s.queue ∷ decimal s.number ∷ decimal s.rg ∷ decimal s.ruh ∷ decimal (bit s.pid_valid) ∷ word_of s.command ∷ argument_words s.command
+    codes "host" ∷ decimal h.queue ∷ decimal h.number ∷ decimal (bit h.reply.applied) ∷ status_text h.reply.status ∷ hex 8 h.reply.dw0 ∷ decimal h.moment ∷ line_words h.command
+words (entries.Started s) = codes "started" ∷ decimal s.queue ∷ decimal s.number ∷ decimal s.rg ∷ decimal s.ruh ∷ decimal (bit s.pid_valid) ∷ line_words s.command
 words (entries.Placed p) = entry_words (entries.Placed p)
 words (entries.Copied x) = entry_words (entries.Copied x)
 words (entries.Moved m) = entry_words (entries.Moved m)
@@ -37,26 +36,26 @@ words entries.Reopened = entry_words entries.Reopened
 host-back : (c : DriveConfig) (h : Host) → IsToldHost c h → entry_in (words (entries.Host h)) ≡ Ok (with_bytes [] (entries.Host h))
 unfolding entry_in host_in
 host-back c h t =
-    let rest = word_of h.command ∷ argument_words h.command in
+    let rest = line_words h.command in
     let q = field-back 255 h.queue (decimal h.number ∷ decimal (bit h.reply.applied) ∷ status_text h.reply.status ∷ hex 8 h.reply.dw0 ∷ decimal h.moment ∷ rest) (omega (arith, t.queue)) (omega arith) in
     let n = field-back 65535 h.number (decimal (bit h.reply.applied) ∷ status_text h.reply.status ∷ hex 8 h.reply.dw0 ∷ decimal h.moment ∷ rest) (omega (arith, t.number)) (omega arith) in
     let a = flag-back h.reply.applied (status_text h.reply.status ∷ hex 8 h.reply.dw0 ∷ decimal h.moment ∷ rest) in
     let s = status-back h.reply.status (hex 8 h.reply.dw0 ∷ decimal h.moment ∷ rest) (omega (arith, t.reply.sct)) (omega (arith, t.reply.sc)) in
     let d = dword-back h.reply.dw0 (decimal h.moment ∷ rest) t.reply.dw0 in
     let m = field-back 18446744073709551615 h.moment rest (omega (arith, t.moment)) (omega arith) in
-    let k = spells_is rest h.command t.command in
+    let k = spells_is rest h.command t.command.says in
     rw (q, n, a, s, d, m, k) refl
 
 started-back : (s : Started) → IsToldStart s → entry_in (words (entries.Started s)) ≡ Ok (entries.Started s)
 unfolding entry_in started_in
 started-back s t =
-    let rest = word_of s.command ∷ argument_words s.command in
+    let rest = line_words s.command in
     let q = field-back 255 s.queue (decimal s.number ∷ decimal s.rg ∷ decimal s.ruh ∷ decimal (bit s.pid_valid) ∷ rest) (omega (arith, t.queue)) (omega arith) in
     let n = field-back 65535 s.number (decimal s.rg ∷ decimal s.ruh ∷ decimal (bit s.pid_valid) ∷ rest) (omega (arith, t.number)) (omega arith) in
     let g = field-back 65535 s.rg (decimal s.ruh ∷ decimal (bit s.pid_valid) ∷ rest) (omega (arith, t.rg)) (omega arith) in
     let r = field-back 255 s.ruh (decimal (bit s.pid_valid) ∷ rest) (omega (arith, t.ruh)) (omega arith) in
     let v = flag-back s.pid_valid rest in
-    let k = spells_is rest s.command t.command in
+    let k = spells_is rest s.command t.command.says in
     rw (q, n, g, r, v, k) refl
 
 page-back : (p : Placed) → IsToldPage p → entry_in (words (entries.Placed p)) ≡ Ok (entries.Placed p)

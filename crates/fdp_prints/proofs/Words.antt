@@ -9,10 +9,10 @@ use Rattle.fdp_base.specs.declared.status.Status.{Status}
 use Rattle.fdp_base.specs.CommandKinds.{word_of}
 use Rattle.fdp_base.specs.EventCodes.{bit}
 use Rattle.fdp_base.specs.Text.{hex, status_text}
-use Rattle.fdp_output.specs.CommandText.{argument_words, on_word, range_words}
+use Rattle.fdp_output.specs.CommandText.{argument_words, line_words, on_word, range_words}
 use Rattle.fdp_output.specs.HistoryText.{block_word}
 use Rattle.fdp_trace.specs.Lines.{Part, Number, range_parts, IsLine, write, write_placed, read, zeroes, dealloc, flush, status, update, log, log_ctrl, log_host, set_fdp, get_fdp, set_events, create, delete}
-use Rattle.fdp_trace.specs.Demands.{IsInRange}
+use Rattle.fdp_trace.specs.Demands.{IsInRange, Spells}
 use Rattle.fdp_prints.specs.Told.{IsSpelled, IsToldName}
 use Rattle.fdp_prints.proofs.Visible.{IsShown, show-append, show-decimal, show-hex, tag}
 use Rattle.fdp_prints.proofs.Digits.{length-hex}
@@ -85,5 +85,8 @@ show-by-line line c (create blocks handles few) h = (tag (codes "create") (omega
 show-by-line line c (delete nsid) h = (tag (codes "delete") (omega arith) refl, (show-decimal nsid (omega (arith, h.1.0.2)), tt))
 
 -- each word that is printed of a spelled command shows
-pub show-command : (c : Command) → IsSpelled c → AllByRecursion IsShown (word_of c ∷ argument_words c)
-show-command c (line, row, h) = show-by-line line c row h
+show-spelled : (c : Command) → Spells (line_words c) c → AllByRecursion IsShown (line_words c)
+show-spelled c (line, row, h) = show-by-line line c row h
+
+pub show-command : (c : Command) → IsSpelled c → AllByRecursion IsShown (line_words c)
+show-command c spelled = show-spelled c spelled.says

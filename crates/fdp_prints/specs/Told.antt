@@ -1,5 +1,5 @@
 -- Which entries their printed lines tell whole.
-use Rattle.std.specs.Prelude.{ℕ, ◌≡◌, ◌*◌, ◌^◌, ◌<◌, Bool, ◌&&◌, ◌==◌, if◌then◌else◌, List, ◌∷◌, length, flat_map}
+use Rattle.std.specs.Prelude.{ℕ, ◌≡◌, ◌*◌, ◌^◌, ◌<◌, Bool, true, ◌&&◌, ◌==◌, if◌then◌else◌, List, ◌∷◌, length, flat_map}
 use Rattle.std.specs.List.{AllByRecursion}
 use Rattle.fdp_base.specs.declared.command.Command.{Command}
 use Rattle.fdp_base.specs.declared.command.Command.TheVariants as commands
@@ -15,8 +15,7 @@ use Rattle.fdp_base.specs.declared.entry.Reply.{Reply}
 use Rattle.fdp_base.specs.declared.entry.Spot.{Spot}
 use Rattle.fdp_base.specs.declared.entry.Started.{Started}
 use Rattle.fdp_base.specs.declared.status.Status.{Status}
-use Rattle.fdp_base.specs.CommandKinds.{word_of}
-use Rattle.fdp_output.specs.CommandText.{argument_words}
+use Rattle.fdp_output.specs.CommandText.{is_spelled, line_words}
 use Rattle.fdp_output.specs.HistoryText.{entry_lines}
 use Rattle.fdp_trace.specs.Demands.{Spells}
 
@@ -28,8 +27,9 @@ abbrev pub AreBytes : List ℕ → Type 0
 AreBytes bytes = AllByRecursion (IsOfBits 8) bytes
 
 -- a command that a line of a trace says, which is the line that is printed of it
-abbrev pub IsSpelled : Command → Type 0
-IsSpelled command = Spells (word_of command ∷ argument_words command) command
+pub record IsSpelled (command : Command) : Type 0 where
+  pub line : is_spelled command ≡ true
+  pub says : Spells (line_words command) command
 
 abbrev pub is_success : Status → Bool
 is_success s = (s.sct == 0) && (s.sc == 0)
@@ -122,6 +122,6 @@ IsToldAt c x = IsOfBits 64 x.0 × IsTold c x.1
 abbrev pub AreTold : DriveConfig → List (ℕ × Entry) → Type 0
 AreTold c xs = AllByRecursion (IsToldAt c) xs
 
--- the lines of entries, each with its position
-abbrev pub printed : List (ℕ × Entry) → List ℕ
-printed xs = flat_map (λ (x : ℕ × Entry). entry_lines x.0 x.1) xs
+-- the lines of entries, each with its position, with blocks of so many bytes
+abbrev pub printed : ℕ → List (ℕ × Entry) → List ℕ
+printed block xs = flat_map (λ (x : ℕ × Entry). entry_lines block x.0 x.1) xs

@@ -21,10 +21,10 @@ pub fn one_block_a_line()
 /// Where two texts begin with the lines of an entry at its position, and are the same, these are one entry at one position, and what follows is the same.
 pub fn one_entry_a_print()
     ensures { (c : DriveConfig) (p q : ℕ) (d e : Entry) (more rest : List ℕ) → IsBlockSize c.block → p < 2 ^ 64 → q < 2 ^ 64 → IsTold c d → IsTold c e
-        → entry_lines p d ++ more ≡ entry_lines q e ++ rest → (p ≡ q) × (d ≡ e) × (more ≡ rest) }
+        → entry_lines c.block p d ++ more ≡ entry_lines c.block q e ++ rest → (p ≡ q) × (d ≡ e) × (more ≡ rest) }
 {}
 
 /// Of entries that a print tells whole, no two lists have one print.
 pub fn one_history_a_print()
-    ensures { (c : DriveConfig) (xs ys : List (ℕ × Entry)) → IsBlockSize c.block → AreTold c xs → AreTold c ys → printed xs ≡ printed ys → xs ≡ ys }
+    ensures { (c : DriveConfig) (xs ys : List (ℕ × Entry)) → IsBlockSize c.block → AreTold c xs → AreTold c ys → printed c.block xs ≡ printed c.block ys → xs ≡ ys }
 {}
