@@ -8,6 +8,7 @@ mod pieces;
 mod print;
 
 pub use closing::{Closing, Placement};
+pub use history::push_entry;
 pub use pieces::Cut;
 pub use print::{print_output, print_record};
 

@@ -5,4 +5,6 @@ pub mod Data
 pub mod Words
 pub mod Fields
 pub mod Reading
+pub mod Sizes
+pub mod Typed
 pub mod Lines
