@@ -24,12 +24,12 @@ use Rattle.fdp_prints.proofs.Digits.{bytes-back, dword-fits, length-hex, length-
 
 -- ---- bytes of a part
 
-take-bytes : (n : ℕ) (x : List ℕ) → AreBytes x → AreBytes (take n x)
+pub take-bytes : (n : ℕ) (x : List ℕ) → AreBytes x → AreBytes (take n x)
 take-bytes zero x h = tt
 take-bytes (suc n) [] h = tt
 take-bytes (suc n) (b ∷ bs) h = (h.0, take-bytes n bs h.1)
 
-drop-bytes : (n : ℕ) (x : List ℕ) → AreBytes x → AreBytes (drop n x)
+pub drop-bytes : (n : ℕ) (x : List ℕ) → AreBytes x → AreBytes (drop n x)
 drop-bytes zero x h = h
 drop-bytes (suc n) [] h = tt
 drop-bytes (suc n) (b ∷ bs) h = drop-bytes n bs h.1
@@ -118,7 +118,7 @@ block-back x h = by-test x (bytes_eq x (filled x)) refl h
 
 -- ---- lines
 
-show-bytes : (x : List ℕ) → AllShow (hex_bytes x)
+pub show-bytes : (x : List ℕ) → AllShow (hex_bytes x)
 show-bytes [] = tt
 show-bytes (b ∷ bs) = show-append (hex 2 b) (hex_bytes bs) (show-hex 2 b) (show-bytes bs)
 
@@ -126,14 +126,14 @@ show-either : (b : Bool) (x y : List ℕ) → AllShow x → AllShow y → AllSho
 show-either true x y hx hy = hx
 show-either false x y hx hy = hy
 
-show-block : (x : List ℕ) → AllShow (block_text x)
+pub show-block : (x : List ℕ) → AllShow (block_text x)
 show-block x = show-either (bytes_eq x (filled x)) (hex 8 (word x)) (hex_bytes x) (show-hex 8 (word x)) (show-bytes x)
 
 -- the line of a piece
 abbrev row : (List ℕ → List ℕ) → List ℕ → List ℕ
 row show x = codes "  " ++ show x ++ 10 ∷ []
 
-indented : (t : List ℕ) → HasNone 10 t → HasNone 10 (codes "  " ++ t)
+pub indented : (t : List ℕ) → HasNone 10 t → HasNone 10 (codes "  " ++ t)
 indented t none = none-append 10 (codes "  ") t (λ same. omega (arith, same), (λ same. omega (arith, same), tt)) none
 
 -- what stands before the end of a line, and what stands behind it
@@ -173,7 +173,7 @@ module _ (show : List ℕ → List ℕ) (piece : ℕ → List ℕ → List ℕ) 
 
 -- ---- the data of a command
 
-sized : (size : ℕ) → IsBlockSize size → 512 ≤ size
+pub sized : (size : ℕ) → IsBlockSize size → 512 ≤ size
 sized size h =
     elim (or_cases (size == 512) (size == 4096) h) [
       | inl e ↦ let same : size ≡ 512 = eqb-true size 512 e in omega (arith, same)

@@ -82,16 +82,16 @@ times-four (suc n) size whole =
 nothing : IsSized 0 []
 nothing = record { count = refl; bytes_are = tt }
 
-blocks-sized : (c : DriveConfig) (count : ℕ) (text : List ℕ) → IsBlockSize c.block → IsSized (count * c.block) (lines_in block_in c.block count (count * c.block) text)
+pub blocks-sized : (c : DriveConfig) (count : ℕ) (text : List ℕ) → IsBlockSize c.block → IsSized (count * c.block) (lines_in block_in c.block count (count * c.block) text)
 blocks-sized c count text is =
     let b = block-is c.block is in
     lines-sized block_in block-sized c.block count (count * c.block) text (omega (arith, b.0)) b.1 (times-four count c.block b.1) (omega arith)
 
-dwords-sized : (dwords : ℕ) (text : List ℕ) → IsSized (4 * dwords) (lines_in bytes_in 32 (4 * dwords) (4 * dwords) text)
+pub dwords-sized : (dwords : ℕ) (text : List ℕ) → IsSized (4 * dwords) (lines_in bytes_in 32 (4 * dwords) (4 * dwords) text)
 dwords-sized dwords text =
     lines-sized bytes_in (λ size digits whole. bytes-sized size digits) 32 (4 * dwords) (4 * dwords) text (omega arith) refl (omega arith) (omega arith)
 
-success-sized : (c : DriveConfig) (command : Command) (text : List ℕ) → IsBlockSize c.block → IsSized (data_size c command) (success_in c command text)
+pub success-sized : (c : DriveConfig) (command : Command) (text : List ℕ) → IsBlockSize c.block → IsSized (data_size c command) (success_in c command text)
 success-sized c (commands.Write w) text is = nothing
 success-sized c (commands.Read r) text is = blocks-sized c r.count text is
 success-sized c (commands.Zero z) text is = nothing

@@ -1,2 +1,11 @@
 pub mod Places
 pub mod Steps
+pub mod Cuts
+pub mod Walking
+pub mod Alike
+pub mod Ending
+pub mod Prefixes
+pub mod Records
+pub mod Fronts
+pub mod Comparing
+pub mod Outcomes

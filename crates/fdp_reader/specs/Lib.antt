@@ -1,2 +1,7 @@
 pub mod Forms
 pub mod Yielding
+pub mod Form
+pub mod Lines
+pub mod Next
+pub mod Entries
+pub mod Record

@@ -1,11 +1,20 @@
-//! Reads the entries of a printed history.
+//! Reads the record of a run: its output and its printed history. What is read is printed again, and compared.
 #![tactic(auto)]
 
 mod cut;
 mod data;
+mod entries;
 mod entry;
+mod fault;
 mod fields;
 mod first;
+mod front;
+mod lines;
 mod names;
+mod next;
+mod place;
+mod record;
 
-pub use first::read_first;
+pub use fault::RecordFault;
+pub use place::Place;
+pub use record::{Printed, read_record};
