@@ -26,13 +26,8 @@ use Rattle.fdp_trace.specs.Words.{words_of}
 use Rattle.fdp_trace.proofs.Meaning.{spells_is}
 use Rattle.fdp_trace.proofs.Spelling.{spaced_is, words_back}
 use Rattle.fdp_prints.specs.Told.{AreTold, IsSpelled, IsTold, IsToldHost, IsToldStart, printed}
-<<<<<<< HEAD
 use Rattle.fdp_prints.specs.Reader.{Words, first_entry, placed_entry, reply_in, told_bytes, with_bytes}
-use Rattle.fdp_prints.proofs.Cutting.{after-is, before-is}
-=======
-use Rattle.fdp_prints.specs.Reader.{Words, first_entry, placed_entry, told_bytes, with_bytes}
 use Rattle.fdp_prints.proofs.Cutting.{HasNone, after-is, before-is}
->>>>>>> d79c5b4b (The record of a run is read: what is read is printed and compared, and the first line after which no record goes on is told)
 use Rattle.fdp_prints.proofs.Data.{reply-back}
 use Rattle.fdp_prints.proofs.Reading.{placed-back, words}
 use Rattle.fdp_prints.proofs.Visible.{IsShown, are_words, is_word, no_feed_in, show-decimal, tag}
@@ -90,8 +85,7 @@ show-words c (entries.Worn w) t = (tag (codes "worn") (omega arith) refl, (show-
 show-words c entries.Reopened t = (tag (codes "reopened") (omega arith) refl, tt)
 
 -- the words of a command stand with those before them
-<<<<<<< HEAD
-one-row : (c : DriveConfig) (p : List ℕ) (e : Entry) → IsTold c e → spaced (p ∷ entry_words e) ≡ spaced (p ∷ words e)
+pub one-row : (c : DriveConfig) (p : List ℕ) (e : Entry) → IsTold c e → spaced (p ∷ entry_words e) ≡ spaced (p ∷ words e)
 one-row c p (entries.Host h) t =
     ap (λ (text : List ℕ). spaced (p ∷ codes "host" ∷ decimal h.queue ∷ decimal h.number ∷ decimal (bit h.reply.applied) ∷ status_text h.reply.status ∷ hex 8 h.reply.dw0 ∷ decimal h.moment ∷ text ∷ [])) (line-text h.command t.command)
 one-row c p (entries.Started s) t =
@@ -107,22 +101,8 @@ one-row c p (entries.Worn w) t = refl
 one-row c p entries.Reopened t = refl
 
 -- a command that a line spells carries no data
-no-data : (block : ℕ) (command : Command) → IsSpelled command → own_text block command ≡ []
+pub no-data : (block : ℕ) (command : Command) → IsSpelled command → own_text block command ≡ []
 no-data block command h = ap (λ b. cond b [] (own_lines block command)) h.line
-=======
-pub one-row : (p : List ℕ) (e : Entry) → spaced (p ∷ entry_words e) ≡ spaced (p ∷ words e)
-one-row p (entries.Host h) = refl
-one-row p (entries.Started s) = refl
-one-row p (entries.Placed x) = refl
-one-row p (entries.Copied x) = refl
-one-row p (entries.Moved m) = refl
-one-row p (entries.Erased e) = refl
-one-row p (entries.Retired r) = refl
-one-row p (entries.Aside a) = refl
-one-row p (entries.Shut s) = refl
-one-row p (entries.Worn w) = refl
-one-row p entries.Reopened = refl
->>>>>>> d79c5b4b (The record of a run is read: what is read is printed and compared, and the first line after which no record goes on is told)
 
 -- what a line is followed by
 behind-line : (s d r : List ℕ) → ((s ++ 10 ∷ []) ++ d) ++ r ≡ s ++ 10 ∷ (d ++ r)
@@ -154,8 +134,9 @@ told-bytes c entries.Reopened r is t = refl
 abbrev pub entry_row : ℕ → Entry → List ℕ
 entry_row p e = spaced (decimal p ∷ words e)
 
-pub row-cut : (p : ℕ) (e : Entry) → entry_lines p e ≡ entry_row p e ++ 10 ∷ entry_data e
-row-cut p e = append_assoc (spaced (decimal p ∷ entry_words e)) (10 ∷ []) (entry_data e) ∙ ap (λ (s : List ℕ). s ++ 10 ∷ entry_data e) (one-row (decimal p) e)
+pub row-cut : (c : DriveConfig) (p : ℕ) (e : Entry) → IsTold c e → entry_lines c.block p e ≡ entry_row p e ++ 10 ∷ entry_data c.block e
+row-cut c p e t =
+    append_assoc (spaced (decimal p ∷ entry_words e)) (10 ∷ []) (entry_data c.block e) ∙ ap (λ (s : List ℕ). s ++ 10 ∷ entry_data c.block e) (one-row c (decimal p) e t)
 
 pub row-line : (c : DriveConfig) (p : ℕ) (e : Entry) → p < 2 ^ 64 → IsTold c e → HasNone 10 (entry_row p e)
 row-line c p e lt t = no_feed_in (decimal p ∷ words e) (show-decimal p lt, show-words c e t)
@@ -176,26 +157,9 @@ read-behind c p e more lt t =
     ∙ ap (λ (text : List ℕ). Ok (p, with_bytes (told_bytes c (with_bytes [] e) text) (with_bytes [] e))) (after-is 10 row more none)
 
 -- an entry is read back from a text that begins with its lines
-<<<<<<< HEAD
 pub first-back : (c : DriveConfig) (p : ℕ) (e : Entry) (r : List ℕ) → IsBlockSize c.block → p < 2 ^ 64 → IsTold c e → first_entry c (entry_lines c.block p e ++ r) ≡ Ok (p, e)
-unfolding first_entry
 first-back c p e r is lt t =
-    let np = show-decimal p lt in
-    let se = show-words c e t in
-    let none = no_feed_in (decimal p ∷ words e) (np, se) in
-    let row = spaced (decimal p ∷ words e) in
-    let more = entry_data c.block e ++ r in
-    let front : words_of (before_first is_line_feed (entry_lines c.block p e ++ r)) ≡ decimal p ∷ words e =
-    ap (λ (text : List ℕ). words_of (before_first is_line_feed text)) (entry-cut c p e r t) ∙ ap words_of (before-is 10 row more none) ∙ row-back (decimal p) (words e) np se in
-    let behind : after_first is_line_feed (entry_lines c.block p e ++ r) ≡ more = ap (after_first is_line_feed) (entry-cut c p e r t) ∙ after-is 10 row more none in
-    let placed : placed_entry (words_of (before_first is_line_feed (entry_lines c.block p e ++ r))) ≡ Ok (p, with_bytes [] e) = ap placed_entry front ∙ placed-back c p e lt t in
-    ap (λ (x : Result (ℕ × Entry) FaultKind). x >>= λ x. Ok (x.0, with_bytes (told_bytes c x.1 (after_first is_line_feed (entry_lines c.block p e ++ r))) x.1)) placed
-    ∙ ap (λ (text : List ℕ). Ok (p, with_bytes (told_bytes c (with_bytes [] e) text) (with_bytes [] e))) behind
-    ∙ ap (λ (x : Entry). Ok (p, x)) (told-bytes c e r is t)
-=======
-pub first-back : (c : DriveConfig) (p : ℕ) (e : Entry) (r : List ℕ) → IsBlockSize c.block → p < 2 ^ 64 → IsTold c e → first_entry c (entry_lines p e ++ r) ≡ Ok (p, e)
-first-back c p e r is lt t = ap (first_entry c) (entry-cut p e r) ∙ read-behind c p e (entry_data e ++ r) lt t ∙ ap (λ (x : Entry). Ok (p, x)) (told-bytes c e r is t)
->>>>>>> d79c5b4b (The record of a run is read: what is read is printed and compared, and the first line after which no record goes on is told)
+    ap (first_entry c) (entry-cut c p e r t) ∙ read-behind c p e (entry_data c.block e ++ r) lt t ∙ ap (λ (x : Entry). Ok (p, x)) (told-bytes c e r is t)
 
 abbrev pair_by : Result (ℕ × Entry) FaultKind → ℕ × Entry → ℕ × Entry
 pair_by (Ok x) other = x

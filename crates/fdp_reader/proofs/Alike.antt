@@ -106,11 +106,10 @@ module _ (show : List ℕ → List ℕ) (piece : ℕ → List ℕ → List ℕ) 
       ap (flat_map (row show)) (pieces-cons n size (px ++ read) long)
       ∙ ap (λ (t : List ℕ). row show t ++ flat_map (row show) (pieces_of n size (drop size (px ++ read)))) (front-is size px read few short)
       ∙ ap (λ (t : List ℕ). row show px ++ flat_map (row show) (pieces_of n size t)) (back-is size px read few short) in
-      let others = alike size n left ls more later some (drop-bytes size x h) hl.1 both.1 in
-      (
+      let others = alike size n left ls more later some (drop-bytes size x h) hl.1 both.1 in (
         others.0,
         ap (λ (t : List ℕ). flat_map (row show) (pieces_of (suc n) size t)) read-is ∙ pieces ∙ row-cut (show px) (flat_map (row show) (pieces_of n size read))
-        ∙ ap (λ (t : List ℕ). t ++ 10 ∷ flat_map (row show) (pieces_of n size read)) both.0 ∙ ap (λ (t : List ℕ). l ++ 10 ∷ t) others.1 ∙ sym (first-cut l ls others.0),
+            ∙ ap (λ (t : List ℕ). t ++ 10 ∷ flat_map (row show) (pieces_of n size read)) both.0 ∙ ap (λ (t : List ℕ). l ++ 10 ∷ t) others.1 ∙ sym (first-cut l ls others.0),
       )
 
 -- ---- the data of a command
@@ -130,11 +129,10 @@ read-alike c zero x lines more later is lx h hl ly e = (more, e)
 read-alike c (suc n) x lines more later is lx h hl ly e =
     let y = lines_in block_in c.block (suc n) (suc n * c.block) (text_of lines ++ later) in
     let shown : flat_map block_line (pieces_of (suc n) c.block x) ≡ text_of lines ++ more = ap (λ (k : ℕ). flat_map block_line (pieces_of (suc n) k x)) (sym (size-of n c.block x lx)) ∙ e in
-    let a = alike block_text block_in show-block block-back c.block (suc n) x lines more later (omega (arith, sized c.block is)) h hl shown in
-    (
+    let a = alike block_text block_in show-block block-back c.block (suc n) x lines more later (omega (arith, sized c.block is)) h hl shown in (
       a.0,
       ap (λ (k : ℕ). flat_map block_line (pieces_of (suc n) k y)) (size-of n c.block y ly)
-      ∙ ap (λ (k : ℕ). flat_map block_line (pieces_of (suc n) c.block (lines_in block_in c.block (suc n) k (text_of lines ++ later)))) (sym lx) ∙ a.1,
+          ∙ ap (λ (k : ℕ). flat_map block_line (pieces_of (suc n) c.block (lines_in block_in c.block (suc n) k (text_of lines ++ later)))) (sym lx) ∙ a.1,
     )
 
 log-alike : (size : ℕ) (x : List ℕ) (lines : List (List ℕ)) (more later : List ℕ) → length x ≡ size → AreBytes x → AreLines lines
@@ -142,11 +140,10 @@ log-alike : (size : ℕ) (x : List ℕ) (lines : List (List ℕ)) (more later : 
     → data_lines x ≡ text_of lines ++ more → GoesOn (data_lines (lines_in bytes_in 32 size size (text_of lines ++ later))) lines
 log-alike size x lines more later lx h hl ly e =
     let y = lines_in bytes_in 32 size size (text_of lines ++ later) in
-    let a = alike hex_bytes bytes_in show-bytes bytes-back 32 (length x) x lines more later (omega arith) h hl e in
-    (
+    let a = alike hex_bytes bytes_in show-bytes bytes-back 32 (length x) x lines more later (omega arith) h hl e in (
       a.0,
       ap (λ (k : ℕ). flat_map data_line (pieces_of k 32 y)) (ly ∙ sym lx)
-      ∙ ap (λ (k : ℕ). flat_map data_line (pieces_of (length x) 32 (lines_in bytes_in 32 k k (text_of lines ++ later)))) (sym lx) ∙ a.1,
+          ∙ ap (λ (k : ℕ). flat_map data_line (pieces_of (length x) 32 (lines_in bytes_in 32 k k (text_of lines ++ later)))) (sym lx) ∙ a.1,
     )
 
 success-alike : (c : DriveConfig) (command : Command) (x : List ℕ) (lines : List (List ℕ)) (more later : List ℕ) → IsBlockSize c.block → length x ≡ data_size c command → AreBytes x → AreLines lines

@@ -134,19 +134,19 @@ module _ (c : DriveConfig) (text : List ℕ) (x : ℕ × Entry) (lines : List (L
       let there : text_of w.lines ++ printed zs ≡ text_of lines ++ (line ++ 10 ∷ more) = ap (λ (s : List ℕ). s ++ printed zs) (sym w.text_is) ∙ e ∙ append_assoc (text_of lines) line (10 ∷ more) in
       ⊎_elim
       (λ (h : IsWithin w.lines lines (printed zs) (line ++ 10 ∷ more)).
-          let whole : text ≡ entry_lines q d ++ (text_of h.more ++ rest) =
-          text-is ∙ ap (λ (ls : List (List ℕ)). text_of ls ++ rest) h.lines ∙ ap (λ (s : List ℕ). s ++ rest) (text-append w.lines h.more) ∙ append_assoc (text_of w.lines) (text_of h.more) rest
-          ∙ ap (λ (s : List ℕ). s ++ (text_of h.more ++ rest)) (sym w.text_is) in
-          apart-whole (text_of h.more ++ rest) (read-is c text x q d (text_of h.more ++ rest) is lt t read whole))
+      let whole : text ≡ entry_lines q d ++ (text_of h.more ++ rest) =
+      text-is ∙ ap (λ (ls : List (List ℕ)). text_of ls ++ rest) h.lines ∙ ap (λ (s : List ℕ). s ++ rest) (text-append w.lines h.more) ∙ append_assoc (text_of w.lines) (text_of h.more) rest
+      ∙ ap (λ (s : List ℕ). s ++ (text_of h.more ++ rest)) (sym w.text_is) in
+      apart-whole (text_of h.more ++ rest) (read-is c text x q d (text_of h.more ++ rest) is lt t read whole))
       (λ (h : IsBeyond lines w.lines (line ++ 10 ∷ more) (printed zs)).
-          let parts = lines-parts lines h.line h.more (subst AreLines h.lines w.whole) in
-          let next = line-cut line h.line more (text_of h.more ++ printed zs) is-line parts.1 (h.text ∙ first-cut h.line h.more (printed zs)) in
-          let own : entry_lines q d ≡ text_of (lines ++ line ∷ []) ++ text_of h.more =
-          w.text_is ∙ ap text_of h.lines ∙ ap (λ (l : List ℕ). text_of (lines ++ l ∷ h.more)) (sym next.0) ∙ ap text_of (sym (append_assoc lines (line ∷ []) h.more)) ∙ text-append (lines ++ line ∷ []) h.more in
-          let front : text ≡ text_of (lines ++ line ∷ []) ++ later = text-is ∙ ap (λ (s : List ℕ). text_of lines ++ s) cut ∙ sym (append_assoc (text_of lines) line (10 ∷ later)) ∙ sym (line-more lines line later) in
-          let again = entry-alike-last c q d lines line (text_of h.more) later x is lt t (lines-append lines (line ∷ []) hl (is-line, tt)) own (ap (first_entry c) (sym front) ∙ read) in
-          let same : text_of lines ++ other ≡ text_of lines ++ (line ++ 10 ∷ again.0) = sym print ∙ again.1 ∙ line-more lines line again.0 ∙ append_assoc (text_of lines) line (10 ∷ again.0) in
-          apart line again.0 later is-line (append_cancel_left (text_of lines) other (line ++ 10 ∷ again.0) same) cut)
+      let parts = lines-parts lines h.line h.more (subst AreLines h.lines w.whole) in
+      let next = line-cut line h.line more (text_of h.more ++ printed zs) is-line parts.1 (h.text ∙ first-cut h.line h.more (printed zs)) in
+      let own : entry_lines q d ≡ text_of (lines ++ line ∷ []) ++ text_of h.more =
+      w.text_is ∙ ap text_of h.lines ∙ ap (λ (l : List ℕ). text_of (lines ++ l ∷ h.more)) (sym next.0) ∙ ap text_of (sym (append_assoc lines (line ∷ []) h.more)) ∙ text-append (lines ++ line ∷ []) h.more in
+      let front : text ≡ text_of (lines ++ line ∷ []) ++ later = text-is ∙ ap (λ (s : List ℕ). text_of lines ++ s) cut ∙ sym (append_assoc (text_of lines) line (10 ∷ later)) ∙ sym (line-more lines line later) in
+      let again = entry-alike-last c q d lines line (text_of h.more) later x is lt t (lines-append lines (line ∷ []) hl (is-line, tt)) own (ap (first_entry c) (sym front) ∙ read) in
+      let same : text_of lines ++ other ≡ text_of lines ++ (line ++ 10 ∷ again.0) = sym print ∙ again.1 ∙ line-more lines line again.0 ∙ append_assoc (text_of lines) line (10 ∷ again.0) in
+      apart line again.0 later is-line (append_cancel_left (text_of lines) other (line ++ 10 ∷ again.0) same) cut)
       (compared w.lines lines (printed zs) (line ++ 10 ∷ more) w.whole hl there)
 
   ends-here : (line later more : List ℕ) (zs : List (ℕ × Entry)) → IsLine line → rest ≡ line ++ 10 ∷ later → AreTold c zs → printed zs ≡ (text_of lines ++ line) ++ 10 ∷ more → ⊥

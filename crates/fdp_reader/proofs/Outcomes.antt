@@ -76,10 +76,9 @@ whole-outcome c text place rest traces p is walks closing r queues len =
     let v = w.walks in
     let out = text_of v.lines in
     let size : p.output ≡ length out = omega (arith, len, front-len text out rest v.text_is) in
-    let own = subst (λ (n : ℕ). IsRecord c text n out p.entries.items) (sym queues) (record-is c text traces rest w p.entries.items r) in
-    (
+    let own = subst (λ (n : ℕ). IsRecord c text n out p.entries.items) (sym queues) (record-is c text traces rest w p.entries.items r) in (
       record { output = out; count = size; record_is = own },
       λ traces' output entries other.
-      let o = place-one c text traces rest w traces' output entries other in
-      (queues ∙ o.0, size ∙ ap (λ (t : List ℕ). length t) (sym o.1), list-one c p.entries.items entries is r.told other.told (sym (append-nil (printed p.entries.items)) ∙ sym r.text_is ∙ sym o.2)),
+          let o = place-one c text traces rest w traces' output entries other in
+          (queues ∙ o.0, size ∙ ap (λ (t : List ℕ). length t) (sym o.1), list-one c p.entries.items entries is r.told other.told (sym (append-nil (printed p.entries.items)) ∙ sym r.text_is ∙ sym o.2)),
     )

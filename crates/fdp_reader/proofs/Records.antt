@@ -155,11 +155,19 @@ front-fault c text place rest w other =
       whole = v.whole;
       text_is = v.text_is;
       place = refl;
-      begins = (text_of g.lines, (g.traces, text_of all, [], record {
-        form = form-of c g.traces all (lines-append v.lines g.lines v.whole g.whole) (walk-on c places.Start place (places.Closing g.traces) v.lines g.lines v.steps g.steps);
-        told = tt;
-        text_is = sym (text-append v.lines g.lines) ∙ sym (append-nil (text_of all));
-      }));
+      begins = (
+        text_of g.lines,
+        (
+          g.traces,
+          text_of all,
+          [],
+          record {
+            form = form-of c g.traces all (lines-append v.lines g.lines v.whole g.whole) (walk-on c places.Start place (places.Closing g.traces) v.lines g.lines v.steps g.steps);
+            told = tt;
+            text_is = sym (text-append v.lines g.lines) ∙ sym (append-nil (text_of all));
+          },
+        ),
+      );
       ends = λ line later more is cut some.
           let stops = stops-alike c place line later more is (subst (Stops c place) cut w.stops) in
           let o = output-is c v.lines place (line ++ 10 ∷ more) ((text_of v.lines ++ line) ++ 10 ∷ more) some.0 some.1 some.2 v.whole v.steps stops (append_assoc (text_of v.lines) line (10 ∷ more)) some.3 in
@@ -191,11 +199,19 @@ entries-fault c text traces later w len s some =
       whole = lines-append v.lines s.lines v.whole e.whole;
       text_is = v.text_is ∙ ap (λ (t : List ℕ). F ++ t) e.text_is ∙ sym (append_assoc F B s.rest) ∙ ap (λ (t : List ℕ). t ++ s.rest) (sym both);
       place = refl;
-      begins = (e.more, (traces, F, e.entries, record {
-        form = form-of c traces v.lines v.whole v.steps;
-        told = e.told;
-        text_is = ap (λ (t : List ℕ). t ++ e.more) both ∙ append_assoc F B e.more ∙ ap (λ (t : List ℕ). F ++ t) (sym e.begins);
-      }));
+      begins = (
+        e.more,
+        (
+          traces,
+          F,
+          e.entries,
+          record {
+            form = form-of c traces v.lines v.whole v.steps;
+            told = e.told;
+            text_is = ap (λ (t : List ℕ). t ++ e.more) both ∙ append_assoc F B e.more ∙ ap (λ (t : List ℕ). F ++ t) (sym e.begins);
+          },
+        ),
+      );
       ends = λ line after more is cut some'.
           let own : (text_of (v.lines ++ s.lines) ++ line) ++ 10 ∷ more ≡ F ++ ((B ++ line) ++ 10 ∷ more) = ap (λ (t : List ℕ). (t ++ line) ++ 10 ∷ more) both ∙ regroup F B line (10 ∷ more) in
           let stops = stops-later c (places.Closing traces) s.lines line after more s.rest e.whole is cut (subst (Stops c (places.Closing traces)) e.text_is w.stops) in
@@ -221,5 +237,5 @@ place-one c text traces later w traces' output entries r =
     let v = w.walks in
     let o = output-is c v.lines (places.Closing traces) later text traces' output entries v.whole v.steps w.stops v.text_is r in
     (closing-one traces traces' o.place_is, o.output_is, o.rest_is) where
-  closing-one : (m n : ℕ) → places.Closing m ≡ places.Closing n → m ≡ n
-  closing-one m n e = cc
+      closing-one : (m n : ℕ) → places.Closing m ≡ places.Closing n → m ≡ n
+      closing-one m n e = cc

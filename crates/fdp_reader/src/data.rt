@@ -79,7 +79,14 @@ fn push_blocks(block: u32, count: u32, text: &[u8], into: &mut Vec<u8>) -> Resul
     ensures { OnOk result (into.new.items ≡ into.old.items ++ lines_in block_in block count (count * block) text.now) }
 {
     let left = count as usize * block as usize;
-    push_lines(Form::Block, block as usize, count as usize, left, text, into)
+    push_lines(
+        Form::Block,
+        block as usize,
+        count as usize,
+        left,
+        text,
+        into,
+    )
 }
 
 /// Appends so many dwords.
@@ -123,12 +130,7 @@ fn piece_len(size: usize, left: usize) -> usize
 }
 
 /// Appends so many bytes, from the digits of one line.
-fn push_piece(
-    form: Form,
-    size: usize,
-    digits: &[u8],
-    into: &mut Vec<u8>,
-) -> Result<(), AllocError>
+fn push_piece(form: Form, size: usize, digits: &[u8], into: &mut Vec<u8>) -> Result<(), AllocError>
     ensures { OnOk result (into.new.items ≡ into.old.items ++ form_of form size digits.now) }
 {
     match form {

@@ -19,11 +19,7 @@ pub enum Entries {
 }
 
 /// The entries of a text that is the print of some.
-pub fn read_entries(
-    alloc: Global,
-    config: &DriveConfig,
-    text: &[u8],
-) -> Result<Entries, AllocError>
+pub fn read_entries(alloc: Global, config: &DriveConfig, text: &[u8]) -> Result<Entries, AllocError>
     requires { IsValidConfig config.now }
     ensures { IfOk result (Comes config.now text.now) }
 {

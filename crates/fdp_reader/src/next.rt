@@ -22,7 +22,9 @@ pub enum Next {
         len: usize,
     },
     /// No entry; so many bytes at the front, of whole lines, begin one.
-    Stop { len: usize },
+    Stop {
+        len: usize,
+    },
 }
 
 /// The entry with which a text begins, if its lines are just those that are printed of it.

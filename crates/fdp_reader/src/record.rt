@@ -27,11 +27,7 @@ pub struct Printed {
 
 /// The entries of a record, and how much of it is the output; or the first line after which no record goes on. A line may have any length. It
 /// takes time that grows with the text, and prints each entry once.
-pub fn read_record(
-    alloc: Global,
-    text: &[u8],
-    config: &DriveConfig,
-) -> Result<Printed, RecordFault>
+pub fn read_record(alloc: Global, text: &[u8], config: &DriveConfig) -> Result<Printed, RecordFault>
     requires { IsValidConfig config.now }
     ensures ok { IfOk result (IsPrinted config.now text.now) }
     ensures fault { IfErr result (IsRecordCause config.now text.now) }
