@@ -22,6 +22,7 @@ use Rattle.fdp_prints.specs.Reader.{block_in, bytes_in, lines_in, reply_in, succ
 use Rattle.fdp_prints.proofs.Cutting.{HasNone, after-is, before-is}
 use Rattle.fdp_prints.proofs.Data.{block-back, drop-bytes, indented, show-block, show-bytes, sized, take-bytes}
 use Rattle.fdp_prints.proofs.Digits.{bytes-back}
+use Rattle.fdp_prints.proofs.Lines.{no-data}
 use Rattle.fdp_prints.proofs.Sizes.{blocks-sized, dwords-sized}
 use Rattle.fdp_prints.proofs.Visible.{AllShow, no_feed}
 use Rattle.fdp_reader.specs.Form.{AreLines, IsLine, text_of}
@@ -169,8 +170,12 @@ by-success c command true x lines more later is lx h hl e = success-alike c comm
 by-success c command false x lines more later is lx h hl e = (more, ap (data_text command) (sym (nil_from_length x lx)) ∙ e)
 
 pub data-alike : (c : DriveConfig) (e : Entry) (lines : List (List ℕ)) (more later : List ℕ) → IsBlockSize c.block → IsTold c e → AreLines lines
-    → entry_data e ≡ text_of lines ++ more → GoesOn (entry_data (with_bytes (told_bytes c (with_bytes [] e) (text_of lines ++ later)) (with_bytes [] e))) lines
-data-alike c (entries.Host h) lines more later is t hl e = by-success c h.command (is_success h.reply.status) h.reply.bytes lines more later is t.reply.size t.reply.bytes hl e
+    → entry_data c.block e ≡ text_of lines ++ more → GoesOn (entry_data c.block (with_bytes (told_bytes c (with_bytes [] e) (text_of lines ++ later)) (with_bytes [] e))) lines
+data-alike c (entries.Host h) lines more later is t hl e =
+    let none = no-data c.block h.command t.command in
+    let own : data_text h.command h.reply.bytes ≡ text_of lines ++ more = ap (λ (own : List ℕ). own ++ data_text h.command h.reply.bytes) (sym none) ∙ e in
+    let a = by-success c h.command (is_success h.reply.status) h.reply.bytes lines more later is t.reply.size t.reply.bytes hl own in
+    subst (λ (own : List ℕ). GoesOn (own ++ data_text h.command (if is_success h.reply.status then success_in c h.command (text_of lines ++ later) else [])) lines) (sym none) a
 data-alike c (entries.Started s) lines more later is t hl e = (more, e)
 data-alike c (entries.Placed p) lines more later is t hl e = (more, e)
 data-alike c (entries.Copied x) lines more later is t hl e = (more, e)

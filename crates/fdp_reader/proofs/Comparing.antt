@@ -16,16 +16,16 @@ use Rattle.fdp_reader.proofs.Cuts.{line-cut}
 use Rattle.fdp_reader.proofs.Ending.{stop-first, stop-here}
 use Rattle.fdp_reader.proofs.Fronts.{no-line}
 
-pub entry-found : (c : DriveConfig) (text : List ℕ) (x : ℕ × Entry) (lines : List ℕ) → IsBlockSize c.block → first_entry c text ≡ Ok x → lines ≡ entry_lines x.0 x.1 → Begins text lines true → IsEntry c text x.0 x.1 (length lines)
+pub entry-found : (c : DriveConfig) (text : List ℕ) (x : ℕ × Entry) (lines : List ℕ) → IsBlockSize c.block → first_entry c text ≡ Ok x → lines ≡ entry_lines c.block x.0 x.1 → Begins text lines true → IsEntry c text x.0 x.1 (length lines)
 entry-found c text x lines is read print begins = record {
   told = first-told c text x is read;
   len_is = ap (λ (t : List ℕ). length t) print;
   text_is = begins ∙ ap (λ (t : List ℕ). t ++ drop (length lines) text) print;
 }
 
-pub entry-lost : (c : DriveConfig) (text : List ℕ) (x : ℕ × Entry) (lines : List ℕ) (len : ℕ) → IsBlockSize c.block → first_entry c text ≡ Ok x → lines ≡ entry_lines x.0 x.1 → Begins text lines false → SameLines lines text len → StopsAt c text len
+pub entry-lost : (c : DriveConfig) (text : List ℕ) (x : ℕ × Entry) (lines : List ℕ) (len : ℕ) → IsBlockSize c.block → first_entry c text ≡ Ok x → lines ≡ entry_lines c.block x.0 x.1 → Begins text lines false → SameLines lines text len → StopsAt c text len
 entry-lost c text x lines len is read print other s =
-    let apart = λ (more : List ℕ) (e : text ≡ entry_lines x.0 x.1 ++ more). other more (e ∙ ap (λ (t : List ℕ). t ++ more) (sym print)) in
+    let apart = λ (more : List ℕ) (e : text ≡ entry_lines c.block x.0 x.1 ++ more). other more (e ∙ ap (λ (t : List ℕ). t ++ more) (sym print)) in
     record {
       lines = s.same.lines;
       rest = s.rest;

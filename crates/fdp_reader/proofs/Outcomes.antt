@@ -80,5 +80,5 @@ whole-outcome c text place rest traces p is walks closing r queues len =
       record { output = out; count = size; record_is = own },
       λ traces' output entries other.
           let o = place-one c text traces rest w traces' output entries other in
-          (queues ∙ o.0, size ∙ ap (λ (t : List ℕ). length t) (sym o.1), list-one c p.entries.items entries is r.told other.told (sym (append-nil (printed p.entries.items)) ∙ sym r.text_is ∙ sym o.2)),
+          (queues ∙ o.0, size ∙ ap (λ (t : List ℕ). length t) (sym o.1), list-one c p.entries.items entries is r.told other.told (sym (append-nil (printed c.block p.entries.items)) ∙ sym r.text_is ∙ sym o.2)),
     )

@@ -56,11 +56,11 @@ digit-stops (b ∷ bs) e =
 row-digit : (p : ℕ) (e : Entry) → p < 2 ^ 64 → begins_with_digit (entry_row p e) ≡ true
 row-digit p e lt = ap begins_with_digit (spaced_is (decimal p) (words e)) ∙ digit-first p (spaced_behind (words e)) lt
 
-print-stops : (c : DriveConfig) (traces : ℕ) (zs : List (ℕ × Entry)) → AreTold c zs → Stops c (places.Closing traces) (printed zs)
+print-stops : (c : DriveConfig) (traces : ℕ) (zs : List (ℕ × Entry)) → AreTold c zs → Stops c (places.Closing traces) (printed c.block zs)
 unfolding step
 print-stops c traces [] told line more is e = absurd (no-end line more (sym e))
 print-stops c traces (z ∷ zs) told line more is e =
-    let own = line-cut (entry_row z.0 z.1) line (entry_data z.1 ++ printed zs) more (row-line c z.0 z.1 told.0.0 told.0.1) is (sym (entry-cut z.0 z.1 (printed zs)) ∙ e) in
+    let own = line-cut (entry_row z.0 z.1) line (entry_data c.block z.1 ++ printed c.block zs) more (row-line c z.0 z.1 told.0.0 told.0.1) is (sym (entry-cut c z.0 z.1 (printed c.block zs) told.0.1) ∙ e) in
     let stops : is_closing line ≡ false = ap is_closing (sym own.0) ∙ digit-stops (entry_row z.0 z.1) (row-digit z.0 z.1 told.0.0) in
     rw stops refl
 
@@ -74,14 +74,14 @@ stops-alike c p line a b is s l more is-l e = let own = line-cut line l b more i
 record IsOutput (c : DriveConfig) (lines : List (List ℕ)) (place : Place) (rest : List ℕ) (traces : ℕ) (output : List ℕ) (entries : List (ℕ × Entry)) : Type 0 where
   pub place_is : place ≡ places.Closing traces
   pub output_is : output ≡ text_of lines
-  pub rest_is : printed entries ≡ rest
+  pub rest_is : printed c.block entries ≡ rest
 
 output-is : (c : DriveConfig) (lines : List (List ℕ)) (place : Place) (rest : List ℕ) (text : List ℕ) (traces : ℕ) (output : List ℕ) (entries : List (ℕ × Entry)) → AreLines lines → walk c places.Start lines ≡ Some place → Stops c place rest
     → text ≡ text_of lines ++ rest → IsRecord c text traces output entries → IsOutput c lines place rest traces output entries
 output-is c lines place rest text traces output entries hl steps stops is r =
     let f = r.form in
-    let e : text_of lines ++ rest ≡ text_of f.lines ++ printed entries = sym is ∙ r.text_is ∙ ap (λ (t : List ℕ). t ++ printed entries) f.text in
-    let w = one-way c places.Start place (places.Closing traces) lines f.lines rest (printed entries) hl f.whole steps f.steps stops (print-stops c traces entries r.told) e in
+    let e : text_of lines ++ rest ≡ text_of f.lines ++ printed c.block entries = sym is ∙ r.text_is ∙ ap (λ (t : List ℕ). t ++ printed c.block entries) f.text in
+    let w = one-way c places.Start place (places.Closing traces) lines f.lines rest (printed c.block entries) hl f.whole steps f.steps stops (print-stops c traces entries r.told) e in
     record { place_is = w.place; output_is = f.text ∙ ap text_of (sym w.lines); rest_is = sym w.rest }
 
 -- ---- an output that does not come to its end
@@ -228,11 +228,11 @@ pub record-is : (c : DriveConfig) (text : List ℕ) (traces : ℕ) (later : List
 record-is c text traces later w entries r = record {
   form = form-of c traces w.walks.lines w.walks.whole w.walks.steps;
   told = r.told;
-  text_is = w.walks.text_is ∙ ap (λ (t : List ℕ). text_of w.walks.lines ++ t) (r.text_is ∙ append-nil (printed entries));
+  text_is = w.walks.text_is ∙ ap (λ (t : List ℕ). text_of w.walks.lines ++ t) (r.text_is ∙ append-nil (printed c.block entries));
 }
 
 pub place-one : (c : DriveConfig) (text : List ℕ) (traces : ℕ) (later : List ℕ) (w : WalksTo c text (places.Closing traces) later) (traces' : ℕ) (output : List ℕ) (entries : List (ℕ × Entry)) → IsRecord c text traces' output entries
-    → (traces ≡ traces') × (output ≡ text_of w.walks.lines) × (printed entries ≡ later)
+    → (traces ≡ traces') × (output ≡ text_of w.walks.lines) × (printed c.block entries ≡ later)
 place-one c text traces later w traces' output entries r =
     let v = w.walks in
     let o = output-is c v.lines (places.Closing traces) later text traces' output entries v.whole v.steps w.stops v.text_is r in

@@ -16,8 +16,8 @@ Begins text front false = (more : List ℕ) → text ≡ front ++ more → ⊥
 -- a text begins with the lines of an entry that its print tells whole
 pub record IsEntry (c : DriveConfig) (text : List ℕ) (position : ℕ) (entry : Entry) (len : ℕ) : Type 0 where
   pub told : IsToldAt c (position, entry)
-  pub len_is : len ≡ length (entry_lines position entry)
-  pub text_is : text ≡ entry_lines position entry ++ drop len text
+  pub len_is : len ≡ length (entry_lines c.block position entry)
+  pub text_is : text ≡ entry_lines c.block position entry ++ drop len text
 
 -- no print of entries goes on behind these lines of a text: they begin one, and with the next line they begin none; and the text is none
 pub record IsEnd (c : DriveConfig) (text : List ℕ) (lines : List (List ℕ)) (rest : List ℕ) : Type 0 where
@@ -26,9 +26,9 @@ pub record IsEnd (c : DriveConfig) (text : List ℕ) (lines : List (List ℕ)) (
   pub entries : List (ℕ × Entry)
   pub told : AreTold c entries
   pub more : List ℕ
-  pub begins : printed entries ≡ text_of lines ++ more
-  pub ends : (line later more : List ℕ) (zs : List (ℕ × Entry)) → IsLine line → rest ≡ line ++ 10 ∷ later → AreTold c zs → printed zs ≡ text_of lines ++ line ++ 10 ∷ more → ⊥
-  pub none : (zs : List (ℕ × Entry)) → AreTold c zs → printed zs ≡ text → 0 < length text → ⊥
+  pub begins : printed c.block entries ≡ text_of lines ++ more
+  pub ends : (line later more : List ℕ) (zs : List (ℕ × Entry)) → IsLine line → rest ≡ line ++ 10 ∷ later → AreTold c zs → printed c.block zs ≡ text_of lines ++ line ++ 10 ∷ more → ⊥
+  pub none : (zs : List (ℕ × Entry)) → AreTold c zs → printed c.block zs ≡ text → 0 < length text → ⊥
 
 -- a text stops to be a print behind so many bytes
 pub record StopsAt (c : DriveConfig) (text : List ℕ) (len : ℕ) : Type 0 where
@@ -45,4 +45,4 @@ IsNext c text (nexts.Stop len) = StopsAt c text len
 -- a text is the print of these entries, and then another text
 pub record AreRead (c : DriveConfig) (text : List ℕ) (entries : List (ℕ × Entry)) (rest : List ℕ) : Type 0 where
   pub told : AreTold c entries
-  pub text_is : text ≡ printed entries ++ rest
+  pub text_is : text ≡ printed c.block entries ++ rest

@@ -12,7 +12,7 @@ use Rattle.fdp_reader.specs.Form.{AreLines, IsForm, IsLine, text_of}
 pub record IsRecord (c : DriveConfig) (text : List ℕ) (traces : ℕ) (output : List ℕ) (entries : List (ℕ × Entry)) : Type 0 where
   pub form : IsForm c traces output
   pub told : AreTold c entries
-  pub text_is : text ≡ output ++ printed entries
+  pub text_is : text ≡ output ++ printed c.block entries
 
 -- a text is some record
 abbrev pub IsSome : DriveConfig → List ℕ → Type 0

@@ -52,7 +52,7 @@ fn compared(
     ensures { IfOk result (IsNext config.now text.now) }
 {
     let mut printed = Vec::new(alloc);
-    push_entry(position, &entry, &mut printed)?;
+    push_entry(config.block, position, &entry, &mut printed)?;
     let lines = printed.as_slice();
     if begins(text, lines) {
         let len = lines.len();

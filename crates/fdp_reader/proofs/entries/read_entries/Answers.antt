@@ -11,7 +11,7 @@ returns-in-Stop c =
     let text = c.args.text.now in
     let inv = c.loop-rest.invariant in
     let some : 0 < length rest = some-left rest (sym c.loop-rest-test.ensures) in
-    let len = front-len text (printed c.loop-rest.entries.items) rest inv.text_is in
+    let len = front-len text (printed c.args.config.now.block c.loop-rest.entries.items) rest inv.text_is in
     let stops = subst (IsNext c.args.config.now rest) c.in-Stop.is c.in_ok-next.ensures in (
       stop-behind c.args.config.now text c.loop-rest.entries.items rest (length text - length rest) c.in-Stop.len c.requires.ranges.block inv some (omega (arith, len)) stops,
       omega (arith, len, some),
