@@ -1,7 +1,7 @@
 #!/bin/sh
 # Turns traces into streams by `encode_command`, and serves both, each on an image of its own that goes on from trace to trace: what `stream` prints has to be what `run` prints, and what
 # `stream-record` prints what `record` does. The traces are those of examples/, on drives with blocks of 512 and of 4,096 bytes, and random ones over every command, as those of
-# bench/images.sh. A line whose command has no frame, as a create, is left out of both. It takes the program of `fdp_binary_rows` that was built here, and the program that ./fdpdrive runs.
+# bench/images.sh. A line whose command has no frame, as a create, or whose frame makes the stream longer than one may be, is left out of both. It takes the program of `fdp_binary_rows` that was built here, and the program that ./fdpdrive runs.
 # Usage: bench/streams.sh [COUNT [SEED]]: so many random traces, 500 if not given. The last line counts the traces; where one differed, the status is 1.
 set -eu
 top=$(cd "$(dirname "$0")/.." && pwd)
