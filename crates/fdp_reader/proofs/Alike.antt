@@ -1,9 +1,9 @@
 -- What is read of a text depends on its lines one by one: where a text begins as the print of an entry does, so does the print of what is read of it.
-use Rattle.std.proofs.Common.{◌≡◌, ℕ, zero, suc, ◌+◌, ◌-◌, ◌*◌, ◌/◌, ◌^◌, ◌<◌, ◌≤◌, min, Bool, true, false, List, [], ◌∷◌, ◌++◌, length, take, drop, map, refl, sym, ap, subst, ◌∙◌, append_assoc, arith, inl, inr, Result, Ok, Err}
-use Rattle.std.specs.Prelude.{codes, decimal, if◌then◌else◌}
-use Rattle.std.specs.List.{AllByRecursion, before_first, after_first, flat_map}
+use Rattle.std.proofs.Common.{◌≡◌, ℕ, zero, suc, ◌-◌, ◌*◌, ◌/◌, ◌<◌, ◌≤◌, min, Bool, true, false, List, [], ◌∷◌, ◌++◌, length, take, drop, refl, sym, ap, subst, ◌∙◌, append_assoc, arith, inl, inr}
+use Rattle.std.specs.Prelude.{codes, if◌then◌else◌}
+use Rattle.std.specs.List.{before_first, after_first, flat_map}
 use Rattle.std.proofs.lemmas.Bool.{cases_lt}
-use Rattle.std.proofs.lemmas.List.{append-nil, append_cancel_left, length-append, length-drop, length-take, nil_from_length, take_all}
+use Rattle.std.proofs.lemmas.List.{append-nil, length-append, length-drop, length-take, nil_from_length, take_all}
 use Rattle.std.proofs.lemmas.Nat.{div-mul-add}
 use Rattle.std.proofs.Math.Seq.{take-append_seam, drop-append_seam}
 use Rattle.fdp_base.specs.declared.command.Command.{Command}
@@ -11,21 +11,20 @@ use Rattle.fdp_base.specs.declared.command.Command.TheVariants as commands
 use Rattle.fdp_base.specs.declared.config.DriveConfig.{DriveConfig}
 use Rattle.fdp_base.specs.declared.entry.Entry.{Entry}
 use Rattle.fdp_base.specs.declared.entry.Entry.TheVariants as entries
-use Rattle.fdp_base.specs.declared.status.Status.{Status}
 use Rattle.fdp_base.specs.Geometry.{IsBlockSize}
-use Rattle.fdp_base.specs.Text.{hex_bytes, spaced}
-use Rattle.fdp_output.specs.HistoryText.{entry_data, entry_lines, entry_words}
+use Rattle.fdp_base.specs.Text.{hex_bytes}
+use Rattle.fdp_output.specs.HistoryText.{entry_data, entry_words}
 use Rattle.fdp_output.specs.Output.{block_line, block_lines, block_text, data_line, data_lines, data_text, pieces_of}
 use Rattle.fdp_trace.specs.Reader.FrontOf.{is_line_feed}
-use Rattle.fdp_prints.specs.Told.{AreBytes, IsTold, data_size, is_success, reply_size}
-use Rattle.fdp_prints.specs.Reader.{block_in, bytes_in, lines_in, reply_in, success_in, told_bytes, with_bytes}
-use Rattle.fdp_prints.proofs.Cutting.{HasNone, after-is, before-is}
+use Rattle.fdp_prints.specs.Told.{AreBytes, IsTold, data_size, is_success}
+use Rattle.fdp_prints.specs.Reader.{block_in, bytes_in, lines_in, success_in, told_bytes, with_bytes}
+use Rattle.fdp_prints.proofs.Cutting.{after-is, before-is}
 use Rattle.fdp_prints.proofs.Data.{block-back, drop-bytes, indented, show-block, show-bytes, sized, take-bytes}
 use Rattle.fdp_prints.proofs.Digits.{bytes-back}
 use Rattle.fdp_prints.proofs.Lines.{no-data}
 use Rattle.fdp_prints.proofs.Sizes.{blocks-sized, dwords-sized}
 use Rattle.fdp_prints.proofs.Visible.{AllShow, no_feed}
-use Rattle.fdp_reader.specs.Form.{AreLines, IsLine, text_of}
+use Rattle.fdp_reader.specs.Form.{AreLines, text_of}
 use Rattle.fdp_reader.proofs.Cuts.{first-cut, line-cut, some-line}
 
 -- ---- pieces

@@ -1,5 +1,5 @@
 -- An entry that was read, compared with its print.
-use Rattle.std.proofs.Common.{◌≡◌, ℕ, ◌+◌, ◌<◌, true, false, List, [], ◌∷◌, ◌++◌, length, drop, Ok, Err, Some, None, refl, sym, ap, subst, ◌∙◌, arith}
+use Rattle.std.proofs.Common.{◌≡◌, ℕ, true, false, List, [], ◌++◌, length, drop, Ok, Err, Some, None, refl, sym, ap, ◌∙◌}
 use Rattle.fdp_base.specs.declared.config.DriveConfig.{DriveConfig}
 use Rattle.fdp_base.specs.declared.entry.Entry.{Entry}
 use Rattle.fdp_base.specs.Geometry.{IsBlockSize}
@@ -9,7 +9,7 @@ use Rattle.fdp_prints.specs.Reader.{first_entry}
 use Rattle.fdp_prints.proofs.Typed.{first-told}
 use Rattle.fdp_reader.specs.declared.place.Place.{Place}
 use Rattle.fdp_reader.specs.declared.place.Place.TheVariants as places
-use Rattle.fdp_reader.specs.Form.{IsLine, Stops, Walks, WalksTo, queues_of, step, text_of}
+use Rattle.fdp_reader.specs.Form.{IsLine, Stops, queues_of, step}
 use Rattle.fdp_reader.specs.Lines.{IsNextLine, SameLines}
 use Rattle.fdp_reader.specs.Next.{Begins, IsEntry, StopsAt}
 use Rattle.fdp_reader.proofs.Cuts.{line-cut}

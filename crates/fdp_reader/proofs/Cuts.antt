@@ -1,7 +1,6 @@
 -- Texts of whole lines, compared line by line.
-use Rattle.std.proofs.Common.{◌≡◌, ◌≢◌, ◌⊎◌, inl, inr, ⊎_elim, ℕ, ◌+◌, List, [], ◌∷◌, ◌++◌, length, refl, sym, ap, subst, ◌∙◌, append_assoc, arith}
-use Rattle.std.specs.List.{AllByRecursion, before_first, after_first, flat_map}
-use Rattle.std.proofs.lemmas.List.{append-nil, append_cancel_left}
+use Rattle.std.proofs.Common.{◌≡◌, ◌⊎◌, inl, inr, ⊎_elim, ℕ, List, [], ◌∷◌, ◌++◌, refl, sym, ap, ◌∙◌, append_assoc}
+use Rattle.std.specs.List.{before_first, after_first}
 use Rattle.fdp_trace.specs.Reader.FrontOf.{is_line_feed}
 use Rattle.fdp_prints.proofs.Cutting.{after-is, before-is}
 use Rattle.fdp_reader.specs.Form.{AreLines, IsLine, ended, text_of}

@@ -1,8 +1,8 @@
 -- Where a text stops to be the print of entries.
-use Rattle.std.proofs.Common.{◌≡◌, ◌⊎◌, inl, inr, ⊎_elim, ℕ, ◌+◌, ◌/◌, ◌^◌, ◌<◌, ◌≤◌, Bool, true, false, List, [], ◌∷◌, ◌++◌, length, drop, refl, sym, ap, subst, ◌∙◌, append_assoc, arith, Result, Ok, Err}
+use Rattle.std.proofs.Common.{◌≡◌, ⊎_elim, ℕ, ◌/◌, ◌^◌, ◌<◌, List, [], ◌∷◌, ◌++◌, length, refl, sym, ap, subst, ◌∙◌, append_assoc, arith, Result, Ok, Err}
 use Rattle.std.specs.Prelude.{codes, decimal}
-use Rattle.std.specs.List.{AllByRecursion, before_first, after_first, flat_map}
-use Rattle.std.proofs.lemmas.List.{append-nil, append_cancel_left, length-append}
+use Rattle.std.specs.List.{flat_map}
+use Rattle.std.proofs.lemmas.List.{append-nil, append_cancel_left}
 use Rattle.fdp_base.specs.declared.command.Command.{Command}
 use Rattle.fdp_base.specs.declared.command.Command.TheVariants as commands
 use Rattle.fdp_base.specs.declared.config.DriveConfig.{DriveConfig}
@@ -13,19 +13,15 @@ use Rattle.fdp_base.specs.Text.{hex_bytes, spaced}
 use Rattle.fdp_output.specs.HistoryText.{entry_data, entry_lines, entry_words}
 use Rattle.fdp_output.specs.Output.{block_lines, block_text, data_lines, data_text, pieces_of}
 use Rattle.fdp_trace.specs.declared.fault.FaultKind.{FaultKind}
-use Rattle.fdp_trace.specs.Reader.FrontOf.{is_line_feed}
-use Rattle.fdp_trace.specs.Reader.Reading.{◌>>=◌}
-use Rattle.fdp_trace.specs.Words.{words_of}
 use Rattle.fdp_prints.specs.Told.{AreTold, IsTold, IsToldAt, printed}
-use Rattle.fdp_prints.specs.Reader.{first_entry, placed_entry, told_bytes, with_bytes}
-use Rattle.fdp_prints.proofs.Cutting.{HasNone, after-is, before-is}
-use Rattle.fdp_prints.proofs.Lines.{entry-cut, entry-one, entry_row, first-back, no-data, one-row, read-behind, row-cut, row-line}
+use Rattle.fdp_prints.specs.Reader.{first_entry, told_bytes, with_bytes}
+use Rattle.fdp_prints.proofs.Lines.{entry-cut, entry_row, first-back, no-data, one-row, read-behind, row-cut, row-line}
 use Rattle.fdp_prints.proofs.Data.{indented, show-block, show-bytes}
 use Rattle.fdp_prints.proofs.Typed.{ok-one}
 use Rattle.fdp_prints.proofs.Visible.{AllShow, no_feed}
 use Rattle.fdp_reader.specs.Form.{AreLines, IsLine, text_of}
-use Rattle.fdp_reader.specs.Lines.{AreApart, HaveLines}
-use Rattle.fdp_reader.specs.Next.{Begins, IsEnd}
+use Rattle.fdp_reader.specs.Lines.{AreApart}
+use Rattle.fdp_reader.specs.Next.{IsEnd}
 use Rattle.fdp_reader.proofs.Alike.{GoesOn, data-alike, words-kept}
 use Rattle.fdp_reader.proofs.Cuts.{IsBeyond, IsWithin, compared, first-cut, line-cut, line-more, lines-append, lines-parts, no-end, text-append}
 

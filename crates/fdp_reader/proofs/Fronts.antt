@@ -1,15 +1,14 @@
 -- The lines at the front of a text.
-use Rattle.std.proofs.Common.{◌≡◌, ◌≢◌, ℕ, zero, suc, ◌+◌, ◌-◌, ◌<◌, ◌≤◌, Bool, true, false, cond, List, [], ◌∷◌, ◌++◌, length, get_or, take, drop, refl, sym, ap, subst, ◌∙◌, append_assoc, arith, ne_eqb}
+use Rattle.std.proofs.Common.{◌≡◌, ℕ, ◌+◌, ◌-◌, ◌<◌, ◌≤◌, Bool, true, false, cond, List, [], ◌∷◌, ◌++◌, length, take, drop, refl, sym, ap, subst, ◌∙◌, append_assoc, arith, ne_eqb}
 use Rattle.std.specs.Prelude.{bytes_eq, count_by, ◌==◌}
-use Rattle.std.specs.List.{AllByRecursion, flat_map}
-use Rattle.std.proofs.lemmas.List.{append-nil, append_cancel_left, length-append, take-append-drop}
+use Rattle.std.proofs.lemmas.List.{length-append, take-append-drop}
 use Rattle.std.proofs.lemmas.List.Sums.{sum_by-cons}
 use Rattle.std.proofs.lemmas.Slice.Eq.{bytes_eq-Decides}
 use Rattle.fdp_trace.specs.Reader.FrontOf.{is_line_feed}
 use Rattle.fdp_reader.specs.Form.{AreLines, IsLine, text_of}
 use Rattle.fdp_reader.specs.Lines.{AreApart, HaveLines, IsNextLine, SameLines}
 use Rattle.fdp_reader.specs.Next.{Begins}
-use Rattle.fdp_reader.proofs.Cuts.{first-cut, line-cut, line-more, lines-append, text-append}
+use Rattle.fdp_reader.proofs.Cuts.{line-cut, line-more, lines-append}
 
 -- ---- lines that two texts have
 

@@ -1,19 +1,19 @@
 -- What a text comes to.
-use Rattle.std.proofs.Common.{◌≡◌, ℕ, ◌+◌, ◌-◌, ◌<◌, ◌≤◌, List, [], ◌∷◌, ◌++◌, length, take, Result, Ok, Err, Some, None, refl, sym, ap, subst, ◌∙◌, append_assoc, arith}
+use Rattle.std.proofs.Common.{◌≡◌, ℕ, ◌+◌, ◌-◌, ◌<◌, ◌≤◌, List, [], ◌++◌, length, take, Result, Ok, Err, Some, None, sym, ap, subst, ◌∙◌, append_assoc, arith}
 use Rattle.std.specs.Prelude.{IfOk, IfErr, count_by}
 use Rattle.std.proofs.lemmas.List.{append-nil, length-append}
 use Rattle.fdp_base.specs.declared.config.DriveConfig.{DriveConfig}
 use Rattle.fdp_base.specs.declared.entry.Entry.{Entry}
 use Rattle.fdp_base.specs.Geometry.{IsBlockSize}
 use Rattle.fdp_trace.specs.Reader.FrontOf.{is_line_feed}
-use Rattle.fdp_prints.specs.Told.{AreTold, printed}
+use Rattle.fdp_prints.specs.Told.{printed}
 use Rattle.fdp_prints.proofs.Lines.{list-one}
 use Rattle.fdp_reader.specs.declared.fault.RecordFault.{RecordFault}
 use Rattle.fdp_reader.specs.declared.fault.RecordFault.TheVariants as faults
 use Rattle.fdp_reader.specs.declared.place.Place.{Place}
 use Rattle.fdp_reader.specs.declared.place.Place.TheVariants as places
 use Rattle.fdp_reader.specs.declared.record.Printed.{Printed}
-use Rattle.fdp_reader.specs.Form.{AreLines, WalksTo, queues_of, text_of}
+use Rattle.fdp_reader.specs.Form.{WalksTo, queues_of, text_of}
 use Rattle.fdp_reader.specs.Next.{AreRead, StopsAt}
 use Rattle.fdp_reader.specs.Record.{GivesRecord, IsFaultLine, IsOutcome, IsPrinted, IsRecord, IsRecordCause}
 use Rattle.fdp_reader.proofs.Comparing.{closing-is, not-closing}

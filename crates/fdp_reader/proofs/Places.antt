@@ -1,5 +1,5 @@
 -- What stands before a place, and behind it.
-use Rattle.std.proofs.Common.{◌≡◌, ℕ, ◌+◌, ◌-◌, ◌<◌, ◌≤◌, Bool, List, [], length, take, drop, sym, ap, ◌∙◌, arith}
+use Rattle.std.proofs.Common.{◌≡◌, ℕ, ◌+◌, ◌-◌, Bool, List, [], length, take, drop, sym, ap, ◌∙◌, arith}
 use Rattle.std.specs.List.{before_first, after_first, position_or_len}
 use Rattle.std.proofs.lemmas.List.{nil_from_length, length-drop, take_all}
 use Rattle.std.proofs.lemmas.List.Sums.{position_or_len_is}

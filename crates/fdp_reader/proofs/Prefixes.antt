@@ -1,15 +1,14 @@
 -- Prints of entries, one behind another.
-use Rattle.std.proofs.Common.{◌≡◌, ℕ, ◌+◌, ◌^◌, ◌<◌, List, [], ◌∷◌, ◌++◌, length, refl, sym, ap, subst, ◌∙◌, append_assoc, arith}
-use Rattle.std.specs.List.{AllByRecursion, flat_map}
-use Rattle.std.proofs.lemmas.List.{append-nil, append_cancel_left, length-append}
+use Rattle.std.proofs.Common.{◌≡◌, ℕ, ◌+◌, ◌<◌, List, [], ◌∷◌, ◌++◌, length, refl, sym, ap, ◌∙◌, append_assoc, arith}
+use Rattle.std.proofs.lemmas.List.{append-nil, length-append}
 use Rattle.fdp_base.specs.declared.config.DriveConfig.{DriveConfig}
 use Rattle.fdp_base.specs.declared.entry.Entry.{Entry}
 use Rattle.fdp_base.specs.Geometry.{IsBlockSize}
 use Rattle.fdp_output.specs.HistoryText.{entry_data, entry_lines}
-use Rattle.fdp_prints.specs.Told.{AreTold, IsTold, IsToldAt, printed}
+use Rattle.fdp_prints.specs.Told.{AreTold, IsToldAt, printed}
 use Rattle.fdp_prints.proofs.Lines.{entry-cut, entry-one, entry_row}
-use Rattle.fdp_reader.specs.Form.{AreLines, IsLine, text_of}
-use Rattle.fdp_reader.specs.Next.{AreRead, IsEnd, StopsAt}
+use Rattle.fdp_reader.specs.Form.{text_of}
+use Rattle.fdp_reader.specs.Next.{AreRead, StopsAt}
 use Rattle.fdp_reader.proofs.Cuts.{lines-append, no-end, text-append}
 use Rattle.fdp_reader.proofs.Ending.{IsWhole, entry-whole, whole-append}
 

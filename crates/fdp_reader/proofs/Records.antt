@@ -1,34 +1,30 @@
 -- Where a text stops to be a record.
-use Rattle.std.proofs.Common.{◌≡◌, ◌≢◌, ℕ, zero, suc, ◌+◌, ◌^◌, ◌<◌, ◌≤◌, Bool, true, false, ◌&&◌, nat_le, nat_lt, List, [], ◌∷◌, ◌++◌, length, get_or, take, drop, Option, Some, None, refl, sym, ap, subst, ◌∙◌, append_assoc, arith, inl, inr, eq-eqb, not}
-use Rattle.std.specs.Prelude.{codes, decimal, bytes_eq, count_by, if◌then◌else◌, ◌==◌}
-use Rattle.std.specs.List.{AllByRecursion, flat_map, list_all}
-use Rattle.std.specs.Option.{option_map_or}
+use Rattle.std.proofs.Common.{◌≡◌, ℕ, ◌+◌, ◌^◌, ◌<◌, ◌≤◌, Bool, true, false, ◌&&◌, nat_le, List, [], ◌∷◌, ◌++◌, length, get_or, take, Some, refl, sym, ap, subst, ◌∙◌, append_assoc, arith, inl, inr, eq-eqb, not}
+use Rattle.std.specs.Prelude.{codes, decimal, bytes_eq, ◌==◌}
+use Rattle.std.specs.List.{list_all}
 use Rattle.std.proofs.lemmas.Bool.{cases_Bool}
 use Rattle.std.proofs.lemmas.Bool.Decides.{nat_tests}
-use Rattle.std.proofs.lemmas.List.{append-nil, length-append}
+use Rattle.std.proofs.lemmas.List.{append-nil}
 use Rattle.std.proofs.lemmas.Slice.Eq.{bytes_eq-Decides}
 use Rattle.std.proofs.lemmas.Fmt.{decimal_by_steps}
 use Rattle.fdp_base.specs.declared.config.DriveConfig.{DriveConfig}
 use Rattle.fdp_base.specs.declared.entry.Entry.{Entry}
-use Rattle.fdp_base.specs.Config.{IsValidConfig}
-use Rattle.fdp_base.specs.Geometry.{IsBlockSize}
-use Rattle.fdp_output.specs.HistoryText.{entry_data, entry_lines}
-use Rattle.fdp_trace.specs.Reader.FrontOf.{is_line_feed}
-use Rattle.fdp_prints.specs.Told.{AreTold, IsTold, IsToldAt, printed}
+use Rattle.fdp_output.specs.HistoryText.{entry_data}
+use Rattle.fdp_prints.specs.Told.{AreTold, printed}
 use Rattle.fdp_prints.proofs.Lines.{entry-cut, entry_row, row-line}
 use Rattle.fdp_prints.proofs.Reading.{words}
 use Rattle.fdp_prints.proofs.Cutting.{none-append}
-use Rattle.fdp_prints.proofs.Visible.{all_by_test, no_feed, show-decimal}
+use Rattle.fdp_prints.proofs.Visible.{no_feed, show-decimal}
 use Rattle.fdp_trace.specs.Printer.{spaced_behind}
 use Rattle.fdp_trace.proofs.Spelling.{spaced_is}
 use Rattle.fdp_reader.specs.declared.place.Place.{Place}
 use Rattle.fdp_reader.specs.declared.place.Place.TheVariants as places
-use Rattle.fdp_reader.specs.Form.{AreLines, IsForm, IsLine, Stops, Walks, WalksTo, begins, begins_with_digit, is_closing, is_queue, is_stats, step, text_of, walk}
-use Rattle.fdp_reader.specs.Next.{AreRead, IsEnd, StopsAt}
-use Rattle.fdp_reader.specs.Record.{IsFaultLine, IsRecord, IsSome}
-use Rattle.fdp_reader.proofs.Cuts.{first-cut, line-cut, line-more, lines-append, no-end, text-append}
+use Rattle.fdp_reader.specs.Form.{AreLines, IsForm, IsLine, Stops, WalksTo, begins_with_digit, is_closing, step, text_of, walk}
+use Rattle.fdp_reader.specs.Next.{AreRead, StopsAt}
+use Rattle.fdp_reader.specs.Record.{IsFaultLine, IsRecord}
+use Rattle.fdp_reader.proofs.Cuts.{first-cut, line-cut, lines-append, no-end, text-append}
 use Rattle.fdp_reader.proofs.Prefixes.{regroup}
-use Rattle.fdp_reader.proofs.Walking.{IsOneWay, one-way, walk-on, walk-one}
+use Rattle.fdp_reader.proofs.Walking.{one-way, walk-on, walk-one}
 
 -- ---- a history stops an output
 

@@ -1,5 +1,5 @@
 -- The steps of the loops that read.
-use Rattle.std.proofs.Common.{◌≡◌, ℕ, zero, suc, ◌+◌, ◌-◌, ◌*◌, ◌%◌, ◌<◌, ◌≤◌, min, List, [], ◌∷◌, ◌++◌, length, take, drop, refl, sym, ap, ◌∙◌, append_assoc, arith, Result, Ok, Err}
+use Rattle.std.proofs.Common.{◌≡◌, ℕ, zero, suc, ◌+◌, ◌-◌, ◌%◌, ◌<◌, min, List, [], ◌∷◌, ◌++◌, take, drop, refl, sym, ap, ◌∙◌, append_assoc, arith, Result, Ok, Err}
 use Rattle.std.specs.List.{before_first, after_first}
 use Rattle.std.proofs.lemmas.List.{append-nil}
 use Rattle.fdp_base.specs.declared.entry.BlockName.{BlockName}

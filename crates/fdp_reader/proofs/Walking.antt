@@ -1,12 +1,11 @@
 -- Lines lead one way, and no further than where they stop.
-use Rattle.std.proofs.Common.{◌≡◌, ℕ, ◌+◌, List, [], ◌∷◌, ◌++◌, Option, Some, None, refl, sym, ap, subst, ◌∙◌, append_assoc}
+use Rattle.std.proofs.Common.{◌≡◌, ℕ, List, [], ◌∷◌, ◌++◌, Option, Some, None, refl, sym, ap, subst, ◌∙◌, append_assoc}
 use Rattle.std.specs.Option.{option_map_or}
 use Rattle.fdp_base.specs.declared.config.DriveConfig.{DriveConfig}
 use Rattle.fdp_reader.specs.declared.place.Place.{Place}
 use Rattle.fdp_reader.specs.declared.place.Place.TheVariants as places
 use Rattle.fdp_reader.specs.Form.{AreLines, IsLine, Stops, Walks, step, text_of, walk}
-use Rattle.fdp_reader.proofs.Cuts.{first-cut, line-cut, line-more, lines-append, text-append}
-use Rattle.std.proofs.lemmas.List.{append-nil}
+use Rattle.fdp_reader.proofs.Cuts.{first-cut, line-cut, line-more, lines-append}
 
 some-next : (f : Place → Option Place) (o : Option Place) (q : Place) → option_map_or f o None ≡ Some q → (n : Place) × (o ≡ Some n) × (f n ≡ Some q)
 some-next f None q e = absurd cc

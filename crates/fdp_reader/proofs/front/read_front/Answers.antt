@@ -1,4 +1,4 @@
-use Rattle.std.proofs.Common.{◌∙◌, sym}
+use Rattle.std.proofs.Common.{sym}
 use Rattle.fdp_reader.proofs.Comparing.{stops-end, stops-here}
 use Rattle.fdp_reader.proofs.Walking.{walks-more, walks-none}
 use Rattle.fdp_reader.proofs.front.read_front.Goals as goal

@@ -1,5 +1,5 @@
 use Rattle.std.proofs.Common.{arith}
-use Rattle.fdp_reader.proofs.Fronts.{begins-by, begins-not}
+use Rattle.fdp_reader.proofs.Fronts.{begins-by}
 use Rattle.fdp_reader.proofs.next.begins.Goals as goal
 
 pub returns : goal.returns
