@@ -49,6 +49,10 @@ impl fmt::Display for Advice<'_> {
             write_trace(f, self.words, cause)
         } else if let Some(cause) = self.fault.strip_prefix("12 stream ") {
             write_stream(f, self.words, cause)
+        } else if let Some(cause) = self.fault.strip_prefix("14 record ") {
+            write_record(f, self.words, cause)
+        } else if let Some(cause) = self.fault.strip_prefix("13 ") {
+            write_verdict(f, self.words, cause)
         } else if let Some(cause) = self.fault.strip_prefix("4 image ") {
             write_image(f, self.words, cause, self.values)
         } else {
@@ -69,7 +73,7 @@ fn write_call<W: fmt::Write>(
             word_at(words, 2)
         ),
         "6 source" => f.write_str(
-            "a configuration, a trace or a stream cannot be read: name files that can be",
+            "a configuration, a trace, a stream or a record cannot be read: name files that can be",
         ),
         "9 turns" => f.write_str(
             "the traces need more than the 1,073,741,824 steps of a run: make them shorter, and begin with a copy of the image",
@@ -209,6 +213,57 @@ fn write_frame<W: fmt::Write>(f: &mut fmt::Formatter<W>, name: &str, cause: &str
         f,
         "the frame {place} of the stream `{name}` {found}: docs/STREAMS.md has the frames byte by byte"
     )
+}
+
+fn write_record<W: fmt::Write>(
+    f: &mut fmt::Formatter<W>,
+    words: &[String],
+    cause: &str,
+) -> fmt::Result {
+    let name = word_at(words, 2);
+    match cause {
+        "absent" => write!(f, "the record `{name}` is not there: name a file that is"),
+        "long" => write!(
+            f,
+            "the record `{name}` has more than {LONGEST_TRACE} bytes: audit a shorter run"
+        ),
+        line => write!(
+            f,
+            "with line {line} of `{name}` no record goes on: docs/REFERENCE.md has the form of each line"
+        ),
+    }
+}
+
+/// What is wrong with a record: an entry of its history, or its output.
+fn write_verdict<W: fmt::Write>(
+    f: &mut fmt::Formatter<W>,
+    words: &[String],
+    cause: &str,
+) -> fmt::Result {
+    let name = word_at(words, 2);
+    match cause.split_once(' ') {
+        Some(("output", line)) => write!(
+            f,
+            "line {line} of `{name}` is not that of the output that its history gives: docs/AUDIT.md says what is compared"
+        ),
+        Some((_, entry)) => write_entry(f, name, entry),
+        None => f.write_str(cause),
+    }
+}
+
+/// What is wrong with an entry: the position that is due, and the rule under which the entry falls.
+fn write_entry<W: fmt::Write>(f: &mut fmt::Formatter<W>, name: &str, entry: &str) -> fmt::Result {
+    match entry.split_once(' ') {
+        Some((at, "0")) => write!(
+            f,
+            "where the entry with position {at} is due in `{name}` stands one with another: docs/AUDIT.md has what a history is"
+        ),
+        Some((at, why)) => write!(
+            f,
+            "entry {at} of `{name}` is none that may follow those before it, by rule {why}: docs/AUDIT.md has the rules"
+        ),
+        None => f.write_str(entry),
+    }
 }
 
 fn write_line<W: fmt::Write>(f: &mut fmt::Formatter<W>, name: &str, cause: &str) -> fmt::Result {

@@ -24,9 +24,10 @@ impl fmt::Display for Usage<'_> {
             "stream" => write_names(f, "stream", "stream", others),
             "stream-record" => write_names(f, "stream-record", "stream", others),
             "make" => write_load(f, others),
+            "audit" => write_audit(f, others),
             _ => write!(
                 f,
-                "the first word `{form}` is none of run, record, stream, stream-record and make: {HELP}"
+                "the first word `{form}` is none of run, record, stream, stream-record, make and audit: {HELP}"
             ),
         }
     }
@@ -80,4 +81,14 @@ fn write_load<W: fmt::Write>(f: &mut fmt::Formatter<W>, words: &[String]) -> fmt
         [_, _, word, ..] => write!(f, "the word `{word}` is one too many")?,
     }
     f.write_str("\nusage: fdpdrive make NUMBER IMAGE")
+}
+
+fn write_audit<W: fmt::Write>(f: &mut fmt::Formatter<W>, words: &[String]) -> fmt::Result {
+    match words {
+        [] => f.write_str("a configuration is wanting behind `audit`")?,
+        [config] => write!(f, "a record is wanting behind `{config}`")?,
+        [_, _, word, ..] => write!(f, "the word `{word}` is one too many")?,
+        _ => f.write_str("the words have no form")?,
+    }
+    f.write_str("\nusage: fdpdrive audit CONFIG RECORD")
 }

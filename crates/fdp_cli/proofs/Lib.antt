@@ -1,4 +1,3 @@
 pub mod Benches
 pub mod GoingOn
 pub mod Shown
-pub mod Telling

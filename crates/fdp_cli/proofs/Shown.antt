@@ -64,7 +64,8 @@ use Rattle.fdp_rules.specs.Queue.{KeepsQueueOrder}
 use Rattle.fdp_rules.specs.Step.{IsQueue}
 use Rattle.fdp_cli.specs.Loading.{of_opening}
 use Rattle.fdp_cli.specs.Session.{CountsSame, IsRun, StaysIsolated, StaysOpen}
-use Rattle.fdp_cli.specs.Top.{EndsRun, PrintsText, Refuses, Shows, text_in, text_of}
+use Rattle.fdp_cli.specs.Refusing.{Refuses}
+use Rattle.fdp_cli.specs.Top.{EndsRun, PrintsText, Shows, text_in, text_of}
 use Rattle.fdp_base.specs.EntryKinds.{ServesNone}
 
 -- ---- the beginning

@@ -1,5 +1,5 @@
 -- The status of a run, what the sink then holds, and what becomes of its flash.
-use Rattle.std.specs.Prelude.{String, ◌≡◌, ◌⊎◌, ℕ, List, length}
+use Rattle.std.specs.Prelude.{String, ◌≡◌, ◌⊎◌, ℕ, Err, List, length}
 use Rattle.std.specs.declared.alloc.Global.{Global}
 use Rattle.fdp_base.specs.declared.command.Command.{Command}
 use Rattle.fdp_base.specs.declared.config.DriveConfig.{DriveConfig}
@@ -11,8 +11,7 @@ use Rattle.fdp_finding.specs.declared.asked.Form.{Form}
 use Rattle.fdp_finding.specs.declared.asked.Form.TheVariants as forms
 use Rattle.fdp_finding.specs.declared.fault.Fault.{Fault}
 use Rattle.fdp_finding.specs.declared.fault.Fault.TheVariants as faults
-use Rattle.fdp_finding.specs.Faults.{fault_text, status_of}
-use Rattle.fdp_finding.specs.Wanted.{CountsSource, Finds, Lacks, Sought, session}
+use Rattle.fdp_finding.specs.Wanted.{CountsSource, Finds, Lacks, Sought, audited, session}
 use Rattle.fdp_flash.specs.FlashState.{FlashState}
 use Rattle.fdp_io.specs.declared.bench.NotTaken.TheVariants as refusals
 use Rattle.fdp_io.specs.Bench.{BenchState, HandsOut, KeepsFlash, PutsBack, SameFlashes}
@@ -25,14 +24,12 @@ use Rattle.fdp_drive.specs.fdp_recovery.declared.opened.OpenFault.{OpenFault}
 use Rattle.fdp_rules.specs.History.{Found}
 use Rattle.fdp_drive.specs.fdp_workers.declared.ends.End.{End}
 use Rattle.fdp_drive.specs.fdp_workers.declared.ends.End.TheVariants as ends
+use Rattle.fdp_audit.specs.declared.fault.AuditFault.{AuditFault}
+use Rattle.fdp_audit.specs.Audit.{GivesYes, IsAuditCause, IsAudited}
 use Rattle.fdp_cli.specs.Loading.{of_opening}
+use Rattle.fdp_cli.specs.Refusing.{Refuses}
 use Rattle.fdp_cli.specs.Session.{IsCut, IsRecordOf}
-
--- the line of the fault was printed; or a write of the sink failed
-abbrev pub Refuses : SinkState → SinkState → Fault → ℕ → Type 0
-Refuses old new fault status =
-    ((status ≡ status_of fault) × Holds old new (fault_text fault))
-    ⊎ ((status ≡ 8) × HoldsFront old new (fault_text fault))
+use Rattle.fdp_cli.specs.Verdict.{of_audit, yes_text}
 
 -- ---- on a flash
 
@@ -103,11 +100,29 @@ OnImage state bench bench' c image Ends old new status =
     ⊎ (KeepsFlash bench bench' refusals.Failed × Refuses old new faults.Flash status)
     ⊎ (KeepsFlash bench bench' refusals.NoMemory × (status ≡ 7) × (new ≡ old))
 
+-- ---- over a record
+
+-- that a history of so many entries is right was printed (0); or a write of the sink failed (8)
+abbrev pub SaysYes : ℕ → SinkState → SinkState → ℕ → Type 0
+SaysYes count old new status = ((status ≡ 0) × Holds old new (yes_text count)) ⊎ ((status ≡ 8) × HoldsFront old new (yes_text count))
+
+-- a text is not such a record, and the line of the first cause was printed (13, 14 or 8); or memory was wanting (7), and only then may it be one
+pub record SaysNo (c : DriveConfig) (text : List ℕ) (old new : SinkState) (status : ℕ) : Type 0 where
+  pub fault : AuditFault
+  pub cause : IsAuditCause c text fault
+  pub none : (count : ℕ) → IsAudited c text count → GivesYes count (Err fault)
+  pub refused : Refuses old new (of_audit fault) status
+
+-- a text is the record of a legal history of a fresh drive of this configuration, and its number of entries was printed; or it is none
+abbrev pub Audits : DriveConfig → List ℕ → SinkState → SinkState → ℕ → Type 0
+Audits c text old new status = ((count : ℕ) × IsAudited c text count × SaysYes count old new status) ⊎ SaysNo c text old new status
+
 -- ---- the whole run
 
--- what is done with what was found: the traces of a session are served on its image, and shown in its form
+-- what is done with what was found: the traces of a session are served on its image, and shown in its form; a record is audited, and nothing else is touched
 abbrev pub Does : {F : Type 0} → (F → FlashState) → BenchState → BenchState → Sought → SinkState → SinkState → ℕ → Type 0
 Does state bench bench' (session form c image traces) old new status = OnImage state bench bench' c image (EndsRun state form c traces) old new status
+Does state bench bench' (audited c text) old new status = SameFlashes bench bench' × (bench'.faults ≡ bench.faults) × Audits c text old new status
 
 -- what the words ask for was found, and that was done
 abbrev pub FindsAndDoes : {F : Type 0} → (F → FlashState) → BenchState → BenchState → List (String Global) → SinkState → SinkState → ℕ → Type 0

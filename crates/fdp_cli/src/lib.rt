@@ -5,7 +5,9 @@ mod closing;
 mod exit;
 mod laws;
 mod loading;
+mod refusing;
 mod top;
+mod verdict;
 
 pub use exit::drive_process;
 pub use laws::{a_second_run_goes_on, a_second_run_opens};

@@ -7,13 +7,16 @@ ghost use Rattle.fdp_make.specs.Summary.{summary_text, unrefuted_blocks};
 ghost use Rattle.fdp_printing.specs.Closing.{IsClosing};
 ghost use Rattle.fdp_printing.specs.Printing.{CountsCut, Prints};
 ghost use Rattle.fdp_rules.specs.History.{Found, point_of};
-ghost use Rattle.fdp_cli.specs.Top.{Answers, EndsRun, OnImage, PrintsText, Refuses, Shows, text_in, text_of};
+ghost use Rattle.fdp_cli.specs.Refusing.{Refuses};
+ghost use Rattle.fdp_cli.specs.Top.{Answers, EndsRun, OnImage, PrintsText, Shows, text_in, text_of};
 
 use crate::closing::closing_of;
 use crate::loading::fault_of;
+use crate::refusing::refuse;
+use crate::verdict::judge;
 use fdp_base::{Command, DriveConfig, Entry};
 use fdp_drive::{End, Group, NotLoaded, SessionEnd, run_session};
-use fdp_finding::{Fault, Form, Wanted, find, write_fault};
+use fdp_finding::{Fault, Form, Task, Wanted, find};
 use fdp_flash::Flash;
 use fdp_io::{Bench, Gate, NotTaken, Sink, write_all};
 use fdp_make::{push_summary, summary_of};
@@ -24,14 +27,17 @@ use std::thread::Threads;
 
 /// Serves the traces or streams that the words ask for on the drive in the image that they name, which is made where there is none, each by a host of its own in its
 /// queue, with the collectors that the configuration asks for beside them; prints the output, for `record` and `stream-record` with the history behind it, for `make`
-/// a summary in its place, and answers the status of the run:
+/// a summary in its place. For `audit` it serves nothing, but judges a record by a configuration, and prints how many entries its history has. It answers the
+/// status of the run:
 ///
-/// - 0: the traces were served, and the sink took the whole text.
+/// - 0: the traces were served, or the record is right, and the sink took the whole text.
 /// - 1, 2, 3, 4, 5, 6: what [`Fault`] says; the sink took the line of the fault.
 /// - 7: memory was wanting.
 /// - 8: a write of the sink failed.
 /// - 9: the traces need more steps than a drive may make; the sink took the line of that fault.
 /// - 12: a stream is none; the sink took the line of that fault.
+/// - 13: an entry of a record is none that may follow those before it, or its output is not that of its history; the sink took the line of that fault.
+/// - 14: a text is no record; the sink took the line of that fault.
 ///
 /// A flash that was taken is given back, whatever the status.
 pub fn drive_top<B: Bench, K: Sink, G: Gate + Sync, R: Threads + Wait + Sync>(
@@ -50,21 +56,9 @@ pub fn drive_top<B: Bench, K: Sink, G: Gate + Sync, R: Threads + Wait + Sync>(
     ensures answers { Answers B.F.state (B.state bench.old) (B.state bench.new) words.now (K.state sink.old) (K.state sink.new) result }
 {
     match find(alloc, words, bench) {
-        Ok(wanted) => run(rt, alloc, wanted, bench, sink, gate),
+        Ok(Task::Serve(wanted)) => run(rt, alloc, wanted, bench, sink, gate),
+        Ok(Task::Audit(found)) => judge(alloc, &found, sink),
         Err(fault) => refuse(fault, sink),
-    }
-}
-
-/// Prints the line of a fault. It takes no memory, so that no fault is answered as want of it.
-fn refuse<K: Sink>(fault: Fault, sink: &mut K) -> u8
-    ensures told { (K.state sink.new).told ≡ (K.state sink.old).told }
-    ensures faults { (K.state sink.old).faults ≤ (K.state sink.new).faults }
-    ensures unfailing { result ≢ 8 → (K.state sink.new).faults ≡ (K.state sink.old).faults }
-    ensures refuses { Refuses (K.state sink.old) (K.state sink.new) fault result }
-{
-    match write_fault(sink, &fault) {
-        Ok(()) => fault.status(),
-        Err(_failed) => 8,
     }
 }
 

@@ -18,8 +18,8 @@ use Rattle.clap.specs.declared.parser.matches.ArgMatches.{ArgMatches}
 use Rattle.clap.specs.declared.error.kind.ErrorKind.{ErrorKind}
 use Rattle.clap.specs.declared.error.kind.ErrorKind.TheVariants as kinds
 use Rattle.clap.specs.declared.parser.matches.ValueSource.TheVariants.{CommandLine}
-use Rattle.fdp_finding.specs.Asked.{Load, Names, begins_with_dash, names_of, pair_of}
-use Rattle.fdp_finding.specs.CommandLine.{AreLoad, AreNames, bare, one, one_to_sixteen}
+use Rattle.fdp_finding.specs.Asked.{Names, Pair, begins_with_dash, names_of, pair_of}
+use Rattle.fdp_finding.specs.CommandLine.{AreNames, ArePair, bare, one, one_to_sixteen}
 use Rattle.clap.proofs.FaultLemmas.{leaf_fault}
 use Rattle.clap.proofs.WalkLemmas.{both, first_value-rows, raw_values-rows}
 use Rattle.clap.proofs.OnLiterals.{clap_on_literals}
@@ -83,16 +83,16 @@ fails_as s several position word h plain =
 abbrev pub names_app : App
 names_app = with_rule (with_rule (with_rule bare (one (codes "CONFIG"))) (one (codes "IMAGE"))) (one_to_sixteen (codes "TRACE"))
 
-abbrev pub load_app : App
-load_app = with_rule (with_rule bare (one (codes "NUMBER"))) (one (codes "IMAGE"))
+abbrev pub pair_app : App
+pair_app = with_rule (with_rule bare (one (codes "FIRST"))) (one (codes "SECOND"))
 
 pub names_simple : is_simple_and_free names_app ≡ true
 unfolding clap_on_literals
 names_simple = refl
 
-pub load_simple : is_simple_and_free load_app ≡ true
+pub pair_simple : is_simple_and_free pair_app ≡ true
 unfolding clap_on_literals
-load_simple = refl
+pair_simple = refl
 
 -- ---- names
 
@@ -312,85 +312,85 @@ decides_names (c ∷ i ∷ t ∷ ts) none =
     (first_plain (begins_with_dash i) (begins_with_dash t || list_any begins_with_dash ts) second) (first_plain (begins_with_dash t) (list_any begins_with_dash ts) third)
     (rest_plain (begins_with_dash t) (list_any begins_with_dash ts) third) (nat_le (suc (length ts)) 16) refl
 
--- ---- a load
+-- ---- a pair
 
-abbrev load_shape : Shape
-load_shape = (built load_app).top
+abbrev pair_shape : Shape
+pair_shape = (built pair_app).top
 
--- what is found of a load
-abbrev pub load_rows : Load → List Row
-load_rows load = row (codes "NUMBER") (load.number ∷ []) ∷ row (codes "IMAGE") (load.image ∷ []) ∷ []
+-- what is found of a pair
+abbrev pub pair_rows : Pair → List Row
+pair_rows pair = row (codes "FIRST") (pair.first ∷ []) ∷ row (codes "SECOND") (pair.second ∷ []) ∷ []
 
-abbrev pub DecidesLoad : List Text → Type 0
-DecidesLoad words = Reads load_app load_rows (pair_of words) words ⊎ Refuses load_app (pair_of words) words
+abbrev pub DecidesPair : List Text → Type 0
+DecidesPair words = Reads pair_app pair_rows (pair_of words) words ⊎ Refuses pair_app (pair_of words) words
 
-no_pair : DecidesLoad []
+no_pair : DecidesPair []
 unfolding clap_on_literals
 no_pair = inr (record { none = refl; kind = kinds.MissingRequiredArgument; more = []; fails = refl })
 
-numbered_walk : (n : Text) → begins_with_dash n ≡ false → walked load_shape.rules [] (walk_from nothing_held) n ≡ between (pending [] (codes "NUMBER") (n ∷ [])) false 2
-numbered_walk n plain = goes_on load_shape.rules false 1 n nothing_held plain
+numbered_walk : (n : Text) → begins_with_dash n ≡ false → walked pair_shape.rules [] (walk_from nothing_held) n ≡ between (pending [] (codes "FIRST") (n ∷ [])) false 2
+numbered_walk n plain = goes_on pair_shape.rules false 1 n nothing_held plain
 
 abbrev paired : Text → Text → Held
-paired n i = pending (row (codes "NUMBER") (n ∷ []) ∷ []) (codes "IMAGE") (i ∷ [])
+paired n i = pending (row (codes "FIRST") (n ∷ []) ∷ []) (codes "SECOND") (i ∷ [])
 
-paired_walk : (n i : Text) → begins_with_dash i ≡ false → walked load_shape.rules [] (between (pending [] (codes "NUMBER") (n ∷ [])) false 2) i ≡ between (paired n i) false 3
-paired_walk n i plain = goes_on load_shape.rules false 2 i (pending [] (codes "NUMBER") (n ∷ [])) plain
+paired_walk : (n i : Text) → begins_with_dash i ≡ false → walked pair_shape.rules [] (between (pending [] (codes "FIRST") (n ∷ [])) false 2) i ≡ between (paired n i) false 3
+paired_walk n i plain = goes_on pair_shape.rules false 2 i (pending [] (codes "FIRST") (n ∷ [])) plain
 
-one_of_pair : (n : Text) → begins_with_dash n ≡ false → DecidesLoad (n ∷ [])
+one_of_pair : (n : Text) → begins_with_dash n ≡ false → DecidesPair (n ∷ [])
 unfolding clap_on_literals
 one_of_pair n first = inr (record {
   none = refl;
   kind = kinds.MissingRequiredArgument;
   more = [];
-  fails = fails_at_end load_app (n ∷ []) (between (pending [] (codes "NUMBER") (n ∷ [])) false 2) refl refl (numbered_walk n first)
-      (ap (λ k. or_else k []) (fails_as load_shape false 1 n nothing_held first));
+  fails = fails_at_end pair_app (n ∷ []) (between (pending [] (codes "FIRST") (n ∷ [])) false 2) refl refl (numbered_walk n first)
+      (ap (λ k. or_else k []) (fails_as pair_shape false 1 n nothing_held first));
 })
 
-pair_walks : (n i : Text) → begins_with_dash n ≡ false → begins_with_dash i ≡ false → walk load_shape.rules [] nothing_held (n ∷ i ∷ []) ≡ between (paired n i) false 3
-pair_walks n i first second = ap (λ (w : Walk). walked load_shape.rules [] w i) (numbered_walk n first) ∙ paired_walk n i second
+pair_walks : (n i : Text) → begins_with_dash n ≡ false → begins_with_dash i ≡ false → walk pair_shape.rules [] nothing_held (n ∷ i ∷ []) ≡ between (paired n i) false 3
+pair_walks n i first second = ap (λ (w : Walk). walked pair_shape.rules [] w i) (numbered_walk n first) ∙ paired_walk n i second
 
 pair_passes : (n i : Text) (more : List Text) → begins_with_dash n ≡ false → begins_with_dash i ≡ false
-    → walk_fault load_shape [] (walk_from nothing_held) (n ∷ i ∷ more) ≡ walk_fault load_shape [] (between (paired n i) false 3) more
+    → walk_fault pair_shape [] (walk_from nothing_held) (n ∷ i ∷ more) ≡ walk_fault pair_shape [] (between (paired n i) false 3) more
 unfolding walk_fault
 pair_passes n i more first second =
-    ap₂ or_else (fails_as load_shape false 1 n nothing_held first) (ap (λ (w : Walk). walk_fault load_shape [] w (i ∷ more)) (numbered_walk n first))
-    ∙ ap₂ or_else (fails_as load_shape false 2 i (pending [] (codes "NUMBER") (n ∷ [])) second) (ap (λ (w : Walk). walk_fault load_shape [] w more) (paired_walk n i second))
+    ap₂ or_else (fails_as pair_shape false 1 n nothing_held first) (ap (λ (w : Walk). walk_fault pair_shape [] w (i ∷ more)) (numbered_walk n first))
+    ∙ ap₂ or_else (fails_as pair_shape false 2 i (pending [] (codes "FIRST") (n ∷ [])) second) (ap (λ (w : Walk). walk_fault pair_shape [] w more) (paired_walk n i second))
 
-a_pair : (n i : Text) → begins_with_dash n ≡ false → begins_with_dash i ≡ false → DecidesLoad (n ∷ i ∷ [])
+a_pair : (n i : Text) → begins_with_dash n ≡ false → begins_with_dash i ≡ false → DecidesPair (n ∷ i ∷ [])
 unfolding clap_on_literals
 a_pair n i first second = inl (record {
-  value = record { number = n; image = i };
+  value = record { first = n; second = i };
   is = refl;
-  passes = fails_at_end load_app (n ∷ i ∷ []) (between (paired n i) false 3) refl refl (pair_walks n i first second) (pair_passes n i [] first second);
-  rows = ap (λ (w : Walk). finished load_shape.rules w.held) (pair_walks n i first second);
+  passes = fails_at_end pair_app (n ∷ i ∷ []) (between (paired n i) false 3) refl refl (pair_walks n i first second) (pair_passes n i [] first second);
+  rows = ap (λ (w : Walk). finished pair_shape.rules w.held) (pair_walks n i first second);
 })
 
 -- a third word is one too many
 three_fail : (n i t : Text) (more : List Text) → begins_with_dash n ≡ false → begins_with_dash i ≡ false → begins_with_dash t ≡ false
-    → walk_fault load_shape [] (walk_from nothing_held) (n ∷ i ∷ t ∷ more) ≡ kinds.UnknownArgument ∷ []
+    → walk_fault pair_shape [] (walk_from nothing_held) (n ∷ i ∷ t ∷ more) ≡ kinds.UnknownArgument ∷ []
 unfolding walk_fault
 three_fail n i t more first second third =
     pair_passes n i (t ∷ more) first second
-    ∙ ap (λ k. or_else k (walk_fault load_shape [] (walked load_shape.rules [] (between (paired n i) false 3) t) more)) (fails_as load_shape false 3 t (paired n i) third)
+    ∙ ap (λ k. or_else k (walk_fault pair_shape [] (walked pair_shape.rules [] (between (paired n i) false 3) t) more)) (fails_as pair_shape false 3 t (paired n i) third)
 
-too_many : (n i t : Text) (more : List Text) → begins_with_dash n ≡ false → begins_with_dash i ≡ false → begins_with_dash t ≡ false → DecidesLoad (n ∷ i ∷ t ∷ more)
+too_many : (n i t : Text) (more : List Text) → begins_with_dash n ≡ false → begins_with_dash i ≡ false → begins_with_dash t ≡ false → DecidesPair (n ∷ i ∷ t ∷ more)
 too_many n i t more first second third = inr (record {
   none = refl;
   kind = kinds.UnknownArgument;
   more = [];
-  fails = leaf_fault (built load_app) nothing_held (n ∷ i ∷ t ∷ more) refl
-      ∙ ap (λ k. or_else k (ends load_shape (walk load_shape.rules [] nothing_held (n ∷ i ∷ t ∷ more)).held)) (three_fail n i t more first second third);
+  fails = leaf_fault (built pair_app) nothing_held (n ∷ i ∷ t ∷ more) refl
+      ∙ ap (λ k. or_else k (ends pair_shape (walk pair_shape.rules [] nothing_held (n ∷ i ∷ t ∷ more)).held)) (three_fail n i t more first second third);
 })
 
 -- clap reads a pair exactly where the words are two
-pub decides_load : (words : List Text) → Plain words → DecidesLoad words
-decides_load [] none = no_pair
-decides_load (n ∷ []) none = one_of_pair n (first_plain (begins_with_dash n) false none)
-decides_load (n ∷ i ∷ []) none =
+pub decides_pair : (words : List Text) → Plain words → DecidesPair words
+decides_pair [] none = no_pair
+decides_pair (n ∷ []) none = one_of_pair n (first_plain (begins_with_dash n) false none)
+decides_pair (n ∷ i ∷ []) none =
     a_pair n i (first_plain (begins_with_dash n) (begins_with_dash i || false) none)
     (first_plain (begins_with_dash i) false (rest_plain (begins_with_dash n) (begins_with_dash i || false) none))
-decides_load (n ∷ i ∷ t ∷ ts) none =
+decides_pair (n ∷ i ∷ t ∷ ts) none =
     let second = rest_plain (begins_with_dash n) (begins_with_dash i || (begins_with_dash t || list_any begins_with_dash ts)) none in
     let third = rest_plain (begins_with_dash i) (begins_with_dash t || list_any begins_with_dash ts) second in
     too_many n i t ts (first_plain (begins_with_dash n) (begins_with_dash i || (begins_with_dash t || list_any begins_with_dash ts)) none)
@@ -418,7 +418,7 @@ module _ {X : Type 0} (a : App) (rows : X → List Row) (found : Option X) (word
   refuses (Err e) (inl read) (inr among) = λ other. absurd (subst (IsAmong (kind_of e)) read.passes among)
   refuses (Err e) (inr refused) fails = λ other. refused.none
 
--- the rows of names and of a load, as the getters give them
+-- the rows of names and of a pair, as the getters give them
 pub are_names : (m : ArgMatches) (names : Names) → rows_of (found_of m) ≡ names_rows names → AreNames m names
 are_names m names is = record {
   config = first_value-rows (found_of m) (codes "CONFIG") ∙ ap (first_of (codes "CONFIG")) is;
@@ -426,8 +426,8 @@ are_names m names is = record {
   traces = raw_values-rows (found_of m) (codes "TRACE") ∙ ap (all_of (codes "TRACE")) is;
 }
 
-pub are_load : (m : ArgMatches) (load : Load) → rows_of (found_of m) ≡ load_rows load → AreLoad m load
-are_load m load is = record {
-  number_is = first_value-rows (found_of m) (codes "NUMBER") ∙ ap (first_of (codes "NUMBER")) is;
-  image_is = first_value-rows (found_of m) (codes "IMAGE") ∙ ap (first_of (codes "IMAGE")) is;
+pub are_pair : (m : ArgMatches) (pair : Pair) → rows_of (found_of m) ≡ pair_rows pair → ArePair m pair
+are_pair m pair is = record {
+  first_is = first_value-rows (found_of m) (codes "FIRST") ∙ ap (first_of (codes "FIRST")) is;
+  second_is = first_value-rows (found_of m) (codes "SECOND") ∙ ap (first_of (codes "SECOND")) is;
 }

@@ -5,3 +5,4 @@ pub mod Formed
 pub mod Loads
 pub mod Parts
 pub mod Texts
+pub mod Records

@@ -1,5 +1,5 @@
 -- Traces and streams that are read one after another.
-use Rattle.std.proofs.Common.{◌≡◌, ℕ, ◌+◌, ◌<◌, ◌≤◌, IsTrue, List, [], ◌∷◌, ◌++◌, length, take, map, get_or, refl, sym, ap, subst, ◌∙◌, arith, zero, suc, false, is_err, is_ok, Result, Ok, Err}
+use Rattle.std.proofs.Common.{◌≡◌, ℕ, ◌+◌, ◌<◌, ◌≤◌, IsTrue, List, [], ◌∷◌, ◌++◌, length, take, map, get_or, refl, sym, ap, subst, ◌∙◌, arith, zero, suc, false, is_err, is_ok, Result, Ok, Err, inl}
 use Rattle.std.specs.Prelude.{String, MatchResult, Option, Some, option_and_then, slice_index_or, if◌then◌else◌}
 use Rattle.std.specs.declared.alloc.Global.{Global}
 use Rattle.std.specs.Global.{Vec}
@@ -19,11 +19,13 @@ use Rattle.fdp_finding.specs.declared.fault.Fault.{Fault}
 use Rattle.fdp_finding.specs.declared.fault.Fault.TheVariants as faults
 use Rattle.fdp_finding.specs.declared.no_stream.NoStream.{NoStream}
 use Rattle.fdp_finding.specs.declared.no_trace.NoTrace.{NoTrace}
-use Rattle.fdp_finding.specs.declared.reading.Wanted.{Wanted}
+use Rattle.fdp_finding.specs.declared.reading.Task.{Task}
+use Rattle.fdp_finding.specs.declared.reading.Task.TheVariants as tasks
 use Rattle.fdp_finding.specs.Asked.{Asked, AsksForTexts, Names, asked_of, texts_of}
 use Rattle.fdp_finding.specs.Configured.{ReadsConfig}
 use Rattle.fdp_finding.specs.Streamed.{IsNoStream, IsStreamText, ReadsNoStream, ReadsStream}
 use Rattle.fdp_finding.specs.Traced.{IsNoTrace, IsServable, IsTraceText, ReadsNoTrace, ReadsTrace}
+use Rattle.fdp_finding.specs.Task.{ServesIf, sought_of}
 use Rattle.fdp_finding.specs.Wanted.{CommandsLack, ConfigLacks, Finds, FindsTexts, HasTexts, IsFirstLacking, Lacks, ReadsCommands, TextsLack, TracesLack, commands_of, session}
 
 abbrev pub Name : Type 0
@@ -62,7 +64,7 @@ named_as_many [] = refl
 named_as_many (name ∷ names) = ap suc (named_as_many names)
 
 -- what is told of a text is told of it as it was
-told_back : (Says : Option (List ℕ) → Type 0) (old mid : BenchState) (name : List ℕ) → SameTexts old mid → (IsTrue mid.told → Says (mid.text name)) → IsTrue old.told → Says (old.text name)
+pub told_back : (Says : Option (List ℕ) → Type 0) (old mid : BenchState) (name : List ℕ) → SameTexts old mid → (IsTrue mid.told → Says (mid.text name)) → IsTrue old.told → Says (old.text name)
 told_back Says old mid name same says told = subst (λ (text : List ℕ → _). Says (text name)) same.texts (says (subst IsTrue (sym same.told_still) told))
 
 reads_back : (kind : Texts) (block : ℕ) (old mid : BenchState) (name : List ℕ) (commands : List Command) → SameTexts old mid → ReadsCommands kind block mid name commands → ReadsCommands kind block old name commands
@@ -147,6 +149,9 @@ none_next kind c old mid new names index traces d faults.Flash before low few la
 none_next kind c old mid new names index traces d faults.Source before low few lacks = subst (λ n. Rose n new.faults) before.faults lacks
 none_next kind c old mid new names index traces d faults.NoMemory before low few lacks = tt
 none_next kind c old mid new names index traces d faults.Turns before low few lacks = absurd lacks
+none_next kind c old mid new names index traces d (faults.Record cause) before low few lacks = absurd lacks
+none_next kind c old mid new names index traces d (faults.Audit at why) before low few lacks = absurd lacks
+none_next kind c old mid new names index traces d (faults.Output line) before low few lacks = absurd lacks
 
 -- ---- the whole search
 
@@ -181,6 +186,9 @@ config_lacking kind old new names faults.Flash lacks = absurd lacks
 config_lacking kind old new names faults.Source lacks = lacks
 config_lacking kind old new names faults.NoMemory lacks = tt
 config_lacking kind old new names faults.Turns lacks = absurd lacks
+config_lacking kind old new names (faults.Record cause) lacks = absurd lacks
+config_lacking kind old new names (faults.Audit at why) lacks = absurd lacks
+config_lacking kind old new names (faults.Output line) lacks = absurd lacks
 
 -- what the traces lack is what the texts lack
 pub traces_lacking : (kind : Texts) (old mid new : BenchState) (names : Names) (c : DriveConfig) (fault : Fault) → SameTexts old mid → mid.faults ≡ old.faults → ReadsConfig old names.config c →
@@ -211,6 +219,9 @@ traces_lacking kind old mid new names c faults.Flash same still read lacks = abs
 traces_lacking kind old mid new names c faults.Source same still read lacks = subst (λ n. Rose n new.faults) still lacks
 traces_lacking kind old mid new names c faults.NoMemory same still read lacks = tt
 traces_lacking kind old mid new names c faults.Turns same still read lacks = absurd lacks
+traces_lacking kind old mid new names c (faults.Record cause) same still read lacks = absurd lacks
+traces_lacking kind old mid new names c (faults.Audit at why) same still read lacks = absurd lacks
+traces_lacking kind old mid new names c (faults.Output line) same still read lacks = absurd lacks
 
 -- the texts of the names were found
 pub texts_found : (kind : Texts) (old mid : BenchState) (names : List Name) (name image : List ℕ) (c : DriveConfig) (traces : List (List Command)) → SameTexts old mid → ReadsConfig old name c → IsValidConfig c →
@@ -226,25 +237,29 @@ texts_found kind old mid names name image c traces same read valid few all = rec
 -- what the texts lack is what the run lacks, where the words ask for them
 run_lacks : (kind : Texts) (old new : BenchState) (words : List (String Global)) (names : Names) (fault : Fault) → AsksForTexts words kind names → TextsLack kind old new names fault → Lacks old new words fault
 run_lacks kind old new words names faults.Usage asked lacks = absurd lacks
-run_lacks kind old new words names (faults.Config cause) asked lacks = record { kind = kind; names = names; asked = asked; lacks = lacks }
+run_lacks kind old new words names (faults.Config cause) asked lacks = inl (record { kind = kind; names = names; asked = asked; lacks = lacks })
 run_lacks kind old new words names (faults.NoQueue trace) asked lacks = record { kind = kind; names = names; asked = asked; lacks = lacks }
 run_lacks kind old new words names (faults.Trace trace cause) asked lacks = record { kind = kind; names = names; asked = asked; lacks = lacks }
 run_lacks kind old new words names (faults.Stream stream cause) asked lacks = record { kind = kind; names = names; asked = asked; lacks = lacks }
 run_lacks kind old new words names (faults.Image cause) asked lacks = absurd lacks
 run_lacks kind old new words names faults.Flash asked lacks = absurd lacks
-run_lacks kind old new words names faults.Source asked lacks = record { kind = kind; names = names; asked = asked; lacks = lacks }
+run_lacks kind old new words names faults.Source asked lacks = inl (record { kind = kind; names = names; asked = asked; lacks = lacks })
 run_lacks kind old new words names faults.NoMemory asked lacks = tt
 run_lacks kind old new words names faults.Turns asked lacks = absurd lacks
+run_lacks kind old new words names (faults.Record cause) asked lacks = absurd lacks
+run_lacks kind old new words names (faults.Audit at why) asked lacks = absurd lacks
+run_lacks kind old new words names (faults.Output line) asked lacks = absurd lacks
 
 -- what was found is what the words ask for, in a form that asks so for such texts
-pub form_answers : (kind : Texts) (form : Form) (asks : Names → Asked) (old new : BenchState) (words : List (String Global)) (names : Names) (r : Result Wanted Fault)
+pub form_answers : (kind : Texts) (form : Form) (asks : Names → Asked) (old new : BenchState) (words : List (String Global)) (names : Names) (r : Result Task Fault)
     → ((c : DriveConfig) (image : List ℕ) (traces : List (List Command)) → FindsTexts kind old words asks c image traces → Finds old words (session form c image traces))
     → texts_of (asks names) ≡ Some (kind, names) → asked_of words ≡ Some (asks names)
-    → MatchResult r (λ found. (found.form ≡ form) × HasTexts kind old names found.config found.image.now (commands_of found.traces.items)) (TextsLack kind old new names)
-    → MatchResult r (λ found. Finds old words (session found.form found.config found.image.now (commands_of found.traces.items))) (Lacks old new words)
-form_answers kind form asks old new words names (Ok found) finds texts asked h =
+    → MatchResult r (ServesIf (λ found. (found.form ≡ form) × HasTexts kind old names found.config found.image.now (commands_of found.traces.items))) (TextsLack kind old new names)
+    → MatchResult r (λ task. Finds old words (sought_of task)) (Lacks old new words)
+form_answers kind form asks old new words names (Ok (tasks.Serve found)) finds texts asked h =
     subst (λ (form : Form). Finds old words (session form found.config found.image.now (commands_of found.traces.items))) (sym h.0)
     (finds found.config found.image.now (commands_of found.traces.items) (record { names = names; asked = asked; found = h.1 }))
+form_answers kind form asks old new words names (Ok (tasks.Audit found)) finds texts asked h = absurd h
 form_answers kind form asks old new words names (Err fault) finds texts asked h = run_lacks kind old new words names fault (ap (option_and_then texts_of) asked ∙ texts) h
 
 -- what was pushed stands at the end

@@ -19,13 +19,24 @@ pub record Load : Type 0 where
   pub number : List ℕ
   pub image : List ℕ
 
--- what is asked for: to serve the traces of these names and print the output, or that and the history; the same of streams; or to serve a generated load
+-- two words
+pub record Pair : Type 0 where
+  pub first : List ℕ
+  pub second : List ℕ
+
+-- the names of a configuration and of a record
+pub record AuditNames : Type 0 where
+  pub config : List ℕ
+  pub text : List ℕ
+
+-- what is asked for: to serve the traces of these names and print the output, or that and the history; the same of streams; to serve a generated load; or to judge a record
 pub data Asked : Type 0 where
   running : Names → Asked
   recording : Names → Asked
   streaming : Names → Asked
   recording_streams : Names → Asked
   making : Load → Asked
+  auditing : AuditNames → Asked
 
 -- a word that begins with `-`
 abbrev pub begins_with_dash : List ℕ → Bool
@@ -45,18 +56,23 @@ abbrev pub is_number : List ℕ → Bool
 is_number digits =
     not (length digits == 0) && nat_le (length digits) LONGEST_NUMBER && list_all is_ascii_digit digits && nat_le (value_of 10 digits) MOST_NUMBER
 
--- the two words behind `make`: a number, and an image
-abbrev pub pair_of : List (List ℕ) → Option Load
+-- the words are two
+abbrev pub pair_of : List (List ℕ) → Option Pair
 pair_of [] = None
-pair_of (number ∷ []) = None
-pair_of (number ∷ image ∷ []) = Some (record { number = number; image = image })
-pair_of (number ∷ image ∷ more ∷ others) = None
+pair_of (first ∷ []) = None
+pair_of (first ∷ second ∷ []) = Some (record { first = first; second = second })
+pair_of (first ∷ second ∷ more ∷ others) = None
 
-abbrev pub numbered : Load → Option Load
-numbered load = if is_number load.number then Some load else None
+-- behind `make`: a number, and an image
+abbrev pub numbered : Pair → Option Load
+numbered pair = if is_number pair.first then Some (record { number = pair.first; image = pair.second }) else None
 
 abbrev pub load_of : List (List ℕ) → Option Load
 load_of words = option_and_then numbered (pair_of words)
+
+-- behind `audit`: a configuration, and a record
+abbrev pub audit_of : List (List ℕ) → Option AuditNames
+audit_of words = option_map (λ (pair : Pair). record { config = pair.first; text = pair.second }) (pair_of words)
 
 -- what the words ask for behind the first, which chooses
 abbrev pub chosen_by : List ℕ → List (List ℕ) → Option Asked
@@ -66,9 +82,10 @@ chosen_by word words =
     else if bytes_eq word (codes "stream") then option_map streaming (names_of words)
     else if bytes_eq word (codes "stream-record") then option_map recording_streams (names_of words)
     else if bytes_eq word (codes "make") then option_map making (load_of words)
+    else if bytes_eq word (codes "audit") then option_map auditing (audit_of words)
     else None
 
--- what the words ask for, where they have one of the five forms and none of them begins with `-`
+-- what the words ask for, where they have one of the six forms and none of them begins with `-`
 abbrev pub asked_by : List (List ℕ) → Option Asked
 asked_by [] = None
 asked_by (word ∷ words) = if list_any begins_with_dash (word ∷ words) then None else chosen_by word words
@@ -83,6 +100,7 @@ texts_of (recording names) = Some (texts.Traces, names)
 texts_of (streaming names) = Some (texts.Streams, names)
 texts_of (recording_streams names) = Some (texts.Streams, names)
 texts_of (making load) = None
+texts_of (auditing names) = None
 
 -- the words ask for these texts
 abbrev pub AsksForTexts : List (String Global) → Texts → Names → Type 0

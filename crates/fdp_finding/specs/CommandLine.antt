@@ -5,6 +5,7 @@ use Rattle.clap.specs.Simple.{on_top}
 use Rattle.clap.specs.Words.{App, Rule, first_value, found_of, matched_of, new_app, new_rule, raw_values}
 use Rattle.clap.specs.declared.parser.matches.ArgMatches.{ArgMatches}
 use Rattle.fdp_trace.specs.Numbers.{value_of}
+use Rattle.fdp_finding.specs.declared.asked.AuditAsked.{AuditAsked}
 use Rattle.fdp_finding.specs.declared.asked.Request.{Request}
 use Rattle.fdp_finding.specs.declared.asked.Request.TheVariants as requests
 use Rattle.fdp_finding.specs.declared.asked.LoadAsked.{LoadAsked}
@@ -12,7 +13,8 @@ use Rattle.fdp_finding.specs.declared.asked.NamesAsked.{NamesAsked}
 use Rattle.fdp_finding.specs.declared.asked.NotAsked.{NotAsked}
 use Rattle.fdp_finding.specs.declared.asked.NotAsked.TheVariants as causes
 use Rattle.fdp_finding.specs.declared.asked.TheConstants.{MOST_NUMBER, MOST_TRACES}
-use Rattle.fdp_finding.specs.Asked.{Asked, Load, Names, making, recording, recording_streams, running, streaming}
+use Rattle.fdp_finding.specs.declared.command_line.PairAsked.{PairAsked}
+use Rattle.fdp_finding.specs.Asked.{Asked, AuditNames, Load, Names, Pair, auditing, making, recording, recording_streams, running, streaming}
 
 -- the texts behind words
 abbrev pub spelled : List (String Global) → List (List ℕ)
@@ -24,10 +26,10 @@ pub record AreNames (m : ArgMatches) (names : Names) : Type 0 where
   pub image : first_value (found_of m) (codes "IMAGE") ≡ Some names.image
   pub traces : option_map raw_values (matched_of (found_of m) (codes "TRACE")) ≡ Some names.traces
 
--- what was matched are a number and an image
-pub record AreLoad (m : ArgMatches) (load : Load) : Type 0 where
-  pub number_is : first_value (found_of m) (codes "NUMBER") ≡ Some load.number
-  pub image_is : first_value (found_of m) (codes "IMAGE") ≡ Some load.image
+-- what was matched are two words
+pub record ArePair (m : ArgMatches) (pair : Pair) : Type 0 where
+  pub first_is : first_value (found_of m) (codes "FIRST") ≡ Some pair.first
+  pub second_is : first_value (found_of m) (codes "SECOND") ≡ Some pair.second
 
 -- a command without a word of its own, and without options
 abbrev pub bare : App
@@ -41,9 +43,15 @@ one id = record (new_rule id) { required = true }
 abbrev pub one_to_sixteen : List ℕ → Rule
 one_to_sixteen id = record (one id) { range = Some (record { start_inclusive = 1; end_inclusive = MOST_TRACES }) }
 
--- names and a load as texts
+-- names, a pair and a load as texts
 abbrev pub as_names : NamesAsked → Names
 as_names names = record { config = names.config.now; image = names.image.now; traces = map (λ name. name.now) names.traces.items }
+
+abbrev pub as_pair : PairAsked → Pair
+as_pair pair = record { first = pair.first.now; second = pair.second.now }
+
+abbrev pub as_audit : AuditAsked → AuditNames
+as_audit audit = record { config = audit.config.now; text = audit.text.now }
 
 abbrev pub as_load : LoadAsked → Load
 as_load load = record { number = load.number.now; image = load.image.now }
@@ -60,6 +68,7 @@ AsksFor found (requests.Record names) = found ≡ Some (recording (as_names name
 AsksFor found (requests.Stream names) = found ≡ Some (streaming (as_names names))
 AsksFor found (requests.StreamRecord names) = found ≡ Some (recording_streams (as_names names))
 AsksFor found (requests.Make load) = (found ≡ Some (making (as_load load))) × Counts load
+AsksFor found (requests.Audit audit) = found ≡ Some (auditing (as_audit audit))
 
 -- nothing is found for a faulty command line; want of memory comes freely
 abbrev pub Misses : {A : Type 0} → Option A → NotAsked → Type 0

@@ -12,6 +12,8 @@ use Rattle.fdp_finding.specs.declared.fault.Fault.{Fault}
 use Rattle.fdp_finding.specs.declared.fault.Fault.TheVariants as faults
 use Rattle.fdp_finding.specs.declared.image.ImageFault.{ImageFault}
 use Rattle.fdp_finding.specs.declared.image.ImageFault.TheVariants as images
+use Rattle.fdp_finding.specs.declared.no_record.NoRecord.{NoRecord}
+use Rattle.fdp_finding.specs.declared.no_record.NoRecord.TheVariants as records
 use Rattle.fdp_finding.specs.declared.no_stream.NoStream.{NoStream}
 use Rattle.fdp_finding.specs.declared.no_stream.NoStream.TheVariants as streams
 use Rattle.fdp_finding.specs.declared.no_trace.NoTrace.{NoTrace}
@@ -38,6 +40,9 @@ status_of faults.Source = 6
 status_of faults.NoMemory = 7
 status_of faults.Turns = 9
 status_of (faults.Stream stream cause) = 12
+status_of (faults.Audit at why) = 13
+status_of (faults.Output line) = 13
+status_of (faults.Record cause) = 14
 
 -- the line where there is no configuration
 abbrev pub config_fault : NoConfig → List ℕ
@@ -74,6 +79,24 @@ no_stream_words (streams.Broken fault) = codes "at " ++ (decimal fault.at ++ (co
 abbrev pub stream_fault : ℕ → List ℕ → List ℕ
 stream_fault number words = codes "fault 12 stream " ++ (decimal number ++ (32 ∷ (words ++ 10 ∷ [])))
 
+-- the words for a text that is no record
+abbrev pub no_record_words : NoRecord → List ℕ
+no_record_words records.Absent = codes "absent"
+no_record_words records.TooLong = codes "long"
+no_record_words (records.Line line) = decimal line
+
+-- the line of such a text
+abbrev pub record_fault : NoRecord → List ℕ
+record_fault cause = codes "fault 14 record " ++ (no_record_words cause ++ 10 ∷ [])
+
+-- the line of an entry that a history does not go on with: the position that is due, and its cause
+abbrev pub audit_fault : ℕ → ℕ → List ℕ
+audit_fault at why = codes "fault 13 audit " ++ (decimal at ++ (32 ∷ (decimal why ++ 10 ∷ [])))
+
+-- the line of an output that is not the one due
+abbrev pub output_fault : ℕ → List ℕ
+output_fault line = codes "fault 13 output " ++ (decimal line ++ 10 ∷ [])
+
 -- the line that a run prints; want of memory has none
 abbrev pub fault_text : Fault → List ℕ
 fault_text faults.Usage = codes "fault 1 usage\n"
@@ -86,3 +109,6 @@ fault_text faults.Source = codes "fault 6 source\n"
 fault_text faults.NoMemory = []
 fault_text faults.Turns = codes "fault 9 turns\n"
 fault_text (faults.Stream stream cause) = stream_fault stream (no_stream_words cause)
+fault_text (faults.Record cause) = record_fault cause
+fault_text (faults.Audit at why) = audit_fault at why
+fault_text (faults.Output line) = output_fault line

@@ -4,6 +4,8 @@ pub mod Configured
 pub mod Faults
 pub mod Limits
 pub mod Line
+pub mod Recorded
 pub mod Streamed
+pub mod Task
 pub mod Traced
 pub mod Wanted

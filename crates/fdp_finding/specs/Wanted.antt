@@ -1,5 +1,5 @@
--- What a run finds to serve: a configuration, an image and traces, which may come as streams; or what it lacks.
-use Rattle.std.specs.Prelude.{String, ◌≡◌, ℕ, ◌+◌, ◌<◌, ◌≤◌, List, [], length, take, map, slice_index_or, Some, None}
+-- What a run finds to serve: a configuration, an image and traces, which may come as streams; or to judge: a configuration and a record; or what it lacks.
+use Rattle.std.specs.Prelude.{String, ◌≡◌, ◌⊎◌, ℕ, ◌+◌, ◌<◌, ◌≤◌, List, [], length, take, map, slice_index_or, Some, None}
 use Rattle.std.specs.Global.{Vec}
 use Rattle.std.specs.List.{AllZip}
 use Rattle.std.specs.declared.alloc.Global.{Global}
@@ -16,10 +16,12 @@ use Rattle.fdp_finding.specs.declared.fault.Fault.{Fault}
 use Rattle.fdp_finding.specs.declared.fault.Fault.TheVariants as faults
 use Rattle.fdp_finding.specs.declared.asked.Texts.{Texts}
 use Rattle.fdp_finding.specs.declared.asked.Texts.TheVariants as texts
+use Rattle.fdp_finding.specs.declared.no_record.NoRecord.{NoRecord}
 use Rattle.fdp_finding.specs.declared.no_stream.NoStream.{NoStream}
 use Rattle.fdp_finding.specs.declared.no_trace.NoTrace.{NoTrace}
-use Rattle.fdp_finding.specs.Asked.{Asked, AsksForTexts, Names, asked_of, making, recording, recording_streams, running, streaming}
+use Rattle.fdp_finding.specs.Asked.{Asked, AsksForTexts, AuditNames, Names, asked_of, auditing, making, recording, recording_streams, running, streaming}
 use Rattle.fdp_finding.specs.Configured.{ReadsConfig, ReadsNoConfig}
+use Rattle.fdp_finding.specs.Recorded.{ReadsNoRecord, ReadsRecord}
 use Rattle.fdp_finding.specs.Streamed.{ReadsNoStream, ReadsStream}
 use Rattle.fdp_finding.specs.Traced.{ReadsNoTrace, ReadsTrace}
 
@@ -53,9 +55,23 @@ pub record FindsLoad (words : List (String Global)) (number : List ℕ) (c : Dri
   pub valid : IsValidConfig c
   pub commands : traces ≡ make_traces (value_of 10 number)
 
--- What was found of what the words ask for, a case for each kind of run: a session on the drive of one image, in a form, with this configuration, image and traces.
+-- the texts of these names are that of a configuration, with which a drive can be made, and one that is to be a record
+pub record HasRecord (bench : BenchState) (names : AuditNames) (c : DriveConfig) (text : List ℕ) : Type 0 where
+  pub config : ReadsConfig bench names.config c
+  pub valid : IsValidConfig c
+  pub text_is : ReadsRecord bench names.text text
+
+-- the words ask for an audit of these names, and these are their texts
+pub record FindsRecord (bench : BenchState) (words : List (String Global)) (c : DriveConfig) (text : List ℕ) : Type 0 where
+  pub names : AuditNames
+  pub asked : asked_of words ≡ Some (auditing names)
+  pub found : HasRecord bench names c text
+
+-- What was found of what the words ask for, a case for each kind of run: a session on the drive of one image, in a form, with this configuration, image and traces;
+-- or a text to be audited, as the record of a run on a new image of a drive of this configuration.
 pub data Sought : Type 0 where
   session : Form → DriveConfig → (image : List ℕ) → (traces : List (List Command)) → Sought
+  audited : DriveConfig → (text : List ℕ) → Sought
 
 -- what the words ask for, in each form
 abbrev pub Finds : BenchState → List (String Global) → Sought → Type 0
@@ -64,6 +80,7 @@ Finds bench words (session forms.Record c image traces) = FindsTexts texts.Trace
 Finds bench words (session forms.Stream c image traces) = FindsTexts texts.Streams bench words streaming c image traces
 Finds bench words (session forms.StreamRecord c image traces) = FindsTexts texts.Streams bench words recording_streams c image traces
 Finds bench words (session (forms.Make number) c image traces) = FindsLoad words number.now c image traces
+Finds bench words (audited c text) = FindsRecord bench words c text
 
 -- ---- what is lacking
 
@@ -109,6 +126,9 @@ TextsLack kind old new names faults.Flash = ⊥
 TextsLack kind old new names faults.Source = Rose old.faults new.faults
 TextsLack kind old new names faults.NoMemory = Unit {0}
 TextsLack kind old new names faults.Turns = ⊥
+TextsLack kind old new names (faults.Record cause) = ⊥
+TextsLack kind old new names (faults.Audit at why) = ⊥
+TextsLack kind old new names (faults.Output line) = ⊥
 
 -- the words ask for texts, which are not found, for this cause
 pub record LacksTexts (old new : BenchState) (words : List (String Global)) (fault : Fault) : Type 0 where
@@ -117,18 +137,65 @@ pub record LacksTexts (old new : BenchState) (words : List (String Global)) (fau
   pub asked : AsksForTexts words kind names
   pub lacks : TextsLack kind old new names fault
 
+-- the text of the configuration is one, and that of the record is none, for this cause
+pub record LacksRecord (bench : BenchState) (names : AuditNames) (cause : NoRecord) : Type 0 where
+  pub config : DriveConfig
+  pub configured : ReadsConfig bench names.config config
+  pub none : ReadsNoRecord bench names.text cause
+
+-- why an audit does not find the texts of these names
+abbrev pub AuditLacks : BenchState → BenchState → AuditNames → Fault → Type 0
+AuditLacks old new names faults.Usage = ⊥
+AuditLacks old new names (faults.Config cause) = ReadsNoConfig old names.config cause
+AuditLacks old new names (faults.NoQueue trace) = ⊥
+AuditLacks old new names (faults.Trace trace cause) = ⊥
+AuditLacks old new names (faults.Stream stream cause) = ⊥
+AuditLacks old new names (faults.Image cause) = ⊥
+AuditLacks old new names faults.Flash = ⊥
+AuditLacks old new names faults.Source = Rose old.faults new.faults
+AuditLacks old new names faults.NoMemory = Unit {0}
+AuditLacks old new names faults.Turns = ⊥
+AuditLacks old new names (faults.Record cause) = LacksRecord old names cause
+AuditLacks old new names (faults.Audit at why) = ⊥
+AuditLacks old new names (faults.Output line) = ⊥
+
+-- the words ask for an audit, and its texts are not found, for this cause
+pub record LacksAudit (old new : BenchState) (words : List (String Global)) (fault : Fault) : Type 0 where
+  pub names : AuditNames
+  pub asked : asked_of words ≡ Some (auditing names)
+  pub lacks : AuditLacks old new names fault
+
+-- why it finds no text of a record
+abbrev pub RecordLacks : BenchState → BenchState → List ℕ → Fault → Type 0
+RecordLacks old new name faults.Usage = ⊥
+RecordLacks old new name (faults.Config cause) = ⊥
+RecordLacks old new name (faults.NoQueue trace) = ⊥
+RecordLacks old new name (faults.Trace trace cause) = ⊥
+RecordLacks old new name (faults.Stream stream cause) = ⊥
+RecordLacks old new name (faults.Image cause) = ⊥
+RecordLacks old new name faults.Flash = ⊥
+RecordLacks old new name faults.Source = Rose old.faults new.faults
+RecordLacks old new name faults.NoMemory = Unit {0}
+RecordLacks old new name faults.Turns = ⊥
+RecordLacks old new name (faults.Record cause) = ReadsNoRecord old name cause
+RecordLacks old new name (faults.Audit at why) = ⊥
+RecordLacks old new name (faults.Output line) = ⊥
+
 -- the cause of each fault
 abbrev pub Lacks : BenchState → BenchState → List (String Global) → Fault → Type 0
 Lacks old new words faults.Usage = asked_of words ≡ None
-Lacks old new words (faults.Config cause) = LacksTexts old new words (faults.Config cause)
+Lacks old new words (faults.Config cause) = LacksTexts old new words (faults.Config cause) ⊎ LacksAudit old new words (faults.Config cause)
 Lacks old new words (faults.NoQueue trace) = LacksTexts old new words (faults.NoQueue trace)
 Lacks old new words (faults.Trace trace cause) = LacksTexts old new words (faults.Trace trace cause)
 Lacks old new words (faults.Stream stream cause) = LacksTexts old new words (faults.Stream stream cause)
 Lacks old new words (faults.Image cause) = ⊥
 Lacks old new words faults.Flash = ⊥
-Lacks old new words faults.Source = LacksTexts old new words faults.Source
+Lacks old new words faults.Source = LacksTexts old new words faults.Source ⊎ LacksAudit old new words faults.Source
 Lacks old new words faults.NoMemory = Unit {0}
 Lacks old new words faults.Turns = ⊥
+Lacks old new words (faults.Record cause) = LacksAudit old new words (faults.Record cause)
+Lacks old new words (faults.Audit at why) = ⊥
+Lacks old new words (faults.Output line) = ⊥
 
 -- why a run finds no configuration of this name
 abbrev pub ConfigLacks : BenchState → BenchState → List ℕ → Fault → Type 0
@@ -142,6 +209,9 @@ ConfigLacks old new name faults.Flash = ⊥
 ConfigLacks old new name faults.Source = Rose old.faults new.faults
 ConfigLacks old new name faults.NoMemory = Unit {0}
 ConfigLacks old new name faults.Turns = ⊥
+ConfigLacks old new name (faults.Record cause) = ⊥
+ConfigLacks old new name (faults.Audit at why) = ⊥
+ConfigLacks old new name (faults.Output line) = ⊥
 
 -- why it finds no commands of these names, with this configuration
 abbrev pub TracesLack : Texts → DriveConfig → BenchState → BenchState → List (List ℕ) → Fault → Type 0
@@ -155,6 +225,9 @@ TracesLack kind c old new names faults.Flash = ⊥
 TracesLack kind c old new names faults.Source = Rose old.faults new.faults
 TracesLack kind c old new names faults.NoMemory = Unit {0}
 TracesLack kind c old new names faults.Turns = ⊥
+TracesLack kind c old new names (faults.Record cause) = ⊥
+TracesLack kind c old new names (faults.Audit at why) = ⊥
+TracesLack kind c old new names (faults.Output line) = ⊥
 
 -- why it finds no commands of the name with this number, for blocks of this size
 abbrev pub CommandsLack : Texts → ℕ → BenchState → BenchState → ℕ → List ℕ → Fault → Type 0
@@ -168,6 +241,9 @@ CommandsLack kind block old new number name faults.Flash = ⊥
 CommandsLack kind block old new number name faults.Source = Rose old.faults new.faults
 CommandsLack kind block old new number name faults.NoMemory = Unit {0}
 CommandsLack kind block old new number name faults.Turns = ⊥
+CommandsLack kind block old new number name (faults.Record cause) = ⊥
+CommandsLack kind block old new number name (faults.Audit at why) = ⊥
+CommandsLack kind block old new number name (faults.Output line) = ⊥
 
 -- a call of the bench that failed was counted where that is the fault, and nothing was where it is another
 abbrev pub CountsSource : ℕ → ℕ → Fault → Type 0
@@ -181,3 +257,6 @@ CountsSource old new faults.Flash = new ≡ old
 CountsSource old new faults.Source = Rose old new
 CountsSource old new faults.NoMemory = new ≡ old
 CountsSource old new faults.Turns = new ≡ old
+CountsSource old new (faults.Record cause) = new ≡ old
+CountsSource old new (faults.Audit at why) = new ≡ old
+CountsSource old new (faults.Output line) = new ≡ old

@@ -3,7 +3,7 @@ ghost use Rattle.std.specs.List.{list_any};
 ghost use Rattle.fdp_finding.specs.Asked.{asked_of, begins_with_dash, chosen_by};
 ghost use Rattle.fdp_finding.specs.CommandLine.{AsksFor, Misses, spelled};
 
-use crate::command_line::{load_in, names_in};
+use crate::command_line::{audit_in, load_in, names_in};
 use std::alloc::Global;
 
 /// Traces of a run.
@@ -52,6 +52,8 @@ pub enum Request<'a> {
     StreamRecord(NamesAsked<'a>),
     /// To serve a generated load.
     Make(LoadAsked<'a>),
+    /// To judge the record of a run.
+    Audit(AuditAsked<'a>),
 }
 
 /// The names of what a run reads, and of the image that holds its drive.
@@ -70,6 +72,14 @@ pub struct LoadAsked<'a> {
     pub number: &'a str,
     pub commands: u16,
     pub image: &'a str,
+}
+
+/// The names of a configuration and of the record of a run on a new image.
+#[derive(Clone, Copy, Debug)]
+pub struct AuditAsked<'a> {
+    pub config: &'a str,
+    /// The record.
+    pub text: &'a str,
 }
 
 /// Why the words ask for nothing.
@@ -110,6 +120,8 @@ fn chosen<'a>(alloc: Global, word: &String, others: &'a [String]) -> Result<Requ
         Ok(Request::StreamRecord(names_in(alloc, others)?))
     } else if is_word(word, "make") {
         Ok(Request::Make(load_in(alloc, others)?))
+    } else if is_word(word, "audit") {
+        Ok(Request::Audit(audit_in(alloc, others)?))
     } else {
         Err(NotAsked::Usage)
     }

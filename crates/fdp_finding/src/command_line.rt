@@ -5,10 +5,12 @@ ghost use Rattle.std.specs.Prelude.{◌≡◌, ◌≢◌, IfErr, IfOk, MatchResu
 ghost use Rattle.std.specs.List.{list_all, list_any};
 ghost use Rattle.std.specs.Char.{is_ascii_digit};
 ghost use Rattle.clap.specs.Words.{app_of, kind_of, rule_of};
-ghost use Rattle.fdp_finding.specs.Asked.{Load, Names, begins_with_dash, is_number, load_of, names_of, pair_of};
-ghost use Rattle.fdp_finding.specs.CommandLine.{AreLoad, AreNames, Counts, Misses, as_load, as_names, bare, one, one_to_sixteen, spelled};
+ghost use Rattle.fdp_finding.specs.Asked.{Names, Pair, audit_of, begins_with_dash, is_number, load_of, names_of, pair_of};
+ghost use Rattle.fdp_finding.specs.CommandLine.{AreNames, ArePair, Counts, Misses, as_audit, as_load, as_names, as_pair, bare, one, one_to_sixteen, spelled};
 
-use crate::asked::{LONGEST_NUMBER, LoadAsked, MOST_NUMBER, MOST_TRACES, NamesAsked, NotAsked};
+use crate::asked::{
+    AuditAsked, LONGEST_NUMBER, LoadAsked, MOST_NUMBER, MOST_TRACES, NamesAsked, NotAsked,
+};
 use clap::error::ErrorKind;
 use clap::{Arg, ArgMatches, Command, Error};
 use fdp_trace::number_of_digits;
@@ -46,18 +48,52 @@ pub fn load_in(alloc: Global, words: &[String]) -> Result<LoadAsked<'_>, NotAske
         (λ load. (load_of (spelled words.now) ≡ Some (as_load load)) × Counts load)
         (Misses (load_of (spelled words.now))) }
 {
-    let matches = match matches_of_load(alloc, words) {
-        Ok(matches) => matches,
-        Err(error) => return Err(cause_of(&error)),
-    };
-    let number = matches.get_str("NUMBER").unwrap();
+    let pair = pair_in(alloc, words)?;
+    let number = pair.first;
     if !is_number(number.as_bytes()) {
         return Err(NotAsked::Usage);
     }
     Ok(LoadAsked {
         number,
         commands: number_of_digits(number.as_bytes(), 10) as u16,
-        image: matches.get_str("IMAGE").unwrap(),
+        image: pair.second,
+    })
+}
+
+/// The configuration and the record behind `audit`.
+pub fn audit_in(alloc: Global, words: &[String]) -> Result<AuditAsked<'_>, NotAsked>
+    requires { list_any begins_with_dash (spelled words.now) ≡ false }
+    ensures { MatchResult result
+        (λ audit. audit_of (spelled words.now) ≡ Some (as_audit audit))
+        (Misses (audit_of (spelled words.now))) }
+{
+    let pair = pair_in(alloc, words)?;
+    Ok(AuditAsked {
+        config: pair.first,
+        text: pair.second,
+    })
+}
+
+/// Two words.
+#[derive(Clone, Copy, Debug)]
+pub(crate) struct PairAsked<'a> {
+    first: &'a str,
+    second: &'a str,
+}
+
+fn pair_in(alloc: Global, words: &[String]) -> Result<PairAsked<'_>, NotAsked>
+    requires { list_any begins_with_dash (spelled words.now) ≡ false }
+    ensures { MatchResult result
+        (λ pair. pair_of (spelled words.now) ≡ Some (as_pair pair))
+        (Misses (pair_of (spelled words.now))) }
+{
+    let matches = match matches_of_pair(alloc, words) {
+        Ok(matches) => matches,
+        Err(error) => return Err(cause_of(&error)),
+    };
+    Ok(PairAsked {
+        first: matches.get_str("FIRST").unwrap(),
+        second: matches.get_str("SECOND").unwrap(),
     })
 }
 
@@ -74,15 +110,15 @@ fn matches_of_names<'a>(alloc: Global, words: &'a [String]) -> Result<ArgMatches
     command.try_get_matches_from(words)
 }
 
-/// Reads `NUMBER IMAGE`.
-fn matches_of_load<'a>(alloc: Global, words: &'a [String]) -> Result<ArgMatches<'a>, Error>
+/// Reads two words.
+fn matches_of_pair<'a>(alloc: Global, words: &'a [String]) -> Result<ArgMatches<'a>, Error>
     requires { list_any begins_with_dash (spelled words.now) ≡ false }
-    ensures ok { IfOk result (λ m. (load : Load) × (pair_of (spelled words.now) ≡ Some load) × AreLoad m load) }
+    ensures ok { IfOk result (λ m. (pair : Pair) × (pair_of (spelled words.now) ≡ Some pair) × ArePair m pair) }
     ensures err { IfErr result (λ e. kind_of e ≢ ErrorKind.OutOfMemory → pair_of (spelled words.now) ≡ None) }
 {
     let command = simple(alloc)
-        .arg(one(alloc, "NUMBER"))?
-        .arg(one(alloc, "IMAGE"))?;
+        .arg(one(alloc, "FIRST"))?
+        .arg(one(alloc, "SECOND"))?;
     command.try_get_matches_from(words)
 }
 

@@ -2,6 +2,7 @@ ghost use Rattle.std.specs.Prelude.{◌≡◌};
 ghost use Rattle.fdp_finding.specs.Faults.{status_of};
 
 use crate::image::ImageFault;
+use crate::no_record::NoRecord;
 use crate::no_stream::NoStream;
 use crate::no_trace::NoTrace;
 use fdp_config::{ConfigFault, NoConfig};
@@ -10,7 +11,7 @@ use fdp_config::{ConfigFault, NoConfig};
 #[derive(Debug, Drop)]
 pub enum Fault {
     /// The words have none of the forms `run CONFIG IMAGE TRACE..`, `record CONFIG IMAGE TRACE..`, `stream CONFIG IMAGE STREAM..`,
-    /// `stream-record CONFIG IMAGE STREAM..` and `make NUMBER IMAGE`, or one of them begins with `-`.
+    /// `stream-record CONFIG IMAGE STREAM..`, `make NUMBER IMAGE` and `audit CONFIG RECORD`, or one of them begins with `-`.
     Usage,
     /// There is no configuration.
     Config(NoConfig),
@@ -29,6 +30,13 @@ pub enum Fault {
     NoMemory,
     /// A trace needs a further step, and the drive has made all that it may make.
     Turns,
+    /// The record is none.
+    Record(NoRecord),
+    /// An entry of a record's history is none that may follow those before it: the position that is due, and the number of the rule under which the entry falls,
+    /// or 0 where its line shows another position.
+    Audit { at: u64, why: u8 },
+    /// The output of a record is not that of its history: the first line that differs, from 1.
+    Output { line: usize },
 }
 
 impl Fault {
@@ -47,6 +55,8 @@ impl Fault {
             Fault::NoMemory => 7,
             Fault::Turns => 9,
             Fault::Stream { .. } => 12,
+            Fault::Audit { .. } | Fault::Output { .. } => 13,
+            Fault::Record(_) => 14,
         }
     }
 }

@@ -1,4 +1,4 @@
-//! What a run is asked for: its words, its configuration and its traces or streams, and the faults of a run with their lines.
+//! What a run is asked for: its words, its configuration and its traces or streams, or a record, and the faults of a run with their lines.
 #![tactic(auto)]
 
 mod asked;
@@ -7,6 +7,7 @@ mod fault;
 mod image;
 mod laws;
 mod line;
+mod no_record;
 mod no_stream;
 mod no_trace;
 mod reading;
@@ -16,7 +17,8 @@ pub use asked::{Form, MOST_TRACES};
 pub use fault::Fault;
 pub use image::ImageFault;
 pub use laws::limits_are_those_of_the_documents;
-pub use line::write_fault;
+pub use line::{write_fault, write_parts};
+pub use no_record::NoRecord;
 pub use no_stream::NoStream;
 pub use no_trace::NoTrace;
-pub use reading::{Wanted, find};
+pub use reading::{Audited, Task, Wanted, find};

@@ -3,11 +3,12 @@
 ghost use Rattle.std.specs.Prelude.{codes};
 ghost use Rattle.std.specs.List.{flat_map};
 ghost use Rattle.fdp_config.specs.declared.fault.NoConfig.TheVariants.{Faulty};
-ghost use Rattle.fdp_finding.specs.Faults.{config_fault, fault_text, image_fault, no_stream_words, no_trace_words, stream_fault, trace_fault};
+ghost use Rattle.fdp_finding.specs.Faults.{audit_fault, config_fault, fault_text, image_fault, no_stream_words, no_trace_words, output_fault, record_fault, stream_fault, trace_fault};
 ghost use Rattle.fdp_finding.specs.Line.{Writes};
 
 use crate::fault::Fault;
 use crate::image::ImageFault;
+use crate::no_record::NoRecord;
 use crate::no_stream::NoStream;
 use crate::no_trace::NoTrace;
 use fdp_binary::StreamFault;
@@ -29,6 +30,9 @@ pub fn write_fault<K: Sink>(sink: &mut K, fault: &Fault) -> Result<(), SinkFaile
         Fault::Source => write_parts(sink, &["fault 6 source\n"]),
         Fault::Turns => write_parts(sink, &["fault 9 turns\n"]),
         Fault::Stream { stream, cause } => write_no_stream(sink, *stream, *cause),
+        Fault::Record(cause) => write_no_record(sink, *cause),
+        Fault::Audit { at, why } => write_no_audit(sink, *at, *why),
+        Fault::Output { line } => write_no_output(sink, *line),
         Fault::NoMemory => Ok(()),
     }
 }
@@ -132,8 +136,47 @@ fn write_image_fault<K: Sink>(sink: &mut K, cause: ImageFault) -> Result<(), Sin
     }
 }
 
+/// Writes the line for a text that is no record.
+fn write_no_record<K: Sink>(sink: &mut K, cause: NoRecord) -> Result<(), SinkFailed>
+    ensures { Writes (K.state sink.old) (K.state sink.new) (record_fault cause) result }
+{
+    match cause {
+        NoRecord::Absent => write_parts(sink, &["fault 14 record absent\n"]),
+        NoRecord::TooLong => write_parts(sink, &["fault 14 record long\n"]),
+        NoRecord::Line(line) => {
+            let mut number = Buffer::new();
+            write_parts(sink, &["fault 14 record ", number.format(line), "\n"])
+        }
+    }
+}
+
+/// Writes the line for an entry that a history does not go on with.
+fn write_no_audit<K: Sink>(sink: &mut K, at: u64, why: u8) -> Result<(), SinkFailed>
+    ensures { Writes (K.state sink.old) (K.state sink.new) (audit_fault at why) result }
+{
+    let (mut place, mut number) = (Buffer::new(), Buffer::new());
+    write_parts(
+        sink,
+        &[
+            "fault 13 audit ",
+            place.format(at),
+            " ",
+            number.format(why),
+            "\n",
+        ],
+    )
+}
+
+/// Writes the line for an output that is not the one due.
+fn write_no_output<K: Sink>(sink: &mut K, line: usize) -> Result<(), SinkFailed>
+    ensures { Writes (K.state sink.old) (K.state sink.new) (output_fault line) result }
+{
+    let mut number = Buffer::new();
+    write_parts(sink, &["fault 13 output ", number.format(line), "\n"])
+}
+
 /// Writes texts one behind another.
-fn write_parts<K: Sink>(sink: &mut K, parts: &[&str]) -> Result<(), SinkFailed>
+pub fn write_parts<K: Sink>(sink: &mut K, parts: &[&str]) -> Result<(), SinkFailed>
     ensures { Writes (K.state sink.old) (K.state sink.new) (flat_map (λ part. part.now) parts.now) result }
 {
     for part in parts {

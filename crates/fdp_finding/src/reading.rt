@@ -4,14 +4,17 @@ ghost use Rattle.fdp_io.specs.Bench.{SameFlashes, SameTexts};
 ghost use Rattle.fdp_make.specs.Load.{make_config, make_traces};
 ghost use Rattle.fdp_trace.specs.Numbers.{value_of};
 ghost use Rattle.fdp_finding.specs.Configured.{ReadsConfig};
-ghost use Rattle.fdp_finding.specs.CommandLine.{Counts, as_names};
+ghost use Rattle.fdp_finding.specs.CommandLine.{Counts, as_audit, as_names};
 ghost use Rattle.fdp_finding.specs.Traced.{IsServable};
-ghost use Rattle.fdp_finding.specs.Wanted.{ConfigLacks, CountsSource, Finds, HasTexts, Lacks, TextsLack, commands_of, session};
+ghost use Rattle.fdp_finding.specs.Recorded.{ReadsRecord};
+ghost use Rattle.fdp_finding.specs.Wanted.{AuditLacks, ConfigLacks, CountsSource, Finds, HasRecord, HasTexts, Lacks, RecordLacks, TextsLack, commands_of};
+ghost use Rattle.fdp_finding.specs.Task.{AuditsIf, CanBegin, IsLoad, ServesIf, sought_of};
 
-use crate::asked::{Form, LoadAsked, NamesAsked, NotAsked, Request, Texts, asked};
+use crate::asked::{AuditAsked, Form, LoadAsked, NamesAsked, NotAsked, Request, Texts, asked};
 use crate::fault::Fault;
+use crate::no_record::NoRecord;
 use crate::traces::find_traces;
-use fdp_base::{Command, DriveConfig, LONGEST_CONFIG};
+use fdp_base::{Command, DriveConfig, LONGEST_CONFIG, LONGEST_TRACE};
 use fdp_config::{NoConfig, read_config};
 use fdp_io::{Bench, TextRead};
 use std::alloc::Global;
@@ -25,12 +28,28 @@ pub struct Wanted<'a> {
     pub traces: Vec<Vec<Command>>,
 }
 
-/// The form, the configuration, the image and the traces that the words ask for.
+/// A configuration, and the text that is to be the record of a run on a new image of its drive.
+#[derive(Debug, Drop)]
+pub struct Audited {
+    pub config: DriveConfig,
+    pub text: Vec<u8>,
+}
+
+/// What is to be done, with all that was found for it.
+#[derive(Debug, Drop)]
+pub enum Task<'a> {
+    /// To serve traces or streams.
+    Serve(Wanted<'a>),
+    /// To judge a record.
+    Audit(Audited),
+}
+
+/// What the words ask for, with the texts that they name.
 pub fn find<'a, B: Bench>(
     alloc: Global,
     words: &'a [String],
     bench: &mut B,
-) -> Result<Wanted<'a>, Fault>
+) -> Result<Task<'a>, Fault>
     ensures texts { SameTexts (B.state bench.old) (B.state bench.new) }
     ensures flashes { SameFlashes (B.state bench.old) (B.state bench.new) }
     ensures faults { (B.state bench.old).faults ≤ (B.state bench.new).faults }
@@ -38,11 +57,9 @@ pub fn find<'a, B: Bench>(
         (λ _. (B.state bench.new).faults ≡ (B.state bench.old).faults)
         (λ fault. CountsSource (B.state bench.old).faults (B.state bench.new).faults fault) }
     ensures answer { MatchResult result
-        (λ found. Finds (B.state bench.old) words.now (session found.form found.config found.image.now (commands_of found.traces.items)))
+        (λ task. Finds (B.state bench.old) words.now (sought_of task))
         (λ fault. Lacks (B.state bench.old) (B.state bench.new) words.now fault) }
-    ensures valid { IfOk result (λ found. IsValidConfig found.config) }
-    ensures queued { IfOk result (λ found. length found.traces.items ≤ found.config.queues) }
-    ensures servable { IfOk result (λ found. All (λ trace. IsServable found.config trace.items) found.traces.items) }
+    ensures begins { IfOk result CanBegin }
 {
     match asked(alloc, words) {
         Ok(Request::Run(names)) => find_texts(alloc, Form::Run, Texts::Traces, names, bench),
@@ -56,6 +73,7 @@ pub fn find<'a, B: Bench>(
             find_texts(alloc, Form::StreamRecord, Texts::Streams, names, bench)
         }
         Ok(Request::Make(load)) => find_load(alloc, load),
+        Ok(Request::Audit(audit)) => find_record(alloc, audit, bench),
         Err(NotAsked::Usage) => Err(Fault::Usage),
         Err(NotAsked::NoMemory) => Err(Fault::NoMemory),
     }
@@ -68,7 +86,7 @@ fn find_texts<'a, B: Bench>(
     texts: Texts,
     names: NamesAsked<'a>,
     bench: &mut B,
-) -> Result<Wanted<'a>, Fault>
+) -> Result<Task<'a>, Fault>
     ensures texts { SameTexts (B.state bench.old) (B.state bench.new) }
     ensures flashes { SameFlashes (B.state bench.old) (B.state bench.new) }
     ensures faults { (B.state bench.old).faults ≤ (B.state bench.new).faults }
@@ -76,33 +94,27 @@ fn find_texts<'a, B: Bench>(
         (λ _. (B.state bench.new).faults ≡ (B.state bench.old).faults)
         (λ fault. CountsSource (B.state bench.old).faults (B.state bench.new).faults fault) }
     ensures answer { MatchResult result
-        (λ found. (found.form ≡ form.entry) × HasTexts texts (B.state bench.old) (as_names names.entry) found.config found.image.now (commands_of found.traces.items))
+        (ServesIf (λ found. (found.form ≡ form.entry) × HasTexts texts (B.state bench.old) (as_names names.entry) found.config found.image.now (commands_of found.traces.items)))
         (λ fault. TextsLack texts (B.state bench.old) (B.state bench.new) (as_names names.entry) fault) }
-    ensures valid { IfOk result (λ found. IsValidConfig found.config) }
-    ensures queued { IfOk result (λ found. length found.traces.items ≤ found.config.queues) }
-    ensures servable { IfOk result (λ found. All (λ trace. IsServable found.config trace.items) found.traces.items) }
+    ensures begins { IfOk result CanBegin }
 {
     let config = find_config(alloc, names.config, bench)?;
     match find_traces(alloc, texts, &names.traces, &config, bench) {
-        Ok(traces) => Ok(Wanted {
+        Ok(traces) => Ok(Task::Serve(Wanted {
             form,
             config,
             image: names.image,
             traces,
-        }),
+        })),
         Err(fault) => Err(fault),
     }
 }
 
 /// A generated load: it has a drive and traces of its own.
-fn find_load<'a>(alloc: Global, load: LoadAsked<'a>) -> Result<Wanted<'a>, Fault>
+fn find_load<'a>(alloc: Global, load: LoadAsked<'a>) -> Result<Task<'a>, Fault>
     requires { Counts load }
-    ensures form { IfOk result (λ found. (found.form ≡ Form.Make load.entry.number) × (found.image ≡ load.entry.image)) }
-    ensures config { IfOk result (λ found. found.config ≡ make_config) }
-    ensures traces { IfOk result (λ found. commands_of found.traces.items ≡ make_traces (value_of 10 load.entry.number.now)) }
-    ensures valid { IfOk result (λ found. IsValidConfig found.config) }
-    ensures queued { IfOk result (λ found. length found.traces.items ≤ found.config.queues) }
-    ensures servable { IfOk result (λ found. All (λ trace. IsServable found.config trace.items) found.traces.items) }
+    ensures load { IfOk result (ServesIf (IsLoad load.entry)) }
+    ensures begins { IfOk result CanBegin }
     ensures fault { IfErr result (λ fault. fault ≡ Fault.NoMemory) }
 {
     let Ok(config) = fdp_make::config(alloc) else {
@@ -111,12 +123,58 @@ fn find_load<'a>(alloc: Global, load: LoadAsked<'a>) -> Result<Wanted<'a>, Fault
     let Ok(traces) = fdp_make::traces(alloc, load.commands) else {
         return Err(Fault::NoMemory);
     };
-    Ok(Wanted {
+    Ok(Task::Serve(Wanted {
         form: Form::Make(load.number),
         config,
         image: load.image,
         traces,
-    })
+    }))
+}
+
+/// A configuration, and the text of a record.
+fn find_record<'a, B: Bench>(
+    alloc: Global,
+    audit: AuditAsked<'a>,
+    bench: &mut B,
+) -> Result<Task<'a>, Fault>
+    ensures texts { SameTexts (B.state bench.old) (B.state bench.new) }
+    ensures flashes { SameFlashes (B.state bench.old) (B.state bench.new) }
+    ensures faults { (B.state bench.old).faults ≤ (B.state bench.new).faults }
+    ensures counts { MatchResult result
+        (λ _. (B.state bench.new).faults ≡ (B.state bench.old).faults)
+        (λ fault. CountsSource (B.state bench.old).faults (B.state bench.new).faults fault) }
+    ensures answer { MatchResult result
+        (AuditsIf (λ found. HasRecord (B.state bench.old) (as_audit audit.entry) found.config found.text.items))
+        (λ fault. AuditLacks (B.state bench.old) (B.state bench.new) (as_audit audit.entry) fault) }
+    ensures begins { IfOk result CanBegin }
+{
+    let config = find_config(alloc, audit.config, bench)?;
+    match find_text(alloc, audit.text, bench) {
+        Ok(text) => Ok(Task::Audit(Audited { config, text })),
+        Err(fault) => Err(fault),
+    }
+}
+
+/// The text of this name that is to be a record.
+fn find_text<B: Bench>(alloc: Global, name: &str, bench: &mut B) -> Result<Vec<u8>, Fault>
+    ensures texts { SameTexts (B.state bench.old) (B.state bench.new) }
+    ensures flashes { SameFlashes (B.state bench.old) (B.state bench.new) }
+    ensures faults { (B.state bench.old).faults ≤ (B.state bench.new).faults }
+    ensures counts { MatchResult result
+        (λ _. (B.state bench.new).faults ≡ (B.state bench.old).faults)
+        (λ fault. CountsSource (B.state bench.old).faults (B.state bench.new).faults fault) }
+    ensures answer { MatchResult result
+        (λ text. ReadsRecord (B.state bench.old) name.now text.items)
+        (λ fault. RecordLacks (B.state bench.old) (B.state bench.new) name.now fault) }
+{
+    let mut text = Vec::new(alloc);
+    match bench.read_text(name, &mut text, LONGEST_TRACE) {
+        TextRead::Done => Ok(text),
+        TextRead::Missing => Err(Fault::Record(NoRecord::Absent)),
+        TextRead::TooLong => Err(Fault::Record(NoRecord::TooLong)),
+        TextRead::Failed => Err(Fault::Source),
+        TextRead::NoMemory => Err(Fault::NoMemory),
+    }
 }
 
 /// The configuration of this name.

@@ -1,6 +1,6 @@
 -- Lists that have other spare room say the same.
-use Rattle.std.proofs.Common.{◌≡◌, ℕ, true, false, not, Global, Vec, List, [], length, Option, None, Some, refl, sym, ◌∙◌, ap, subst, map, reverse}
-use Rattle.std.specs.Prelude.{filter, option_and_then, option_map, slice_get}
+use Rattle.std.proofs.Common.{◌≡◌, ℕ, true, false, not, List, [], length, None, Some, refl, sym, ◌∙◌, ap, subst, map, reverse}
+use Rattle.std.specs.Prelude.{filter, option_map, slice_get}
 use Rattle.std.specs.Option.{option_map_or}
 use Rattle.std.specs.Vec.{vec_items}
 use Rattle.std.proofs.lemmas.List.{length-map}
@@ -18,7 +18,7 @@ use Rattle.fdp_rules.specs.Step.{Follows}
 use Rattle.fdp_tables.specs.declared.state.Kept.{Kept}
 use Rattle.fdp_tables.specs.Copies.{copy_of}
 use Rattle.fdp_tables.specs.PageSites.{site_in}
-use Rattle.fdp_tables.specs.State.{copies_at, plain_of, point_kept, row, site_at}
+use Rattle.fdp_tables.specs.State.{copies_at, plain_of, point_kept, site_at}
 use Rattle.fdp_plain.specs.Reserved.{IsSame}
 use Rattle.fdp_plain.specs.Rows.{HasRows}
 use Rattle.fdp_plain.specs.Telling.{TellsHistory}

@@ -11,6 +11,7 @@ mod refused;
 mod reserve;
 mod step;
 mod take;
+mod telling;
 
 pub use plain::Plain;
 pub use refused::Refused;

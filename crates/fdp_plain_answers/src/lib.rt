@@ -12,9 +12,11 @@ mod log;
 mod pages;
 mod reallocations;
 mod refusals;
+mod telling;
 mod transfer;
 
 pub use data::data_of;
 pub use kept_events::push_kept;
 pub use refusals::refusal;
+pub use telling::{event, totals, usage};
 pub use transfer::dword0_of;

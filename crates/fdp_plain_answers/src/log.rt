@@ -69,7 +69,8 @@ fn choose(chosen: &mut Vec<Event>, host: bool, event: Event) -> Result<(), Alloc
     Ok(())
 }
 
-fn is_of_class(host: bool, event: Event) -> bool
+/// Whether an event is of a class: of the events of hosts, or of those of the controller.
+pub(crate) fn is_of_class(host: bool, event: Event) -> bool
     ensures { result ≡ (if host then is_host_event event else not (is_host_event event)) }
 {
     let is_host = code_of(event.kind) < 0x80;

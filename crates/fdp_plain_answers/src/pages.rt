@@ -60,7 +60,7 @@ fn is_listed(kept: &Standing, ruh: u16, ids: &[u32]) -> bool
 }
 
 /// Who specified a handle for a namespace that uses it.
-fn usage_of(kept: &Standing, ruh: u16) -> Usage
+pub(crate) fn usage_of(kept: &Standing, ruh: u16) -> Usage
     ensures { usage_code result ≡ usage_of (plain_of kept.now) ruh }
 {
     if is_given(kept, ruh, &NAMESPACE_IDS) {

@@ -6,11 +6,13 @@ mod completions;
 mod history;
 mod pieces;
 mod print;
+mod telling;
 
 pub use closing::{Closing, Placement};
 pub use history::push_entry;
 pub use pieces::Cut;
 pub use print::{print_output, print_record};
+pub use telling::{Telling, closing_of};
 
 #[cfg(test)]
 mod tests;

@@ -1,4 +1,4 @@
--- The reader's own words for lines: the contracts of its private steps cite them.
+-- Lines at the fronts of texts.
 use Rattle.std.specs.Prelude.{◌≡◌, ℕ, List, ◌∷◌, ◌++◌, length}
 use Rattle.fdp_reader.specs.Form.{AreLines, IsLine, text_of}
 

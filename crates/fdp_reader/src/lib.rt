@@ -16,5 +16,6 @@ mod place;
 mod record;
 
 pub use fault::RecordFault;
+pub use lines::{line_at, same_lines};
 pub use place::Place;
 pub use record::{Printed, read_record};

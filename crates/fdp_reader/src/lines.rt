@@ -29,7 +29,7 @@ fn line_len(text: &[u8]) -> usize
     text.len()
 }
 
-/// How many bytes the lines have that two texts have at their fronts.
+/// How many bytes the whole lines have that two texts have alike at their fronts: the first line in which they differ begins behind so many bytes. It takes no memory.
 pub fn same_lines(left: &[u8], right: &[u8]) -> usize
     ensures { SameLines left.now right.now result }
 {
@@ -54,7 +54,7 @@ fn is_same(left: &[u8], right: &[u8]) -> bool
     left == right
 }
 
-/// The number of the line that begins at a place of a text, from 1.
+/// The number of the line that begins at a place of a text, a count of bytes; the first line is 1.
 pub fn line_at(text: &[u8], place: usize) -> usize
     requires { place ≤ length text.now }
     ensures { result ≡ count_by is_line_feed (take place text.now) + 1 }

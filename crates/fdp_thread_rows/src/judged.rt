@@ -1,8 +1,11 @@
+ghost use Rattle.std.specs.Option.{IfSome};
+ghost use Rattle.fdp_finding.specs.Task.{CanServe};
+
 use crate::outcome::spelled;
 use fdp_core::Group;
 use fdp_core_tests::replay;
 use fdp_drive::{SessionEnd, run_session};
-use fdp_finding::{Wanted, find};
+use fdp_finding::{Task, Wanted, find};
 use fdp_flash::{FlashMem, Plan};
 use fdp_io::{BenchMem, OpenGate};
 use fdp_workers::End;
@@ -19,7 +22,7 @@ pub fn judge<R: Threads + Wait + Sync>(
     bench: &mut BenchMem,
 ) -> Result<bool, AllocError> {
     let asked = spelled(alloc, words)?;
-    let Ok(wanted) = find(alloc, &asked, bench) else {
+    let Some(wanted) = wanted(alloc, &asked, bench) else {
         return Ok(false);
     };
     let Wanted {
@@ -44,4 +47,14 @@ pub fn judge<R: Threads + Wait + Sync>(
         End::NoMemory | End::Turns => false,
     };
     Ok(is_whole && taken == group.entries().len())
+}
+
+/// The configuration and the traces that the words name.
+fn wanted<'a>(alloc: Global, words: &'a [String], bench: &mut BenchMem) -> Option<Wanted<'a>>
+    ensures { IfSome result CanServe }
+{
+    match find(alloc, words, bench) {
+        Ok(Task::Serve(wanted)) => Some(wanted),
+        Ok(Task::Audit(_)) | Err(_) => None,
+    }
 }

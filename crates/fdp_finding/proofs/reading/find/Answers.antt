@@ -2,7 +2,8 @@ use Rattle.std.proofs.Common.{refl}
 use Rattle.fdp_finding.specs.declared.asked.Form.TheVariants as forms
 use Rattle.fdp_finding.specs.declared.asked.Texts.TheVariants as texts
 use Rattle.fdp_finding.specs.Asked.{recording, recording_streams, running, streaming}
-use Rattle.fdp_finding.specs.CommandLine.{as_names}
+use Rattle.fdp_finding.specs.CommandLine.{as_audit, as_names}
+use Rattle.fdp_finding.proofs.Records.{audit_answers, load_answers}
 use Rattle.fdp_finding.proofs.Texts.{form_answers}
 use Rattle.fdp_finding.proofs.reading.find.Goals as goal
 
@@ -29,3 +30,15 @@ returns-in-Ok-StreamRecord-clause-answer g c =
     let asked = rw c.in-Ok-StreamRecord.field-0-is at c.in-Ok-StreamRecord.ensures in
     let found = c.find_texts-in-Ok-StreamRecord in
     form_answers texts.Streams forms.StreamRecord recording_streams (g.B.Bench.state c.args.bench.now) (g.B.Bench.state found.new.bench) c.args.words.now (as_names c.in-Ok-StreamRecord.names) found.result (λ config image traces f. f) refl asked found.ensures.answer
+
+pub returns-in-Ok-Make-clause-answer : goal.returns-in-Ok-Make-clause-answer
+returns-in-Ok-Make-clause-answer g c =
+    let asked = rw c.in-Ok-Make.field-0-is at c.in-Ok-Make.ensures in
+    let found = c.find_load in
+    load_answers (g.B.Bench.state c.args.bench.now) (g.B.Bench.state c.args.bench.now) c.args.words.now c.in-Ok-Make.load found.result asked.0 found.ensures.load found.ensures.begins found.ensures.fault
+
+pub returns-in-Ok-Audit-clause-answer : goal.returns-in-Ok-Audit-clause-answer
+returns-in-Ok-Audit-clause-answer g c =
+    let asked = rw c.in-Ok-Audit.field-0-is at c.in-Ok-Audit.ensures in
+    let found = c.find_record in
+    audit_answers (g.B.Bench.state c.args.bench.now) (g.B.Bench.state found.new.bench) c.args.words.now (as_audit c.in-Ok-Audit.audit) found.result asked found.ensures.answer

@@ -1,0 +1,4 @@
+pub mod Decimals
+pub mod Outputs
+pub mod Judging
+pub mod Verdicts

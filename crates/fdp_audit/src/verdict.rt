@@ -1,0 +1,119 @@
+//! The audit of a record.
+
+ghost use Rattle.std.specs.Prelude.{◌≡◌, ◌≢◌, ℕ, IfErr, IfOk, List, Ok, OnOk, bytes_eq};
+ghost use Rattle.fdp_base.specs.declared.entry.Entry.{Entry};
+ghost use Rattle.fdp_base.specs.Config.{IsValidConfig};
+ghost use Rattle.fdp_output.specs.RunOutput.{output_of};
+ghost use Rattle.fdp_reader.specs.Record.{GivesRecord, IsPrinted, IsRecord};
+ghost use Rattle.fdp_rules.specs.History.{fresh};
+ghost use Rattle.fdp_audit.specs.Audit.{GivesYes, IsAuditCause, IsAudited, IsFirstOther};
+ghost use Rattle.fdp_audit.specs.Steps.{IsOtherOutput, IsVerdict};
+
+use crate::due::Due;
+use crate::fault::AuditFault;
+use crate::history::judge;
+use crate::told::Told;
+use fdp_base::DriveConfig;
+use fdp_plain::Plain;
+use fdp_printing::{closing_of, print_output};
+use fdp_reader::{Printed, line_at, read_record, same_lines};
+use std::alloc::Global;
+
+/// How many entries the history has of the record of a run on a new image; or why a text is none: it is no record, or its history is no legal
+/// one of a fresh drive of this configuration, or its output is not that of the history. The first of these is told.
+///
+/// It prints each entry once, has the plain drive take it, and prints the output once. It takes memory for the entries and for the output.
+pub fn audit(alloc: Global, text: &[u8], config: &DriveConfig) -> Result<u64, AuditFault>
+    requires { IsValidConfig config.now }
+    ensures yes { IfOk result (IsAudited config.now text.now) }
+    ensures cause { IfErr result (IsAuditCause config.now text.now) }
+
+    // No such record is refused, unless memory runs out.
+    ensures only { (count : ℕ) → IsAudited config.now text.now count → GivesYes count result }
+{
+    verdict(alloc, text, config)
+}
+
+fn verdict(alloc: Global, text: &[u8], config: &DriveConfig) -> Result<u64, AuditFault>
+    requires { IsValidConfig config.now }
+    ensures { IsVerdict config.now text.now result }
+{
+    match read_record(alloc, text, config) {
+        Ok(read) => judge_read(alloc, text, config, read),
+        Err(cause) => Err(AuditFault::from(cause)),
+    }
+}
+
+/// What a text comes to that was read as this.
+fn judge_read(
+    alloc: Global,
+    text: &[u8],
+    config: &DriveConfig,
+    read: Printed,
+) -> Result<u64, AuditFault>
+    requires valid { IsValidConfig config.now }
+    requires printed { IsPrinted config.now text.now read }
+    requires only { (traces : ℕ) (output : List ℕ) (entries : List (ℕ × Entry)) → IsRecord config.now text.now traces output entries → GivesRecord traces output entries (Ok read) }
+    ensures { IsVerdict config.now text.now result }
+{
+    let Printed {
+        traces,
+        output,
+        entries,
+    } = read;
+    match judge(alloc, config, entries) {
+        Ok(plain) => match compare(alloc, &plain, traces, &text[..output]) {
+            Ok(()) => Ok(plain.entries().len() as u64),
+            Err(fault) => Err(fault),
+        },
+        Err(fault) => Err(fault),
+    }
+}
+
+/// Whether this is the output of so many queues that the history of a drive gives, or the first line that differs.
+fn compare(alloc: Global, plain: &Plain, traces: u8, output: &[u8]) -> Result<(), AuditFault>
+    ensures same { OnOk result (output.now ≡ output_of plain.now.config (fresh plain.now.config) traces plain.now.entries) }
+    ensures other { IfErr result (IsOtherOutput plain.now traces output.now) }
+{
+    let due = output_due(alloc, plain, traces)?;
+    if is_same(output, &due) {
+        return Ok(());
+    }
+    Err(AuditFault::Output {
+        line: first_other(output, &due),
+    })
+}
+
+/// The output of so many queues that the history of a drive gives.
+fn output_due(alloc: Global, plain: &Plain, traces: u8) -> Result<Vec<u8>, AuditFault>
+    ensures due { IfOk result (λ text. text.items ≡ output_of plain.now.config (fresh plain.now.config) traces plain.now.entries) }
+    ensures memory { IfErr result (λ fault. fault ≡ AuditFault.NoMemory) }
+{
+    let closing = closing_of(alloc, &Told { plain })?;
+    let mut due = Due::new(alloc);
+    match print_output(
+        alloc,
+        plain.config(),
+        plain.entries(),
+        traces,
+        &closing,
+        &mut due,
+    ) {
+        Ok(()) => Ok(due.text),
+        Err(_) => Err(AuditFault::NoMemory),
+    }
+}
+
+/// The number of the first line of a text that another has not at the same place, from 1.
+fn first_other(text: &[u8], other: &[u8]) -> usize
+    requires { text.now ≢ other.now }
+    ensures { IsFirstOther text.now other.now result }
+{
+    line_at(text, same_lines(other, text))
+}
+
+fn is_same(left: &[u8], right: &[u8]) -> bool
+    ensures { result ≡ bytes_eq left.now right.now }
+{
+    left == right
+}

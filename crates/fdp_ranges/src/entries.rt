@@ -1,0 +1,99 @@
+//! The numbers of entries, looked at one by one. Nothing comes of it but what is known of them.
+
+ghost use Rattle.std.specs.Prelude.{All};
+ghost use Rattle.fdp_ranges.specs.Ranged.{IsOfBits, IsRanged, IsRangedBlock, IsRangedHost, IsRangedSpot, IsRangedStart};
+
+use crate::bits::{is_byte, is_long, is_short, is_word};
+use fdp_base::{BlockName, Entry, Host, Spot, Started};
+
+/// Each number of these entries is one of its type.
+pub fn are_ranged(entries: &[Entry])
+    ensures { All IsRanged entries.now }
+{
+    for entry in entries {
+        is_ranged(entry);
+    }
+}
+
+fn is_ranged(entry: &Entry)
+    ensures { IsRanged entry.now }
+{
+    match entry {
+        Entry::Host(host) => is_host(host),
+        Entry::Started(started) => is_start(started),
+        Entry::Placed(placed) => {
+            is_long(placed.ticket);
+            is_word(placed.index);
+            is_word(placed.unit);
+            is_word(placed.page);
+        }
+        Entry::Copied(copied) => {
+            is_spot(copied.from);
+            is_spot(copied.to);
+        }
+        Entry::Moved(moved) => {
+            is_short(moved.rg);
+            are_blocks(moved.blocks.as_slice());
+        }
+        Entry::Erased(erased) => is_word(erased.unit),
+        Entry::Retired(retired) => is_word(retired.unit),
+        Entry::Aside(aside) => is_word(aside.unit),
+        Entry::Shut(shut) => {
+            is_short(shut.rg);
+            is_byte(shut.ruh);
+        }
+        Entry::Worn(worn) => is_short(worn.rg),
+        Entry::Reopened => {}
+    }
+}
+
+fn is_host(host: &Host)
+    ensures { IsRangedHost host.now }
+{
+    is_byte(host.queue);
+    is_short(host.number);
+    is_long(host.moment);
+    is_byte(host.reply.status.sct);
+    is_byte(host.reply.status.sc);
+    is_word(host.reply.dw0);
+    are_bytes(host.reply.bytes.as_slice());
+}
+
+fn is_start(started: &Started)
+    ensures { IsRangedStart started.now }
+{
+    is_byte(started.queue);
+    is_short(started.number);
+    is_short(started.rg);
+    is_byte(started.ruh);
+}
+
+fn is_spot(spot: Spot)
+    ensures { IsRangedSpot spot }
+{
+    is_word(spot.unit);
+    is_word(spot.page);
+}
+
+fn are_bytes(bytes: &[u8])
+    ensures { All (IsOfBits 8) bytes.now }
+{
+    for byte in bytes {
+        is_byte(*byte);
+    }
+}
+
+fn are_blocks(blocks: &[BlockName])
+    ensures { All IsRangedBlock blocks.now }
+{
+    for block in blocks {
+        is_block(*block);
+    }
+}
+
+fn is_block(block: BlockName)
+    ensures { IsRangedBlock block }
+{
+    is_word(block.nsid);
+    is_long(block.lba);
+}
