@@ -4,12 +4,12 @@ use Rattle.fdp_base.specs.declared.config.DriveConfig.{DriveConfig}
 use Rattle.fdp_base.specs.declared.entry.Entry.{Entry}
 use Rattle.std.proofs.lemmas.List.{length-append, take_all, take_more}
 use Rattle.fdp_plain.specs.Refusing.{IsNoStep}
-use Rattle.fdp_plain.specs.Run.{Run}
-use Rattle.fdp_rules.specs.History.{Found, fresh}
+use Rattle.fdp_plain.specs.Run.{Run, found_of, next_position}
+use Rattle.fdp_rules.specs.History.{Found}
 use Rattle.fdp_rules.specs.Legal.{IsLegal, IsLegalAfter}
 use Rattle.fdp_rules.specs.Step.{IsStep}
 use Rattle.fdp_rules.proofs.Pushes.{legal-push}
-use Rattle.fdp_audit.specs.Audit.{IsIllegal, IsWrongNext, placed_from}
+use Rattle.fdp_audit.specs.Audit.{IsIllegal, IsWrongNext, behind, first_position, placed_from}
 use Rattle.fdp_audit.specs.declared.fault.AuditFault.{AuditFault}
 use Rattle.fdp_audit.specs.declared.fault.AuditFault.TheVariants as faults
 use Rattle.fdp_audit.specs.Steps.{IsIllegalIn, IsRefusedNext}
@@ -72,52 +72,66 @@ legal-at told c f b [] e ys h = subst (λ (zs : List Entry). IsStep told c f zs 
 legal-at told c f b (x ∷ xs) e ys h = subst (λ (zs : List Entry). IsStep told c f zs e) (append_assoc b (x ∷ []) xs) (legal-at told c f (b ++ x ∷ []) xs e ys h.1)
 
 -- no legal history at the positions that are due has a wrong entry
-pub legal-not-wrong : (c : DriveConfig) (es : List Entry) (at why : ℕ) → IsLegal true c (fresh c) es → IsIllegal c (placed_from 1 es) at why → ⊥
-legal-not-wrong c es at why legal bad = by bad.wrong where
-  n : HasNext 1 es bad.before bad.next
-  n = placed-next 1 es bad.before bad.next bad.after bad.entries_are
+pub legal-not-wrong : (start : Run) (es : List Entry) (at why : ℕ) → IsLegal true start.config (found_of start) es → IsIllegal start (placed_from (first_position start) es) at why → ⊥
+legal-not-wrong start es at why legal bad = by bad.wrong where
+  c : DriveConfig
+  c = start.config
 
-  place : bad.next.0 ≡ 1 + length bad.before
+  n : HasNext (first_position start) es bad.before bad.next
+  n = placed-next (first_position start) es bad.before bad.next bad.after bad.entries_are
+
+  place : bad.next.0 ≡ first_position start + length bad.before
   place = ap (λ (x : ℕ × Entry). x.0) n.next_is
 
   entry : bad.next.1 ≡ n.entry
   entry = ap (λ (x : ℕ × Entry). x.1) n.next_is
 
-  step : IsStep true c (fresh c) bad.before bad.next.1
-  step = subst (λ (e : Entry). IsStep true c (fresh c) bad.before e) (sym entry) (legal-at true c (fresh c) [] bad.before n.entry n.after (subst (λ (zs : List Entry). IsLegal true c (fresh c) zs) n.es_are legal))
+  step : IsStep true c (found_of start) bad.before bad.next.1
+  step = subst (λ (e : Entry). IsStep true c (found_of start) bad.before e) (sym entry) (legal-at true c (found_of start) [] bad.before n.entry n.after (subst (λ (zs : List Entry). IsLegal true c (found_of start) zs) n.es_are legal))
 
-  by : IsWrongNext c bad.before bad.next why → ⊥
+  by : IsWrongNext (behind start bad.before) bad.next why → ⊥
   by (inl other) = other.0 (omega (arith, place))
   by (inr bad) = bad.1.no_step step
 
 -- ---- entries that are taken one after another
 
--- so many of these were taken
-pub record AreTaken (c : DriveConfig) (xs : List (ℕ × Entry)) (n : ℕ) (run : Run) (due : ℕ) : Type 0 where
-  pub config : run.config ≡ c
-  pub due_is : due ≡ n + 1
+-- so many of these were taken by a run that began here
+pub record AreTaken (start : Run) (xs : List (ℕ × Entry)) (n : ℕ) (run : Run) (due : ℕ) : Type 0 where
+  pub run_is : run ≡ behind start run.entries
+  pub due_is : due ≡ first_position start + n
   pub count : length run.entries ≡ n
-  pub taken : take n xs ≡ placed_from 1 run.entries
-  pub legal : IsLegal true c (fresh c) run.entries
+  pub taken : take n xs ≡ placed_from (first_position start) run.entries
+  pub legal : IsLegal true start.config (found_of start) run.entries
 
-pub none-taken : (c : DriveConfig) (xs : List (ℕ × Entry)) (run : Run) → run ≡ record { config = c; entries = [] } → AreTaken c xs 0 run 1
+pub none-taken : (start : Run) (xs : List (ℕ × Entry)) (due : ℕ) → start.entries ≡ [] → due ≡ next_position start → AreTaken start xs 0 start due
 unfolding IsLegalAfter
-none-taken c xs run is = subst (λ (r : Run). AreTaken c xs 0 r 1) (sym is) (record { config = refl; due_is = omega arith; count = refl; taken = refl; legal = tt })
+none-taken start xs due none is = record {
+  run_is = refl;
+  due_is = omega (arith, is, ap (λ (es : List Entry). length es) none);
+  count = ap (λ (es : List Entry). length es) none;
+  taken = sym (ap (placed_from (first_position start)) none);
+  legal = subst (λ (es : List Entry). IsLegal true start.config (found_of start) es) (sym none) tt;
+}
 
-pub one-taken : (c : DriveConfig) (xs : List (ℕ × Entry)) (n : ℕ) (old new : Run) (due position : ℕ) (e : Entry) → AreTaken c xs n old due → n < length xs → ◌≡◌ {A = ℕ × Entry} (position, e) (get_or xs n (position, e)) → position ≡ due
-    → IsStep true old.config (fresh old.config) old.entries e → new ≡ record old { entries = old.entries ++ e ∷ [] } → AreTaken c xs (n + 1) new (due + 1)
-one-taken c xs n old new due position e h low is same step news =
-    let place : 1 + length old.entries ≡ position = omega (arith, h.count, h.due_is, same) in
-    let more : take (n + 1) xs ≡ placed_from 1 (old.entries ++ e ∷ []) =
+-- a step of the run that has taken these is one behind them
+pub step-behind : (start run : Run) (e : Entry) → run ≡ behind start run.entries → IsStep true run.config (found_of run) run.entries e → IsStep true start.config (found_of start) run.entries e
+step-behind start run e is step = subst (λ (r : Run). IsStep true r.config (found_of r) run.entries e) is step
+
+pub one-taken : (start : Run) (xs : List (ℕ × Entry)) (n : ℕ) (old new : Run) (due position : ℕ) (e : Entry) → AreTaken start xs n old due → n < length xs → ◌≡◌ {A = ℕ × Entry} (position, e) (get_or xs n (position, e)) → position ≡ due
+    → IsStep true old.config (found_of old) old.entries e → new ≡ record old { entries = old.entries ++ e ∷ [] } → AreTaken start xs (n + 1) new (due + 1)
+one-taken start xs n old new due position e h low is same step news =
+    let first = first_position start in
+    let place : first + length old.entries ≡ position = omega (arith, h.count, h.due_is, same) in
+    let more : take (n + 1) xs ≡ placed_from first (old.entries ++ e ∷ []) =
     take_more xs n (position, e) low ∙ ap₂ (λ (ys : List (ℕ × Entry)) (x : ℕ × Entry). ys ++ x ∷ []) h.taken (sym is)
-    ∙ ap (λ (p : ℕ). placed_from 1 old.entries ++ (p, e) ∷ []) (sym place) ∙ sym (placed-more 1 old.entries e) in
-    let step' : IsStep true c (fresh c) old.entries e = subst (λ (d : DriveConfig). IsStep true d (fresh d) old.entries e) h.config step in
-    subst (λ (r : Run). AreTaken c xs (n + 1) r (due + 1)) (sym news) (record {
-      config = h.config;
+    ∙ ap (λ (p : ℕ). placed_from first old.entries ++ (p, e) ∷ []) (sym place) ∙ sym (placed-more first old.entries e) in
+    let own : record old { entries = old.entries ++ e ∷ [] } ≡ behind start (old.entries ++ e ∷ []) = ap (λ (r : Run). record r { entries = old.entries ++ e ∷ [] }) h.run_is in
+    subst (λ (r : Run). AreTaken start xs (n + 1) r (due + 1)) (sym news) (record {
+      run_is = own;
       due_is = omega (arith, h.due_is);
       count = omega (arith, length-append old.entries (e ∷ []), h.count);
       taken = more;
-      legal = legal-push true c (fresh c) old.entries e h.legal step';
+      legal = legal-push true start.config (found_of start) old.entries e h.legal (step-behind start old e h.run_is step);
     })
 
 list-cut : {A : Type 0} (xs : List A) (n : ℕ) (d : A) → n < length xs → xs ≡ take n xs ++ get_or xs n d ∷ drop (n + 1) xs
@@ -128,8 +142,8 @@ list-cut {A} (x ∷ xs) (suc n) d low =
     ap (λ (ys : List A). x ∷ ys) (list-cut xs n d (omega (arith, low))) ∙ ap (λ (k : ℕ). x ∷ (take n xs ++ get_or xs n d ∷ drop k (x ∷ xs))) (sym one)
 
 -- the next one is wrong
-wrong-here : (c : DriveConfig) (xs : List (ℕ × Entry)) (n : ℕ) (run : Run) (due : ℕ) (x : ℕ × Entry) (why : ℕ) → AreTaken c xs n run due → n < length xs → x ≡ get_or xs n x → IsWrongNext c run.entries x why → IsIllegal c xs due why
-wrong-here c xs n run due x why h low is wrong = record {
+wrong-here : (start : Run) (xs : List (ℕ × Entry)) (n : ℕ) (run : Run) (due : ℕ) (x : ℕ × Entry) (why : ℕ) → AreTaken start xs n run due → n < length xs → x ≡ get_or xs n x → IsWrongNext (behind start run.entries) x why → IsIllegal start xs due why
+wrong-here start xs n run due x why h low is wrong = record {
   before = run.entries;
   next = x;
   after = drop (n + 1) xs;
@@ -139,19 +153,21 @@ wrong-here c xs n run due x why h low is wrong = record {
   wrong = wrong;
 }
 
-pub wrong-next : (c : DriveConfig) (xs : List (ℕ × Entry)) (n : ℕ) (run : Run) (due position : ℕ) (e : Entry) (fault : AuditFault) → AreTaken c xs n run due → n < length xs → ◌≡◌ {A = ℕ × Entry} (position, e) (get_or xs n (position, e))
-    → IsRefusedNext run due position e fault → IsIllegalIn c xs fault
-wrong-next c xs n run due position e (faults.Line line) h low is bad = absurd bad
-wrong-next c xs n run due position e (faults.Illegal at why) h low is (inl other) =
+pub wrong-next : (start : Run) (xs : List (ℕ × Entry)) (n : ℕ) (run : Run) (due position : ℕ) (e : Entry) (fault : AuditFault) → AreTaken start xs n run due → n < length xs → ◌≡◌ {A = ℕ × Entry} (position, e) (get_or xs n (position, e))
+    → IsRefusedNext run due position e fault → IsIllegalIn start xs fault
+wrong-next start xs n run due position e (faults.Line line) h low is bad = absurd bad
+wrong-next start xs n run due position e (faults.Illegal at why) h low is (inl other) =
     let place : at ≡ due = other.1 in
-    subst (λ (k : ℕ). IsIllegal c xs k why) (sym place) (wrong-here c xs n run due (position, e) why h low is (inl (λ same. other.0 (omega (arith, same, h.due_is, h.count)), other.2)))
-wrong-next c xs n run due position e (faults.Illegal at why) h low is (inr step) =
-    let bad = step.1 in
+    subst (λ (k : ℕ). IsIllegal start xs k why) (sym place) (wrong-here start xs n run due (position, e) why h low is (inl (λ same. other.0 (omega (arith, same, h.due_is, h.count)), other.2)))
+wrong-next start xs n run due position e (faults.Illegal at why) h low is (inr step) =
+    let bad : IsNoStep (behind start run.entries) e at why = subst (λ (r : Run). IsNoStep r e at why) h.run_is step.1 in
     let place : at ≡ due = omega (arith, bad.position, h.due_is, h.count) in
-    let bad' : IsNoStep c run.entries e (length run.entries + 1) why = subst (λ (k : ℕ). IsNoStep c run.entries e k why) bad.position (subst (λ (d : DriveConfig). IsNoStep d run.entries e at why) h.config bad) in
-    subst (λ (k : ℕ). IsIllegal c xs k why) (sym place) (wrong-here c xs n run due (position, e) why h low is (inr (omega (arith, step.0, h.due_is, h.count), bad')))
-wrong-next c xs n run due position e (faults.Output line) h low is bad = absurd bad
-wrong-next c xs n run due position e faults.NoMemory h low is bad = tt
+    subst (λ (k : ℕ). IsIllegal start xs k why) (sym place)
+    (wrong-here start xs n run due (position, e) why h low is (inr (omega (arith, step.0, h.due_is, h.count), subst (λ (k : ℕ). IsNoStep (behind start run.entries) e k why) bad.position bad)))
+wrong-next start xs n run due position e (faults.Output line) h low is bad = absurd bad
+wrong-next start xs n run due position e faults.NoMemory h low is bad = tt
 
-pub all-taken : (c : DriveConfig) (xs : List (ℕ × Entry)) (n : ℕ) (run : Run) (due : ℕ) → length xs ≤ n → AreTaken c xs n run due → xs ≡ placed_from 1 run.entries
-all-taken c xs n run due high h = sym (take_all n xs high) ∙ h.taken
+pub all-taken : (start : Run) (xs : List (ℕ × Entry)) (n : ℕ) (run : Run) (due : ℕ) → start.entries ≡ [] → length xs ≤ n → AreTaken start xs n run due → xs ≡ placed_from (next_position start) run.entries
+all-taken start xs n run due none high h =
+    let first : first_position start ≡ next_position start = omega (arith, ap (λ (es : List Entry). length es) none) in
+    sym (take_all n xs high) ∙ h.taken ∙ ap (λ (k : ℕ). placed_from k run.entries) first

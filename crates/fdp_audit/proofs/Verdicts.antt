@@ -10,7 +10,7 @@ use Rattle.fdp_base.specs.declared.entry.Entry.{Entry}
 use Rattle.fdp_base.specs.Geometry.{IsWithin}
 use Rattle.fdp_base.specs.Text.{spaced}
 use Rattle.fdp_output.specs.HistoryText.{entry_data, entry_lines, entry_words, history_text, record_of}
-use Rattle.std.specs.Prelude.{decimal}
+use Rattle.std.specs.Prelude.{IfErr, OnOk, decimal}
 use Rattle.fdp_output.specs.RunOutput.{output_of}
 use Rattle.fdp_prints.specs.Told.{AreTold, IsTold, printed}
 use Rattle.fdp_reader.specs.declared.place.Place.{Place}
@@ -20,14 +20,14 @@ use Rattle.fdp_reader.specs.declared.fault.RecordFault.{RecordFault}
 use Rattle.fdp_reader.specs.declared.fault.RecordFault.TheVariants as records
 use Rattle.fdp_reader.specs.declared.record.Printed.{Printed}
 use Rattle.fdp_reader.specs.Record.{GivesRecord, IsPrinted, IsRecord, IsRecordCause}
-use Rattle.fdp_plain.specs.Run.{Run}
+use Rattle.fdp_plain.specs.Run.{Run, found_of, next_position}
 use Rattle.fdp_reader.proofs.Walking.{some-one}
-use Rattle.fdp_rules.specs.History.{fresh}
+use Rattle.fdp_rules.specs.History.{Found, fresh}
 use Rattle.fdp_rules.specs.Legal.{IsLegal}
 use Rattle.fdp_audit.specs.declared.fault.AuditFault.{AuditFault}
 use Rattle.fdp_audit.specs.declared.fault.AuditFault.TheVariants as faults
-use Rattle.fdp_audit.specs.Audit.{IsAudited, IsFirstOther, IsIllegal, placed_from}
-use Rattle.fdp_audit.specs.Steps.{IsIllegalIn, IsOtherOutput, IsVerdict, of_record}
+use Rattle.fdp_audit.specs.Audit.{IsAudited, IsFirstOther, IsIllegal, IsRecordFrom, behind, first_position, first_run, placed_from}
+use Rattle.fdp_audit.specs.Steps.{IsIllegalIn, IsOtherOutput, IsRecordOfRun, IsVerdict, of_record}
 use Rattle.fdp_audit.proofs.Judging.{legal-not-wrong, placed-one, some-head}
 use Rattle.fdp_audit.proofs.Outputs.{output-form}
 
@@ -56,17 +56,20 @@ placed-told c position [] told = All-nil (IsTold c)
 placed-told c position (e ∷ es) told = All-cons (IsTold c) e es told.0.1 (placed-told c (position + 1) es told.1)
 
 -- the text of a record of a legal history is a record
-pub audited-record : (c : DriveConfig) (text : List ℕ) (count : ℕ) → length text < 2 ^ 64 → (a : IsAudited c text count) → IsRecord c text a.traces (output_of c (fresh c) a.traces a.es) (placed_from 1 a.es)
-unfolding record_of fresh
-audited-record c text count small a =
-    let out = output_of c (fresh c) a.traces a.es in
-    let is : text ≡ out ++ history_text c.block 1 a.es = a.text_is in
-    let long = ap (λ (t : List ℕ). length t) is ∙ length-append out (history_text c.block 1 a.es) in
-    let few : 1 + length a.es ≤ 2 ^ 64 = omega (arith, few-entries c.block 1 a.es, long, small) in
+pub from-record : (start : Run) (text : List ℕ) (es : List Entry) → length text < 2 ^ 64 → first_position start + length text ≤ 2 ^ 64 → (a : IsRecordFrom start text es) → IsRecord start.config text a.traces (output_of start.config (found_of start) a.traces es) (placed_from (first_position start) es)
+unfolding record_of
+from-record start text es small room a =
+    let c = start.config in
+    let out = output_of c (found_of start) a.traces es in
+    let first = first_position start in
+    let at : (found_of start).totals.position + 1 ≡ first = omega arith in
+    let is : text ≡ out ++ history_text c.block first es = a.text_is ∙ ap (λ (p : ℕ). out ++ history_text c.block p es) at in
+    let long = ap (λ (t : List ℕ). length t) is ∙ length-append out (history_text c.block first es) in
+    let few : first + length es ≤ 2 ^ 64 = omega (arith, few-entries c.block first es, long, room) in
     record {
-      form = output-form c (fresh c) a.traces a.es a.queues;
-      told = told-placed c 1 a.es few a.told;
-      text_is = is ∙ ap (λ (t : List ℕ). out ++ t) (sym (history-is c.block 1 a.es));
+      form = output-form c (found_of start) a.traces es a.queues;
+      told = told-placed c first es few a.told;
+      text_is = is ∙ ap (λ (t : List ℕ). out ++ t) (sym (history-is c.block first es));
     }
 
 -- ---- how many queues an output has
@@ -122,18 +125,20 @@ form-within c traces output some f = walk-within c some places.Start f.lines (pl
 -- ---- what a record comes to
 
 -- a record of a legal history with the output of that history
-pub record-audited : (c : DriveConfig) (text : List ℕ) (traces : ℕ) (output : List ℕ) (es : List Entry) → 1 ≤ c.queues → IsRecord c text traces output (placed_from 1 es) → IsLegal true c (fresh c) es → output ≡ output_of c (fresh c) traces es
-    → IsAudited c text (length es)
-unfolding record_of fresh
-record-audited c text traces output es some r legal same = record {
-  traces = traces;
-  queues = form-within c traces output some r.form;
-  es = es;
-  told = placed-told c 1 es r.told;
-  legal = legal;
-  text_is = r.text_is ∙ ap₂ (λ (a b : List ℕ). a ++ b) same (history-is c.block 1 es);
-  count_is = refl;
-}
+pub record-from : (start : Run) (text : List ℕ) (traces : ℕ) (output : List ℕ) (es : List Entry) → 1 ≤ start.config.queues → IsRecord start.config text traces output (placed_from (first_position start) es) → IsLegal true start.config (found_of start) es
+    → output ≡ output_of start.config (found_of start) traces es → IsRecordFrom start text es
+unfolding record_of
+record-from start text traces output es some r legal same =
+    let c = start.config in
+    let first = first_position start in
+    let at : first ≡ (found_of start).totals.position + 1 = omega arith in
+    record {
+      traces = traces;
+      queues = form-within c traces output some r.form;
+      told = placed-told c first es r.told;
+      legal = legal;
+      text_is = r.text_is ∙ ap₂ (λ (a b : List ℕ). a ++ b) same (history-is c.block first es ∙ ap (λ (p : ℕ). history_text c.block p es) at);
+    }
 
 take-front : (a x : List ℕ) → take (length a) (a ++ x) ≡ a
 take-front [] x = refl
@@ -155,52 +160,90 @@ pub cut-off : (c : DriveConfig) (text : List ℕ) (p : Printed) (read : IsPrinte
 cut-off c text p read =
     ap₂ (λ (n : ℕ) (t : List ℕ). take n t) read.count read.record_is.text_is ∙ take-front read.output (printed c.block p.entries.items)
 
-module _ (c : DriveConfig) (text : List ℕ) (small : length text < 2 ^ 64) where
+module _ (start : Run) (text : List ℕ) (small : length text < 2 ^ 64) (room : first_position start + length text ≤ 2 ^ 64) where
+  abbrev c : DriveConfig
+  c = start.config
+
+  abbrev f : Found
+  f = found_of start
+
+  abbrev first : ℕ
+  first = first_position start
+
   -- the text was read as this
   abbrev pub IsReadAs : Result Printed RecordFault → Type 0
   IsReadAs result = (traces : ℕ) (output : List ℕ) (entries : List (ℕ × Entry)) → IsRecord c text traces output entries → GivesRecord traces output entries result
 
-  pub read-no : (cause : RecordFault) → IsRecordCause c text cause → IsReadAs (Err cause) → IsVerdict c text (Err (of_record cause))
-  read-no (records.Line line) bad only = (bad, λ count a. only a.traces (output_of c (fresh c) a.traces a.es) (placed_from 1 a.es) (audited-record c text count small a))
-  read-no records.NoMemory bad only = (tt, λ count a. tt)
+  pub read-no : (run : Run) (cause : RecordFault) → IsRecordCause c text cause → IsReadAs (Err cause) → IsVerdict start text run (Err (of_record cause))
+  read-no run (records.Line line) bad only = (bad, λ es a. only a.traces (output_of c f a.traces es) (placed_from first es) (from-record start text es small room a))
+  read-no run records.NoMemory bad only = (tt, λ es a. tt)
 
-  -- what was read of a text that is to be audited yes
-  read-yes : (p : Printed) → IsReadAs (Ok p) → (count : ℕ) → (a : IsAudited c text count) → GivesRecord a.traces (output_of c (fresh c) a.traces a.es) (placed_from 1 a.es) (Ok p)
-  read-yes p only count a = only a.traces (output_of c (fresh c) a.traces a.es) (placed_from 1 a.es) (audited-record c text count small a)
+  -- what was read of a text that is the record of a run that begins here
+  read-yes : (p : Printed) → IsReadAs (Ok p) → (es : List Entry) → (a : IsRecordFrom start text es) → GivesRecord a.traces (output_of c f a.traces es) (placed_from first es) (Ok p)
+  read-yes p only es a = only a.traces (output_of c f a.traces es) (placed_from first es) (from-record start text es small room a)
 
-  pub judged-no : (p : Printed) → IsPrinted c text p → IsReadAs (Ok p) → (fault : AuditFault) → IsIllegalIn c p.entries.items fault → IsVerdict c text (Err fault)
-  judged-no p read only (faults.Line line) bad = absurd bad
-  judged-no p read only (faults.Illegal at why) bad = (
+  pub judged-no : (run : Run) (p : Printed) → IsPrinted c text p → IsReadAs (Ok p) → (fault : AuditFault) → IsIllegalIn start p.entries.items fault → IsVerdict start text run (Err fault)
+  judged-no run p read only (faults.Line line) bad = absurd bad
+  judged-no run p read only (faults.Illegal at why) bad = (
     record { traces = p.traces; output = read.output; entries = p.entries.items; record_is = read.record_is; illegal = bad },
-    λ count a. legal-not-wrong c a.es at why a.legal (subst (λ (xs : List (ℕ × Entry)). IsIllegal c xs at why) (read-yes p only count a).2 bad),
+    λ es a. legal-not-wrong start es at why a.legal (subst (λ (xs : List (ℕ × Entry)). IsIllegal start xs at why) (read-yes p only es a).2 bad),
   )
-  judged-no p read only (faults.Output line) bad = absurd bad
-  judged-no p read only faults.NoMemory bad = (tt, λ count a. tt)
+  judged-no run p read only (faults.Output line) bad = absurd bad
+  judged-no run p read only faults.NoMemory bad = (tt, λ es a. tt)
 
-  -- it is the record of these entries
-  record-of : (p : Printed) → (read : IsPrinted c text p) → (es : List Entry) → p.entries.items ≡ placed_from 1 es → IsRecord c text p.traces read.output (placed_from 1 es)
-  record-of p read es whole = subst (IsRecord c text p.traces read.output) whole read.record_is
+  module _ (p : Printed) (read : IsPrinted c text p) (only : IsReadAs (Ok p)) (run : Run) (is : run ≡ behind start run.entries) (whole : p.entries.items ≡ placed_from first run.entries) (legal : IsLegal true c f run.entries) where
+    -- it is the record of the entries that were taken
+    record-of : IsRecord c text p.traces read.output (placed_from first run.entries)
+    record-of = subst (IsRecord c text p.traces read.output) whole read.record_is
 
-  -- an audited text has the entries that were taken, and the output that was cut off
-  pub compared-no : (p : Printed) (read : IsPrinted c text p) → IsReadAs (Ok p) → (run : Run) → run.config ≡ c → p.entries.items ≡ placed_from 1 run.entries → IsLegal true c (fresh c) run.entries
-      → (fault : AuditFault) → IsOtherOutput run p.traces read.output fault → IsVerdict c text (Err fault)
-  compared-no p read only run config whole legal (faults.Line line) bad = absurd bad
-  compared-no p read only run config whole legal (faults.Illegal at why) bad = absurd bad
-  compared-no p read only run config whole legal (faults.Output line) bad =
-      let other = subst (λ (d : DriveConfig). IsFirstOther read.output (output_of d (fresh d) p.traces run.entries) line) config bad in (
-        record { traces = p.traces; output = read.output; es = run.entries; record_is = record-of p read run.entries whole; legal = legal; other = other },
-        λ count a.
-            let given = read-yes p only count a in
-            let same : run.entries ≡ a.es = placed-one 1 run.entries a.es (sym whole ∙ given.2) in
-            let front : read.output ≡ output_of c (fresh c) a.traces a.es = same-front read.output (output_of c (fresh c) a.traces a.es) (printed c.block p.entries.items) (printed c.block (placed_from 1 a.es))
-            (sym read.count ∙ given.1) (sym read.record_is.text_is ∙ (audited-record c text count small a).text_is) in
-            other.differ (front ∙ ap₂ (λ (n : ℕ) (es : List Entry). output_of c (fresh c) n es) (sym given.0) (sym same)),
-      )
-  compared-no p read only run config whole legal faults.NoMemory bad = (tt, λ count a. tt)
+    same-entries : (es : List Entry) → IsRecordFrom start text es → run.entries ≡ es
+    same-entries es a = placed-one first run.entries es (sym whole ∙ (read-yes p only es a).2)
 
-  pub compared-yes : 1 ≤ c.queues → (p : Printed) (read : IsPrinted c text p) → IsReadAs (Ok p) → (run : Run) → run.config ≡ c → p.entries.items ≡ placed_from 1 run.entries → IsLegal true c (fresh c) run.entries
-      → read.output ≡ output_of run.config (fresh run.config) p.traces run.entries → (count : ℕ) → count ≡ length run.entries → IsVerdict c text (Ok count)
-  compared-yes some p read only run config whole legal same count is = (
-    subst (IsAudited c text) (sym is) (record-audited c text p.traces read.output run.entries some (record-of p read run.entries whole) legal (same ∙ ap (λ (d : DriveConfig). output_of d (fresh d) p.traces run.entries) config)),
-    λ n a. is ∙ ap (λ (es : List Entry). length es) (placed-one 1 run.entries a.es (sym whole ∙ (read-yes p only n a).2)) ∙ sym a.count_is,
-  )
+    own-output : output_of run.config (found_of run) p.traces run.entries ≡ output_of c f p.traces run.entries
+    own-output = ap (λ (r : Run). output_of r.config (found_of r) p.traces run.entries) is
+
+    -- it has the output that was cut off
+    pub compared-no : (fault : AuditFault) → IsOtherOutput run p.traces read.output fault → IsVerdict start text run (Err fault)
+    compared-no (faults.Line line) bad = absurd bad
+    compared-no (faults.Illegal at why) bad = absurd bad
+    compared-no (faults.Output line) bad =
+        let other = subst (λ (o : List ℕ). IsFirstOther read.output o line) own-output bad in (
+          record { traces = p.traces; output = read.output; es = run.entries; record_is = record-of; legal = legal; other = other },
+          λ es a.
+              let given = read-yes p only es a in
+              let same : run.entries ≡ es = same-entries es a in
+              let front : read.output ≡ output_of c f a.traces es = same-front read.output (output_of c f a.traces es) (printed c.block p.entries.items) (printed c.block (placed_from first es))
+              (sym read.count ∙ given.1) (sym read.record_is.text_is ∙ (from-record start text es small room a).text_is) in
+              other.differ (front ∙ ap₂ (λ (n : ℕ) (ds : List Entry). output_of c f n ds) (sym given.0) (sym same)),
+        )
+    compared-no faults.NoMemory bad = (tt, λ es a. tt)
+
+    pub compared-yes : 1 ≤ c.queues → read.output ≡ output_of run.config (found_of run) p.traces run.entries → IsRecordOfRun start text run
+    compared-yes some same = record {
+      run_is = is;
+      record_is = record-from start text p.traces read.output run.entries some record-of legal (same ∙ own-output);
+      one = same-entries;
+    }
+
+    -- so the comparison ends the audit
+    pub compared : 1 ≤ c.queues → (result : Result (Unit {0}) AuditFault) → OnOk result (read.output ≡ output_of run.config (found_of run) p.traces run.entries) → IfErr result (IsOtherOutput run p.traces read.output) → IsVerdict start text run result
+    compared some (Ok done) same other = compared-yes some same
+    compared some (Err fault) same other = compared-no fault other
+
+-- ---- the first run
+
+-- the verdict on the first run is that of the audit
+pub first-yes : (c : DriveConfig) (text : List ℕ) (run : Run) → IsRecordOfRun (first_run c) text run → IsAudited c text (length run.entries)
+first-yes c text run v = record { es = run.entries; record_is = v.record_is; count_is = refl }
+
+pub first-one : (c : DriveConfig) (text : List ℕ) (run : Run) (count : ℕ) → IsRecordOfRun (first_run c) text run → IsAudited c text count → length run.entries ≡ count
+first-one c text run count v a = ap (λ (es : List Entry). length es) (v.one a.es a.record_is) ∙ sym a.count_is
+
+-- its entries have the positions from 1 on
+pub first-place : (c : DriveConfig) → next_position (first_run c) ≡ 1
+unfolding fresh
+first-place c = refl
+
+-- a run that has no entry yet begins with the next position
+pub begins-next : (start : Run) → start.entries ≡ [] → first_position start ≡ next_position start
+begins-next start none = omega (arith, ap (λ (es : List Entry). length es) none)

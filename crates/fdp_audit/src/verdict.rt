@@ -1,11 +1,11 @@
 //! The audit of a record.
 
-ghost use Rattle.std.specs.Prelude.{◌≡◌, ◌≢◌, ℕ, IfErr, IfOk, List, Ok, OnOk, bytes_eq};
+ghost use Rattle.std.specs.Prelude.{◌≡◌, ◌≢◌, ℕ, [], IfErr, IfOk, List, Ok, OnOk, bytes_eq};
 ghost use Rattle.fdp_base.specs.declared.entry.Entry.{Entry};
 ghost use Rattle.fdp_base.specs.Config.{IsValidConfig};
 ghost use Rattle.fdp_output.specs.RunOutput.{output_of};
+ghost use Rattle.fdp_plain.specs.Run.{found_of, next_position};
 ghost use Rattle.fdp_reader.specs.Record.{GivesRecord, IsPrinted, IsRecord};
-ghost use Rattle.fdp_rules.specs.History.{fresh};
 ghost use Rattle.fdp_audit.specs.Audit.{GivesYes, IsAuditCause, IsAudited, IsFirstOther};
 ghost use Rattle.fdp_audit.specs.Steps.{IsOtherOutput, IsVerdict};
 
@@ -31,15 +31,21 @@ pub fn audit(alloc: Global, text: &[u8], config: &DriveConfig) -> Result<u64, Au
     // No such record is refused, unless memory runs out.
     ensures only { (count : ℕ) → IsAudited config.now text.now count → GivesYes count result }
 {
-    verdict(alloc, text, config)
+    let mut plain = Plain::new(alloc, config)?;
+    match audit_run(alloc, text, &mut plain) {
+        Ok(()) => Ok(plain.entries().len() as u64),
+        Err(fault) => Err(fault),
+    }
 }
 
-fn verdict(alloc: Global, text: &[u8], config: &DriveConfig) -> Result<u64, AuditFault>
-    requires { IsValidConfig config.now }
-    ensures { IsVerdict config.now text.now result }
+/// Has a plain drive on a new image take the history of a text, if the text is the record of such a run.
+fn audit_run(alloc: Global, text: &[u8], plain: &mut Plain) -> Result<(), AuditFault>
+    requires begins { plain.old.entries ≡ [] }
+    requires first { next_position plain.old ≡ 1 }
+    ensures { IsVerdict plain.old text.now plain.new result }
 {
-    match read_record(alloc, text, config) {
-        Ok(read) => judge_read(alloc, text, config, read),
+    match read_record(alloc, text, plain.config()) {
+        Ok(read) => judge_read(alloc, text, plain, read),
         Err(cause) => Err(AuditFault::from(cause)),
     }
 }
@@ -48,31 +54,30 @@ fn verdict(alloc: Global, text: &[u8], config: &DriveConfig) -> Result<u64, Audi
 fn judge_read(
     alloc: Global,
     text: &[u8],
-    config: &DriveConfig,
+    plain: &mut Plain,
     read: Printed,
-) -> Result<u64, AuditFault>
-    requires valid { IsValidConfig config.now }
-    requires printed { IsPrinted config.now text.now read }
-    requires only { (traces : ℕ) (output : List ℕ) (entries : List (ℕ × Entry)) → IsRecord config.now text.now traces output entries → GivesRecord traces output entries (Ok read) }
-    ensures { IsVerdict config.now text.now result }
+) -> Result<(), AuditFault>
+    requires begins { plain.old.entries ≡ [] }
+    requires first { next_position plain.old ≡ 1 }
+    requires valid { IsValidConfig plain.old.config }
+    requires printed { IsPrinted plain.old.config text.now read }
+    requires only { (traces : ℕ) (output : List ℕ) (entries : List (ℕ × Entry)) → IsRecord plain.old.config text.now traces output entries → GivesRecord traces output entries (Ok read) }
+    ensures { IsVerdict plain.old text.now plain.new result }
 {
     let Printed {
         traces,
         output,
         entries,
     } = read;
-    match judge(alloc, config, entries) {
-        Ok(plain) => match compare(alloc, &plain, traces, &text[..output]) {
-            Ok(()) => Ok(plain.entries().len() as u64),
-            Err(fault) => Err(fault),
-        },
+    match judge(alloc, plain, entries) {
+        Ok(()) => compare(alloc, plain, traces, &text[..output]),
         Err(fault) => Err(fault),
     }
 }
 
 /// Whether this is the output of so many queues that the history of a drive gives, or the first line that differs.
 fn compare(alloc: Global, plain: &Plain, traces: u8, output: &[u8]) -> Result<(), AuditFault>
-    ensures same { OnOk result (output.now ≡ output_of plain.now.config (fresh plain.now.config) traces plain.now.entries) }
+    ensures same { OnOk result (output.now ≡ output_of plain.now.config (found_of plain.now) traces plain.now.entries) }
     ensures other { IfErr result (IsOtherOutput plain.now traces output.now) }
 {
     let due = output_due(alloc, plain, traces)?;
@@ -86,7 +91,7 @@ fn compare(alloc: Global, plain: &Plain, traces: u8, output: &[u8]) -> Result<()
 
 /// The output of so many queues that the history of a drive gives.
 fn output_due(alloc: Global, plain: &Plain, traces: u8) -> Result<Vec<u8>, AuditFault>
-    ensures due { IfOk result (λ text. text.items ≡ output_of plain.now.config (fresh plain.now.config) traces plain.now.entries) }
+    ensures due { IfOk result (λ text. text.items ≡ output_of plain.now.config (found_of plain.now) traces plain.now.entries) }
     ensures memory { IfErr result (λ fault. fault ≡ AuditFault.NoMemory) }
 {
     let closing = closing_of(alloc, &Told { plain })?;

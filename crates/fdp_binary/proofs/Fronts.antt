@@ -58,7 +58,7 @@ one_head a b m n sm sn e =
 one_frame_of : (len : ℕ) (fields : List Field) (vss wss : List (List ℕ)) → IsTrue (ascend 0 len fields) → Fits fields vss → Fits fields wss → frame_of len fields vss ≡ frame_of len fields wss → vss ≡ wss
 one_frame_of len fields vss wss asc fv fw same = sym (again len fields vss asc fv).0 ∙ ap (numbers_in fields) same ∙ (again len fields wss asc fw).0
 
-one_entry : (e g : Sqe) → Fits sqe (sqe_numbers e) → Fits sqe (sqe_numbers g) → entry_bytes e ≡ entry_bytes g → e ≡ g
+pub one_entry : (e g : Sqe) → Fits sqe (sqe_numbers e) → Fits sqe (sqe_numbers g) → entry_bytes e ≡ entry_bytes g → e ≡ g
 one_entry e g fe fg same = sqe_by_numbers e g (one_frame_of 64 sqe (sqe_numbers e) (sqe_numbers g) refl fe fg same)
 
 pub one_range : (r s : DsmRange) → Fits dsm_range (dsm_range_numbers r) → Fits dsm_range (dsm_range_numbers s) → frame_of 16 dsm_range (dsm_range_numbers r) ≡ frame_of 16 dsm_range (dsm_range_numbers s) → r ≡ s

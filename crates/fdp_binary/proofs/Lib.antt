@@ -8,3 +8,4 @@ pub mod Said
 pub mod Splitting
 pub mod Advancing
 pub mod Serving
+pub mod Own

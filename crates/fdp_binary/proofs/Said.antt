@@ -23,7 +23,7 @@ use Rattle.fdp_binary.proofs.Laid.{laid-length, one_laid}
 use Rattle.fdp_binary.proofs.Made.{pid-size, range-size}
 
 -- the kind of a command, as its entry asks for it
-pub kind_of : Command → Option Asked
+unfoldable pub kind_of : Command → Option Asked
 kind_of (commands.Write w) = Some kinds.Write
 kind_of (commands.Read r) = Some kinds.Read
 kind_of (commands.Zero z) = Some kinds.Zero

@@ -63,7 +63,8 @@ fn head_bytes(admin: bool, len: u32) -> [u8; 16]
     [u8::from(admin), 0, 0, 0, a, b, c, d, 0, 0, 0, 0, 0, 0, 0, 0]
 }
 
-fn entry_of(bytes: &[u8]) -> Option<Sqe>
+/// The entry that these bytes are, if they are one: bits that are reserved have to be zero.
+pub fn entry_of(bytes: &[u8]) -> Option<Sqe>
     requires { length bytes.now ≡ 64 }
     ensures { MatchOption result (IsNoEntry bytes.now) (λ entry. IsEntry bytes.now entry) }
 {

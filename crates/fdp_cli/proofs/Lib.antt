@@ -1,3 +1,4 @@
 pub mod Benches
 pub mod GoingOn
+pub mod Recorded
 pub mod Shown

@@ -58,6 +58,7 @@ use Rattle.fdp_drive.specs.fdp_roominess.Capacity.{exceeds_capacity}
 use Rattle.fdp_drive.specs.fdp_roominess.Run.{BeganRoomy, IsRoomyImage, StaysRoomy, WearsByFailure}
 use Rattle.fdp_drive.proofs.fdp_core.Loading.{entries-begun, unimaged}
 use Rattle.fdp_drive.proofs.fdp_core.Unfailing.{unfailing-fits}
+use Rattle.fdp_ranges.specs.Ranged.{IsRanged}
 use Rattle.fdp_rules.specs.History.{Found, point_of}
 use Rattle.fdp_rules.specs.Legal.{IsLegal}
 use Rattle.fdp_rules.specs.Queue.{KeepsQueueOrder}
@@ -82,6 +83,7 @@ trace_served items c d xs same all =
 pub record HasServed {F : Type 0} (state : F → FlashState) (c : DriveConfig) (handed : F) (old new : Seen F) : Type 0 where
   pub loaded : IsLoaded state c handed old
   pub legal : IsLegalOver (state new.flash) new.book
+  pub ranged : All IsRanged new.book.entries
   pub cells : HoldsHistory (state new.flash) new.book
   pub apart : IsTrue (state new.flash).told → OpenedApart new.book.config new.book.found new.book.opened → IsIsolatedDrive new.book.config (point_in new.book) new.book.entries (state new.flash).cells
   pub reads : IsTrue (state new.flash).told → OpenedApart new.book.config new.book.found new.book.opened → ReadsIsolated new.book.config (state new.flash).cells
@@ -283,6 +285,7 @@ run_by {F} state c traces receipts end handed given old new has same served =
       legal = subst (λ (f : F). IsLegalOver (state f) new.book) (sym same) has.legal;
       orders = subst (λ (x : DriveConfig). KeepsOrders x traces new.book.entries) (config-is state c handed old new has served.same) served.orders;
       others = served.others;
+      ranged = has.ranged;
       held = record {
         told_is = served.same.told_is ∙ has.loaded.stops.told;
         counted = subst (λ (k : Counts). CountedSince k (state new.flash) (start_of new.book) new.book.entries) is has.counted;

@@ -1,5 +1,5 @@
 -- One drive on its flash, from the flash that is handed in to the end of the traces.
-use Rattle.std.specs.Prelude.{◌≡◌, ℕ, ◌<◌, ◌≤◌, IsFalse, IsTrue, List, false, true}
+use Rattle.std.specs.Prelude.{◌≡◌, ℕ, ◌<◌, ◌≤◌, All, IsFalse, IsTrue, List, false, true}
 use Rattle.std.specs.List.{list_any}
 use Rattle.fdp_base.specs.declared.command.Command.{Command}
 use Rattle.fdp_base.specs.declared.config.DriveConfig.{DriveConfig}
@@ -26,6 +26,7 @@ use Rattle.fdp_drive.specs.fdp_roominess.Capacity.{exceeds_capacity}
 use Rattle.fdp_drive.specs.fdp_roominess.Run.{BeganRoomy, IsRoomyImage, StaysRoomy, WearsByFailure}
 use Rattle.fdp_make.specs.Load.{make_traces}
 use Rattle.fdp_make.specs.Summary.{same_blocks, unrefuted_blocks}
+use Rattle.fdp_ranges.specs.Ranged.{IsRanged}
 use Rattle.fdp_rules.specs.History.{Found}
 use Rattle.fdp_drive.specs.fdp_workers.declared.ends.End.{End}
 use Rattle.fdp_drive.specs.fdp_workers.declared.ends.End.TheVariants as ends
@@ -75,7 +76,7 @@ pub record HoldsRecord {F : Type 0} (state : F → FlashState) (handed : F) (gro
 
 -- A drive of this configuration was opened on this flash, or made there, and served the traces to this end, with hosts and collectors beside one another. What
 -- it began with is what the image stood for; its history since is legal, and in it each queue has completed a beginning of its trace, in order, each command
--- once. A queue without a trace has completed nothing. The flash is given back.
+-- once, and let go no other write than those. A queue without a trace has completed nothing. Each number of the history is one of its type. The flash is given back.
 pub record IsRun {F : Type 0} (state : F → FlashState) (c : DriveConfig) (traces : List (List Command)) (end : End) (handed given : F) (f : Found) (es : List Entry) : Type 0 where
   pub old : Seen F
   pub new : Seen F
@@ -88,14 +89,19 @@ pub record IsRun {F : Type 0} (state : F → FlashState) (c : DriveConfig) (trac
   pub legal : IsLegalOver (state given) new.book
   pub orders : KeepsOrders c traces es
   pub others : OnlyThese traces es
+  pub ranged : All IsRanged es
   pub held : HoldsRecord state handed new
+
+-- each call has a moment of its own, where one of the replies tells of a media error
+abbrev pub HasOwnMoments : FlashState → List Entry → Type 0
+HasOwnMoments flash es = IsTrue (list_any is_media_reply es) → HasMoments flash
 
 -- Where the traces are those of a generated load, the blocks that its summary counts are just those that equal the last applied write of the same queue
 -- to that block before the read, or, where there is none, the block as the run found it. It is said over a flash that tells its cells; where
 -- one of the replies tells of a media error, as long as each call has a moment of its own.
 abbrev pub CountsSame : FlashState → DriveConfig → List (List Command) → Found → List Entry → Type 0
 CountsSame flash c traces f es =
-    (number : ℕ) → traces ≡ make_traces number → IsTrue flash.told → (IsTrue (list_any is_media_reply es) → HasMoments flash)
+    (number : ℕ) → traces ≡ make_traces number → IsTrue flash.told → HasOwnMoments flash es
     → unrefuted_blocks c.block es ≡ same_blocks c f es
 
 -- each queue has completed its whole trace

@@ -21,6 +21,7 @@ use fdp_flash::Flash;
 use fdp_io::{Bench, Gate, NotTaken, Sink, write_all};
 use fdp_make::{push_summary, summary_of};
 use fdp_printing::{Closing, Cut, print_output, print_record};
+use fdp_ranges::are_ranged;
 use std::alloc::Global;
 use std::sync::Wait;
 use std::thread::Threads;
@@ -134,6 +135,8 @@ fn run_on<F: Flash + Send + Drop, K: Sink, G: Gate + Sync, R: Threads + Wait + S
                 end,
             } = run_session(rt, alloc, group, traces, collectors, turns, gate);
             let status = show(alloc, &group, end, form, count, sink);
+            // It does nothing: a number that is read is one of its type, and what is told of the history says so.
+            are_ranged(group.entries());
             let (flash, _entries) = group.finish();
             RunEnd { flash, status }
         }

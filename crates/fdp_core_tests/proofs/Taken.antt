@@ -9,36 +9,40 @@ use Rattle.fdp_rules.specs.Legal.{IsLegal, IsLegalAfter}
 use Rattle.fdp_rules.specs.Step.{IsStep}
 use Rattle.fdp_rules.proofs.Pushes.{legal-push}
 use Rattle.fdp_plain.specs.Refusing.{IsNoStep}
-use Rattle.fdp_plain.specs.Run.{Run}
+use Rattle.fdp_plain.specs.Run.{Run, found_of}
 use Rattle.fdp_core_tests.specs.Replayed.{IsTaken}
+
+-- a fresh run that took these entries
+abbrev pub run_with : DriveConfig → List Entry → Run
+run_with c es = record { config = c; earlier = []; entries = es }
 
 -- a plain drive took so many entries of a history, from the first on
 pub record IsReplayed (c : DriveConfig) (es : List Entry) (run : Run) (count : ℕ) : Type 0 where
-  pub config_is : run.config ≡ c
-  pub entries_are : run.entries ≡ take count es
+  pub run_is : run ≡ run_with c (take count es)
   pub few : count ≤ length es
   pub legal : IsLegal true c (fresh c) (take count es)
 
-pub replayed-first : (c : DriveConfig) (es : List Entry) (run : Run) → run ≡ record { config = c; entries = [] } → IsReplayed c es run 0
+pub replayed-first : (c : DriveConfig) (es : List Entry) (run : Run) → run ≡ run_with c [] → IsReplayed c es run 0
 unfolding IsLegalAfter
 replayed-first c es run is = record {
-  config_is = ap (λ (r : Run). r.config) is;
-  entries_are = ap (λ (r : Run). r.entries) is;
+  run_is = is;
   few = omega arith;
   legal = tt;
 }
 
 -- an entry more is taken
 pub replayed-next : (c : DriveConfig) (es : List Entry) (run new : Run) (i : ℕ) (e : Entry) → i < length es → slice_get es i ≡ Some e →
-    IsStep true run.config (fresh run.config) run.entries e → new ≡ record run { entries = run.entries ++ e ∷ [] } → IsReplayed c es run i → IsReplayed c es new (i + 1)
+    IsStep true run.config (found_of run) run.entries e → new ≡ record run { entries = run.entries ++ e ∷ [] } → IsReplayed c es run i → IsReplayed c es new (i + 1)
 replayed-next c es run new i e below is step longer h =
     let more : take (i + 1) es ≡ take i es ++ e ∷ [] = take_more es i e below ∙ ap (λ (x : Entry). take i es ++ x ∷ []) (get_or_from_slice_get es i e e is) in
-    let here : IsStep true c (fresh c) run.entries e = subst (λ (d : DriveConfig). IsStep true d (fresh d) run.entries e) h.config_is step in
+    let here : IsStep true c (fresh c) (take i es) e = subst (λ (r : Run). IsStep true r.config (found_of r) r.entries e) h.run_is step in
     record {
-      config_is = ap (λ (r : Run). r.config) longer ∙ h.config_is;
-      entries_are = ap (λ (r : Run). r.entries) longer ∙ ap (λ (xs : List Entry). xs ++ e ∷ []) h.entries_are ∙ sym more;
+      run_is =
+          longer
+          ∙ ap (λ (r : Run). let now : Run = record r { entries = r.entries ++ e ∷ [] } in now) h.run_is
+          ∙ ap (run_with c) (sym more);
       few = omega (arith, below);
-      legal = subst (IsLegal true c (fresh c)) (sym more) (legal-push true c (fresh c) (take i es) e h.legal (subst (λ (xs : List Entry). IsStep true c (fresh c) xs e) h.entries_are here));
+      legal = subst (IsLegal true c (fresh c)) (sym more) (legal-push true c (fresh c) (take i es) e h.legal here);
     }
 
 some-same : (x y : Entry) → Some x ≡ Some y → x ≡ y
@@ -48,17 +52,15 @@ none-is_some : (x : Entry) → None ≡ Some x → ⊥
 none-is_some x e = cc
 
 -- the next one is no step
-pub replayed-refused : (c : DriveConfig) (es : List Entry) (run : Run) (i : ℕ) (e : Entry) (at why : ℕ) → slice_get es i ≡ Some e → IsNoStep run.config run.entries e at why → IsReplayed c es run i → IsTaken c es i
+pub replayed-refused : (c : DriveConfig) (es : List Entry) (run : Run) (i : ℕ) (e : Entry) (at why : ℕ) → slice_get es i ≡ Some e → IsNoStep run e at why → IsReplayed c es run i → IsTaken c es i
 replayed-refused c es run i e at why is refused h = record {
   few = h.few;
   legal = h.legal;
   most = λ x next step. refused.no_step (before (subst (λ (y : Entry). IsStep true c (fresh c) (take i es) y) (some-same x e (sym next ∙ is)) step));
 }
   where
-    before : IsStep true c (fresh c) (take i es) e → IsStep true run.config (fresh run.config) run.entries e
-    before step =
-        subst (λ (d : DriveConfig). IsStep true d (fresh d) run.entries e) (sym h.config_is)
-        (subst (λ (xs : List Entry). IsStep true c (fresh c) xs e) (sym h.entries_are) step)
+    before : IsStep true c (fresh c) (take i es) e → IsStep true run.config (found_of run) run.entries e
+    before step = subst (λ (r : Run). IsStep true r.config (found_of r) r.entries e) (sym h.run_is) step
 
 -- all were taken
 pub replayed-all : (c : DriveConfig) (es : List Entry) (run : Run) (count : ℕ) → length es ≤ count → IsReplayed c es run count → IsTaken c es (length es)

@@ -9,7 +9,6 @@ use Rattle.fdp_base.specs.declared.entry.Entry.TheVariants as entries
 use Rattle.fdp_rules.specs.Step.{Follows, IsDataUnit}
 use Rattle.fdp_tables.specs.declared.state.Kept.{Kept}
 use Rattle.fdp_plain_trail.specs.Counted.{HasCountRoom}
-use Rattle.fdp_plain_answers.specs.Keeping.{HasEvents}
 use Rattle.fdp_plain_trail.specs.Places.{HasCopyRoom, HasGroup, HasGroupOf, HasPage, HasPlaces}
 use Rattle.fdp_tables.specs.Sound.{IsSound}
 use Rattle.fdp_tables.specs.State.{point_kept}
@@ -42,14 +41,6 @@ group_there k h unit below =
       units = some;
       group = omega (arith, group_below k.config.groups k.config.units unit some below, h.copies);
     }
-
--- a run that began fresh has no opening
-unopened : (k : Kept) → Follows true k.config (point_kept k) entries.Reopened → ⊥
-unfolding Follows
-unopened k f = cc
-
-pub events_there : (k : Kept) (e : Entry) → Follows true k.config (point_kept k) e → HasEvents e
-events_there k e f = λ opened. unopened k (subst (Follows true k.config (point_kept k)) opened f)
 
 -- the group of a page that is copied
 pub copy_group_there : (k : Kept) (e : Entry) → IsSound k → Follows true k.config (point_kept k) e → HasCopyGroup k e
@@ -112,7 +103,7 @@ same_places k m (entries.Worn w) rest h = subst (λ (x : Kept). HasGroup x w.rg)
 same_places k m entries.Reopened rest h = tt
 
 -- the sums of a history of fewer than 2 ^ 64 entries have room for an entry more
-pub counts_there : (k a b : Kept) → IsSound k → a ≡ with_change k a → b ≡ record a { sites = b.sites; copies = b.copies } → HasCountRoom b
+pub counts_there : (k a b : Kept) → IsSound k → a ≡ with_change k a → b ≡ record a { sites = b.sites; found = b.found; copies = b.copies } → HasCountRoom b
 counts_there k a b h changed traced =
     let few : length k.entries.items < 2 ^ 64 = omega (arith, k.entries.ok, k.entries.small) in
     let first : HasCountRoom k = record {

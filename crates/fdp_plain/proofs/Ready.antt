@@ -183,7 +183,7 @@ module _ (k : Kept) (blocks : List (Option KeptBlock)) (space : Option Space) (g
       let below : x.ruh < 16 = omega (arith, f.handle, few_handles k.config h.config k.enabled k.index) in
       (below, omega (arith, f.group, below, h.references))
   change_ready (entries.Worn x) f made = rw h.worn f
-  change_ready entries.Reopened f made = absurd cc
+  change_ready entries.Reopened f made = tt
 
 -- a command that may be completed
 pub host_of : (k : Kept) (queue number : ℕ) (command : Command) (reply : Reply) (moment : ℕ) → Follows true k.config (point_kept k) (entries.Host (record { queue = queue; number = number; command = command; reply = reply; moment = moment })) → IsHost true k.config (point_kept k) queue number command reply moment

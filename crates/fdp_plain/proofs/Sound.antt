@@ -7,16 +7,20 @@ use Rattle.fdp_base.specs.Config.{IsValidConfig}
 use Rattle.fdp_rules.specs.PlainState.{Namespace, PlainState}
 use Rattle.fdp_rules.specs.Room.{handles_in_force}
 use Rattle.fdp_tables.specs.declared.state.Kept.{Kept}
-use Rattle.fdp_tables.specs.Sound.{IsSound}
-use Rattle.fdp_tables.specs.State.{plain_of, point_kept}
+use Rattle.fdp_tables.specs.Sound.{IsSound, KnowsFound}
+use Rattle.fdp_tables.specs.Starts.{AreStarts}
+use Rattle.fdp_tables.specs.State.{own_entries, plain_of, point_kept}
 use Rattle.fdp_tables.proofs.Beginning.{each_known, few_handles}
 use Rattle.fdp_history.specs.Orderly.{IsOrderly}
 use Rattle.fdp_history.specs.OrderlyState.{IsOrderlyState}
 use Rattle.fdp_history.specs.Summed.{IsSummed}
-use Rattle.fdp_history.proofs.Histories.{orderly-legal, summed-legal}
 use Rattle.fdp_history.proofs.Starting.{birth-bound}
 use Rattle.fdp_plain.specs.Rows.{HasRows}
-use Rattle.fdp_plain.specs.Telling.{TellsHistory}
+use Rattle.fdp_plain.specs.Run.{found_of}
+use Rattle.fdp_plain.specs.Telling.{TellsHistory, run_of}
+use Rattle.fdp_plain.specs.Found.{StandsInOrder}
+use Rattle.fdp_plain.proofs.Ordering.{in_order_legal}
+use Rattle.fdp_plain.proofs.Runs.{starts_below}
 
 -- at most sixteen handles, each below sixteen
 record AreFew (handles : List ℕ) : Type 0 where
@@ -39,11 +43,12 @@ counted_row count None n e = absurd cc
 counted_row count (Some v) n e = cc
 
 -- what the rows of the tables and the point that they say make of them
-pub sound_of : (k : Kept) → IsValidConfig k.config → HasRows k → IsOrderly k.config (point_kept k) → IsSummed (point_kept k) → IsSound k
-sound_of k valid rows h sums =
+pub sound_of : (k : Kept) → IsValidConfig k.config → HasRows k → AreStarts 0 k.starts.items (length k.entries.items) → KnowsFound k → IsOrderly k.config (point_kept k) → IsSummed (point_kept k) → IsSound k
+sound_of k valid rows starts known h sums =
     let few : (nsid : ℕ) → AreFew (option_map_or (λ (x : Namespace). x.handles) ((plain_of k).namespaces nsid) []) = few_of k.config (plain_of k) valid h.state in
     record {
       config = valid;
+      start = starts_below 0 k.starts.items (length k.entries.items) starts;
       index = h.state.index;
       generation = h.state.generation;
       spaces = rows.spaces;
@@ -69,16 +74,17 @@ sound_of k valid rows h sums =
       lost = rows.lost;
       worn = rows.worn;
       sites = rows.sites;
+      found_pages = known;
       copies = rows.copies;
       host_blocks = sums.host_blocks;
       media_blocks = sums.media_blocks;
       erases = sums.erases;
     }
 
--- what stands is orderly
-pub history_orderly : (k : Kept) → TellsHistory k → IsOrderly k.config (point_kept k)
-history_orderly k h = subst (IsOrderly k.config) (sym h.point) (orderly-legal true k.config k.entries.items h.config h.legal)
+-- what stands is in order
+pub history_in_order : (k : Kept) → TellsHistory k → StandsInOrder k.config (point_kept k)
+history_in_order k h = subst (StandsInOrder k.config) (sym h.point) (in_order_legal k.config (found_of (run_of k)) (own_entries k) h.config h.begins h.legal)
 
 -- the tables of a plain drive are sound
 pub history_sound : (k : Kept) → TellsHistory k → IsSound k
-history_sound k h = sound_of k h.config h.rows (history_orderly k h) (subst IsSummed (sym h.point) (summed-legal true k.config k.entries.items h.config h.legal))
+history_sound k h = let order = history_in_order k h in sound_of k h.config h.rows h.starts h.known order.orderly order.summed

@@ -1,3 +1,4 @@
+pub mod Found
 pub mod Run
 pub mod Rows
 pub mod Longer
@@ -5,3 +6,4 @@ pub mod Telling
 pub mod Refusing
 pub mod Reserved
 pub mod Prepared
+pub mod Reopening

@@ -1,14 +1,13 @@
 -- Why an entry is not taken.
-use Rattle.std.specs.Prelude.{◌≡◌, ℕ, ◌+◌, true, List, length}
-use Rattle.fdp_base.specs.declared.config.DriveConfig.{DriveConfig}
+use Rattle.std.specs.Prelude.{◌≡◌, ℕ, ◌+◌, true}
 use Rattle.fdp_base.specs.declared.entry.Entry.{Entry}
-use Rattle.fdp_rules.specs.History.{fresh, state_of}
 use Rattle.fdp_rules.specs.PlainState.{PlainState}
 use Rattle.fdp_rules.specs.Step.{IsStep}
 use Rattle.fdp_plain_judge.specs.declared.rule.Rule.{Rule}
 use Rattle.fdp_plain_judge.specs.Rules.{FallsUnder, number_of}
 use Rattle.fdp_plain.specs.declared.refused.Refused.{Refused}
 use Rattle.fdp_plain.specs.declared.refused.Refused.TheVariants as refusals
+use Rattle.fdp_plain.specs.Run.{Run, found_of, next_position, state_in}
 
 -- the number of the rule under which an entry falls where this state stands
 pub record IsRuleNumber (s : PlainState) (e : Entry) (why : ℕ) : Type 0 where
@@ -16,16 +15,16 @@ pub record IsRuleNumber (s : PlainState) (e : Entry) (why : ℕ) : Type 0 where
   pub falls : FallsUnder s e rule
   pub number : why ≡ number_of rule
 
--- an entry is no step after these of a fresh drive; its position and the number of its rule
-pub record IsNoStep (c : DriveConfig) (before : List Entry) (e : Entry) (at why : ℕ) : Type 0 where
-  pub no_step : IsStep true c (fresh c) before e → ⊥
-  pub position : at ≡ length before + 1
-  pub rule : IsRuleNumber (state_of c (fresh c) before) e why
+-- an entry is no step after those of a run; its position and the number of its rule
+pub record IsNoStep (r : Run) (e : Entry) (at why : ℕ) : Type 0 where
+  pub no_step : IsStep true r.config (found_of r) r.entries e → ⊥
+  pub position : at ≡ next_position r
+  pub rule : IsRuleNumber (state_in r) e why
 
--- why an entry was not taken after these: it is no step, or there was no memory
-abbrev pub IsCause : DriveConfig → List Entry → Entry → Refused → Type 0
-IsCause c before e (refusals.Illegal at why) = IsNoStep c before e at why
-IsCause c before e refusals.NoMemory = Unit {0}
+-- why an entry was not taken after those of a run: it is no step, or there was no memory
+abbrev pub IsCause : Run → Entry → Refused → Type 0
+IsCause r e (refusals.Illegal at why) = IsNoStep r e at why
+IsCause r e refusals.NoMemory = Unit {0}
 
 -- the position of an entry and the number of its rule, where this state stands
 abbrev pub IsIllegalIn : PlainState → Entry → Refused → Type 0

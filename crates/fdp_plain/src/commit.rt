@@ -5,10 +5,10 @@ ghost use Rattle.fdp_rules.specs.Step.{Follows};
 ghost use Rattle.fdp_plain_trail.specs.Counted.{HasCountRoom};
 ghost use Rattle.fdp_plain_trail.specs.Places.{HasPlaces};
 ghost use Rattle.fdp_tables.specs.State.{plain_of, point_kept};
-ghost use Rattle.fdp_plain.specs.Longer.{IsLonger, IsTraced};
+ghost use Rattle.fdp_plain.specs.Longer.{IsLonger, IsTraced, TracesFound};
 ghost use Rattle.fdp_plain.specs.Prepared.{IsPrepared};
 ghost use Rattle.fdp_plain.specs.Reserved.{HasSpare};
-ghost use Rattle.fdp_plain.specs.Telling.{TellsHistory};
+ghost use Rattle.fdp_plain.specs.Telling.{TellsHistory, run_of};
 
 use crate::prepare::Prepared;
 use fdp_base::{Entry, Event, Spot};
@@ -24,8 +24,7 @@ pub(crate) fn commit(kept: &mut Kept, prepared: Prepared, events: &[Event])
     requires spare { HasSpare kept.old prepared.entry (length events.now) }
     requires events { events.now ≡ kept_of_entry kept.old.config (plain_of kept.old) prepared.entry }
     ensures history { TellsHistory kept.new }
-    ensures config { kept.new.config ≡ kept.old.config }
-    ensures entries { kept.new.entries.items ≡ kept.old.entries.items ++ prepared.entry ∷ [] }
+    ensures run { run_of kept.new ≡ record (run_of kept.old) { entries = (run_of kept.old).entries ++ prepared.entry ∷ [] } }
 {
     let Prepared { made, pages, entry } = prepared;
     change(kept, &entry, made);
@@ -39,7 +38,8 @@ fn trace(kept: &mut Kept, pages: Vec<Option<Spot>>, entry: &Entry)
     requires row_room { 0 < kept.old.sites.row_room }
     requires site_room { 0 < kept.old.sites.site_room }
     requires blank { pages.items ≡ replicate (length pages.items) None }
-    ensures { IsTraced kept.old kept.new entry.now (length pages.items) }
+    ensures traced { IsTraced kept.old kept.new entry.now (length pages.items) }
+    ensures found { TracesFound kept.old kept.new entry.now }
 {
     kept.sites.push(pages);
     fdp_plain_trail::trace(kept, entry);

@@ -3,15 +3,19 @@
 
 mod commit;
 mod copied;
+mod laws;
 mod made;
+mod naming;
 mod pages;
 mod plain;
 mod prepare;
 mod refused;
+mod reopen;
 mod reserve;
 mod step;
 mod take;
 mod telling;
 
+pub use laws::runs_go_on;
 pub use plain::Plain;
 pub use refused::Refused;

@@ -2,7 +2,7 @@ ghost use Rattle.std.specs.Prelude.{◌≡◌, ◌∷◌, ◌++◌, [], true, On
 ghost use Rattle.fdp_rules.specs.Step.{Follows};
 ghost use Rattle.fdp_tables.specs.State.{plain_of, point_kept};
 ghost use Rattle.fdp_plain.specs.Refusing.{IsIllegalIn};
-ghost use Rattle.fdp_plain.specs.Telling.{TellsHistory};
+ghost use Rattle.fdp_plain.specs.Telling.{TellsHistory, run_of};
 
 use crate::commit::commit;
 use crate::prepare::{kept_events, prepare};
@@ -18,9 +18,8 @@ pub(crate) fn take_step(kept: &mut Kept, alloc: Global, entry: &Entry) -> Result
     requires history { TellsHistory kept.old }
     requires follows { Follows true kept.old.config (point_kept kept.old) entry.now }
     ensures history { TellsHistory kept.new }
-    ensures config { kept.new.config ≡ kept.old.config }
-    ensures taken { OnOk result (kept.new.entries.items ≡ kept.old.entries.items ++ entry.now ∷ []) }
-    ensures failed { OnErr result (kept.new.entries.items ≡ kept.old.entries.items) }
+    ensures taken { OnOk result (run_of kept.new ≡ record (run_of kept.old) { entries = (run_of kept.old).entries ++ entry.now ∷ [] }) }
+    ensures failed { OnErr result (run_of kept.new ≡ run_of kept.old) }
 {
     let events = kept_events(kept, alloc, entry)?;
     reserve(kept, entry, events.len())?;

@@ -1,7 +1,7 @@
 ghost use Rattle.std.specs.Prelude.{◌≡◌, ◌∷◌, ◌++◌, [], true, IfErr, OnErr, OnOk};
-ghost use Rattle.fdp_rules.specs.History.{fresh};
 ghost use Rattle.fdp_rules.specs.Step.{IsStep};
 ghost use Rattle.fdp_plain.specs.Refusing.{IsCause};
+ghost use Rattle.fdp_plain.specs.Run.{found_of};
 
 use crate::plain::Plain;
 use crate::refused::Refused;
@@ -16,10 +16,10 @@ impl Plain {
     /// taken, all stays as it was.
     pub fn take(&mut self, alloc: Global, entry: &Entry) -> Result<(), Refused>
         // A legal entry stands behind the others.
-        ensures taken { OnOk result (IsStep true self.old.config (fresh self.old.config) self.old.entries entry.now
+        ensures taken { OnOk result (IsStep true self.old.config (found_of self.old) self.old.entries entry.now
             × (self.new ≡ record self.old { entries = self.old.entries ++ entry.now ∷ [] })) }
         // Just one that is no step is illegal, under its rule; else memory ran out.
-        ensures cause { IfErr result (IsCause self.old.config self.old.entries entry.now) }
+        ensures cause { IfErr result (IsCause self.old entry.now) }
         ensures refused { OnErr result (self.new ≡ self.old) }
     {
         if judge(&Standing::new(&self.kept), alloc, entry)? {

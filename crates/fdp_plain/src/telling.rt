@@ -1,9 +1,9 @@
 //! What a plain drive tells of itself behind the completions of a run.
 ghost use Rattle.std.specs.Prelude.{◌≡◌, None, Some, nat_lt, if◌then◌else◌, slice_get};
-ghost use Rattle.fdp_rules.specs.History.{fresh, totals_of};
+ghost use Rattle.fdp_rules.specs.History.{totals_of};
 ghost use Rattle.fdp_rules.specs.LogPages.{usage_of};
 ghost use Rattle.fdp_rules.specs.Room.{handles_in_force};
-ghost use Rattle.fdp_plain.specs.Run.{point_in, state_in};
+ghost use Rattle.fdp_plain.specs.Run.{found_of, point_in, state_in};
 
 use crate::plain::Plain;
 use fdp_base::{Event, Totals};
@@ -13,7 +13,7 @@ use fdp_tables::Standing;
 impl Plain {
     /// The position of the last entry, and the sums.
     pub fn totals(&self) -> Totals
-        ensures { result ≡ totals_of (fresh self.now.config) self.now.entries }
+        ensures { result ≡ totals_of (found_of self.now) self.now.entries }
     {
         totals(&Standing::new(&self.kept))
     }

@@ -1,5 +1,5 @@
 -- Events that are kept, piece by piece.
-use Rattle.std.proofs.Common.{◌≡◌, ℕ, ◌+◌, ◌<◌, ◌≤◌, Bool, List, [], ◌∷◌, ◌++◌, length, drop, get_or, refl, ap, sym, ◌∙◌, append_assoc, add-one, drop-cons, flat_map, filter}
+use Rattle.std.proofs.Common.{◌≡◌, ℕ, ◌+◌, ◌<◌, ◌≤◌, Bool, List, [], ◌∷◌, ◌++◌, length, drop, get_or, refl, ap, sym, ◌∙◌, append_assoc, add-one, drop-cons, flat_map, filter, map}
 use Rattle.std.proofs.lemmas.List.{append-nil, drop_all}
 use Rattle.std.proofs.lemmas.List.Elements.{filter-append}
 use Rattle.fdp_base.specs.declared.config.DriveConfig.{DriveConfig}
@@ -14,6 +14,11 @@ use Rattle.fdp_plain_answers.specs.Keeping.{kept_of}
 pub kept_pieces : {X : Type 0} (test : Event → Bool) (g : X → List Event) (xs : List X) → flat_map (λ (x : X). filter test (g x)) xs ≡ filter test (flat_map g xs)
 kept_pieces test g [] = refl
 kept_pieces test g (x ∷ xs) = ap (λ (ys : List Event). filter test (g x) ++ ys) (kept_pieces test g xs) ∙ sym (filter-append test (g x) (flat_map g xs))
+
+-- what is kept of images is the pieces of what is kept of each
+pub kept_images : {X : Type 0} (test : Event → Bool) (g : X → Event) (xs : List X) → flat_map (λ (x : X). filter test (g x ∷ [])) xs ≡ filter test (map g xs)
+kept_images test g [] = refl
+kept_images test g (x ∷ xs) = ap (λ (ys : List Event). filter test (g x ∷ []) ++ ys) (kept_images test g xs) ∙ sym (filter-append test (g x ∷ []) (map g xs))
 
 -- the events of the first identifiers of an update are there, and the references are as these leave them
 pub record IsClosing (c : DriveConfig) (s : PlainState) (nsid : ℕ) (start references : References) (pids : List ℕ) (i : ℕ) (old done : List Event) : Type 0 where

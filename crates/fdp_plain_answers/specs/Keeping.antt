@@ -1,9 +1,7 @@
 -- The events that are kept, and the references of a table of its own.
-use Rattle.std.specs.Prelude.{◌≢◌, ◌+◌, ◌*◌, List, nat_lt, if◌then◌else◌, filter, slice_get}
+use Rattle.std.specs.Prelude.{◌+◌, ◌*◌, List, nat_lt, if◌then◌else◌, filter, slice_get}
 use Rattle.std.specs.Option.{option_map_or}
 use Rattle.fdp_base.specs.declared.config.DriveConfig.{DriveConfig}
-use Rattle.fdp_base.specs.declared.entry.Entry.{Entry}
-use Rattle.fdp_base.specs.declared.entry.Entry.TheVariants as entries
 use Rattle.fdp_base.specs.declared.event.Event.{Event}
 use Rattle.fdp_rules.specs.Effect.{References, no_reference}
 use Rattle.fdp_rules.specs.PlainState.{PlainState}
@@ -20,7 +18,3 @@ references_in c rows rg ruh =
     if nat_lt ruh 16
     then option_map_or reference_of (slice_get rows (16 * rg + ruh)) (no_reference c)
     else no_reference c
-
--- the events of an entry can be made: a run that began fresh has no opening
-abbrev pub HasEvents : Entry → Type 0
-HasEvents e = e ≢ entries.Reopened

@@ -1,10 +1,11 @@
-ghost use Rattle.fdp_plain_answers.specs.Keeping.{HasEvents, kept_of};
+ghost use Rattle.fdp_plain_answers.specs.Keeping.{kept_of};
 ghost use Rattle.fdp_rules.specs.Events.{command_events, kept_of_entry, write_events};
 ghost use Rattle.fdp_tables.specs.State.{plain_of};
 ghost use Rattle.std.specs.Prelude.{◌≡◌, ◌++◌, ◌∷◌, [], OnOk};
 
 use crate::closings::push_closings;
 use crate::events::{handle_event, invalid_identifier, keeps};
+use crate::openings::push_openings;
 use crate::reallocations::push_reallocations;
 use fdp_base::{Command, Entry, Event, EventKind};
 use fdp_tables::Standing;
@@ -18,7 +19,6 @@ pub fn push_kept(
     entry: &Entry,
     into: &mut Vec<Event>,
 ) -> Result<(), AllocError>
-    requires events { HasEvents entry.now }
     ensures { OnOk result (into.new.items ≡ into.old.items ++ kept_of_entry kept.now.config (plain_of kept.now) entry.now) }
 {
     match entry {
@@ -44,7 +44,7 @@ pub fn push_kept(
             into,
         ),
         Entry::Worn(_) => Ok(()),
-        Entry::Reopened => Ok(()),
+        Entry::Reopened => push_openings(kept, into),
     }
 }
 

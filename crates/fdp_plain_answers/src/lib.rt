@@ -9,6 +9,7 @@ mod events;
 mod handle_status;
 mod kept_events;
 mod log;
+mod openings;
 mod pages;
 mod reallocations;
 mod refusals;

@@ -55,6 +55,7 @@ pub(crate) fn bytes_read(
     requires { slba + count ≤ size_of (plain_of kept.now) nsid }
     ensures { IfOk result (λ bytes. bytes.items ≡ flat_map (read_block kept.now.config (plain_of kept.now) nsid) (numbers_from slba count)) }
 {
+    let _size = kept.size_of(nsid); // proof: a number of its kind says how many blocks there are
     let mut bytes = Vec::new(alloc);
     for lba in slba..slba + u64::from(count) {
         push_block(kept, &mut bytes, nsid, lba)?;

@@ -19,7 +19,7 @@ use Rattle.fdp_tables.proofs.Spaces.{with_at_if}
 use Rattle.fdp_tables.proofs.Tables.{read-set}
 
 -- what is read of a table in which each row is the same
-read_same : {X Y : Type 0} (f : Option X → Y) (xs : List X) (x : X) (y : Y) (i : ℕ) → f None ≡ y → f (Some x) ≡ y → f (slice_get (map (λ (z : X). x) xs) i) ≡ y
+pub read_same : {X Y : Type 0} (f : Option X → Y) (xs : List X) (x : X) (y : Y) (i : ℕ) → f None ≡ y → f (Some x) ≡ y → f (slice_get (map (λ (z : X). x) xs) i) ≡ y
 read_same {X} f xs x y i none some =
     ap f (slice_get-map (λ (z : X). x) xs i)
     ∙ elim (slice_get xs i) as (λ o. f (option_map (λ (z : X). x) o) ≡ y) [ None ↦ none | Some z ↦ some ]

@@ -2,3 +2,4 @@ pub mod Completing
 pub mod Features
 pub mod Putting
 pub mod Sounds
+pub mod Openings

@@ -4,7 +4,7 @@ use Rattle.std.specs.Prelude.{if◌then◌else◌}
 use Rattle.std.specs.Option.{option_flatten}
 use Rattle.std.proofs.lemmas.Bool.{cases_eq}
 use Rattle.std.proofs.lemmas.Bool.Decides.{nat_tests}
-use Rattle.std.proofs.lemmas.List.{get_or-take, get_or_push, length_push, take-take, take_all, take_at}
+use Rattle.std.proofs.lemmas.List.{get_or-take, get_or_push, length_push, length-set, take-take, take_all, take_at}
 use Rattle.std.proofs.lemmas.Option.{slice_get-get_or}
 use Rattle.fdp_base.specs.Numbers.{is_among, with_at}
 use Rattle.fdp_tables.specs.State.{row}
@@ -15,6 +15,7 @@ pub record IsPutting {X : Type 0} (made : List (Option X)) (slba : ℕ) (xs left
   pub fits : length left ≤ length made
   pub left_is : left ≡ take (length left) made
   pub placed : (lba : ℕ) → row ys lba ≡ (if is_among (slba + length left) (length made - length left) lba then row made (lba - slba) else row xs lba)
+  pub size : length ys ≡ length xs
 
 none_yet : (slba n lba : ℕ) → is_among (slba + n) (n - n) lba ≡ false
 none_yet slba n lba = grind (arith, nat_tests)
@@ -34,6 +35,7 @@ module _ {X : Type 0} (made : List (Option X)) (slba : ℕ) (xs : List (Option X
     fits = omega arith;
     left_is = sym (take_all (length made) made (omega arith));
     placed = λ lba. sym (ap (λ b. if b then row made (lba - slba) else row xs lba) (none_yet slba (length made) lba));
+    size = refl;
   }
 
   module _ (left rest : List (Option X)) (y : Option X) (ys : List (Option X)) (e : left ≡ rest ++ y ∷ []) (h : IsPutting made slba xs left ys) where
@@ -85,6 +87,7 @@ module _ {X : Type 0} (made : List (Option X)) (slba : ℕ) (xs : List (Option X
       placed = λ lba.
           let goal : ℕ → Type 0 = λ l. row (set ys (slba + length rest) y) l ≡ (if is_among (slba + length rest) (length made - length rest) l then row made (l - slba) else row xs l) in
           ⊎_elim (λ (same : lba ≡ slba + length rest). subst goal (sym same) (here there)) (other there lba) (cases_eq lba (slba + length rest));
+      size = length-set ys (slba + length rest) y ∙ h.size;
     }
 
   pub putting_end : (left ys : List (Option X)) → length left ≡ 0 → IsPutting made slba xs left ys → (lba : ℕ) → row ys lba ≡ (if is_among slba (length made) lba then row made (lba - slba) else row xs lba)

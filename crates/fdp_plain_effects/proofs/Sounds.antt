@@ -9,6 +9,7 @@ referenced_sound k m rest rows h =
     let after : Kept = record k { references = m.references } in
     let sound : IsSound after = record {
       config = h.config;
+      start = h.start;
       index = h.index;
       generation = h.generation;
       spaces = h.spaces;
@@ -34,6 +35,7 @@ referenced_sound k m rest rows h =
       lost = h.lost;
       worn = h.worn;
       sites = h.sites;
+      found_pages = h.found_pages;
       copies = h.copies;
       host_blocks = h.host_blocks;
       media_blocks = h.media_blocks;

@@ -15,7 +15,7 @@ use Rattle.fdp_tables.specs.State.{namespace_of, plain_of, row}
 -- a created namespace, with absent blocks
 pub record IsCreated (k : Kept) (size : ℕ) (given : Bool) (list : List ℕ) (x : Space) : Type 0 where
   pub namespace : namespace_of x ≡ created (plain_of k) size given list
-  pub empty : (lba : ℕ) → row x.blocks.items lba ≡ None
+  pub empty : (lba : ℕ) → row x.blocks lba ≡ None
 
 -- of a write the blocks that the one going in its queue puts
 abbrev pub AreBlocksOf : Kept → ℕ → Command → List (Option KeptBlock) → Type 0

@@ -36,7 +36,7 @@ pub record HasSpace (k : Kept) (space : Option Space) : Type 0 where
   pub place : nsid < length k.spaces.items
   pub made : Space
   pub made_is : space ≡ Some made
-  pub empty : (lba : ℕ) → row made.blocks.items lba ≡ None
+  pub empty : (lba : ℕ) → row made.blocks lba ≡ None
 
 -- the namespace that was made is the one that is to be created
 abbrev pub IsAsAsked : Kept → ℕ → Bool → List ℕ → Option Space → Type 0
@@ -78,7 +78,7 @@ pub record IsHostReady (k : Kept) (queue : ℕ) (command : Command) (reply : Rep
   pub effect : reply.applied ≡ true → IsReady k queue command blocks space
   pub moments : vec_len k.media < vec_capacity k.media
 
--- what an entry changes has its rows, and what needs memory was made; a run that began fresh has no opening
+-- what an entry changes has its rows, and what needs memory was made
 abbrev pub IsChangeReady : Kept → Entry → List (Option KeptBlock) → Option Space → Option KeptGoing → Type 0
 IsChangeReady k (entries.Host h) blocks space going = IsHostReady k h.queue h.command h.reply blocks space
 IsChangeReady k (entries.Started s) blocks space going = IsStartReady k s.queue s.number s.command s.rg s.ruh s.pid_valid going
@@ -90,4 +90,4 @@ IsChangeReady k (entries.Retired r) blocks space going = r.unit < length k.lost.
 IsChangeReady k (entries.Aside a) blocks space going = a.unit < length k.lost.items
 IsChangeReady k (entries.Shut s) blocks space going = (s.ruh < 16) × (16 * s.rg + s.ruh < length k.references.items)
 IsChangeReady k (entries.Worn w) blocks space going = w.rg < length k.worn.items
-IsChangeReady k entries.Reopened blocks space going = ⊥
+IsChangeReady k entries.Reopened blocks space going = Unit {0}

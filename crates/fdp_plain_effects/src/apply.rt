@@ -7,6 +7,7 @@ ghost use Rattle.fdp_tables.specs.Sound.{IsSound};
 ghost use Rattle.fdp_tables.specs.State.{plain_of};
 ghost use Rattle.std.specs.Prelude.{◌≡◌, ℕ, ◌<◌, Bool, length};
 
+use crate::again::begin_again;
 use crate::completed::complete;
 use crate::entries::{change_placed, erase, retire, shut_handle, start, wear};
 use fdp_base::Entry;
@@ -56,7 +57,7 @@ pub fn change(kept: &mut Kept, entry: &Entry, made: Made)
         Entry::Aside(aside) => retire(kept, aside.unit),
         Entry::Shut(shut) => shut_handle(kept, shut.rg, shut.ruh),
         Entry::Worn(worn) => wear(kept, worn.rg),
-        Entry::Reopened => {}
+        Entry::Reopened => begin_again(kept),
     }
 }
 

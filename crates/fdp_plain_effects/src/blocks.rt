@@ -6,7 +6,7 @@ ghost use Rattle.fdp_tables.specs.State.{namespace_of, plain_of, row};
 ghost use Rattle.std.specs.Prelude.{◌≡◌, ℕ, ◌-◌, ◌<◌, ◌==◌, if◌then◌else◌, None, length, option_map};
 
 use fdp_base::{Dealloc, Range};
-use fdp_tables::{Kept, KeptBlock, Space, is_among};
+use fdp_tables::{Blocks, Kept, Space, is_among};
 
 /// A namespace is there with its blocks, or none is.
 pub(crate) fn set_space(kept: &mut Kept, nsid: u32, space: Option<Space>)
@@ -76,17 +76,18 @@ fn clear_space(space: &mut Option<Space>, ranges: &[Range])
     ensures blocks { (lba : ℕ) → block_in space.new lba ≡ (if is_in_ranges ranges.now lba then None else block_in space.old lba) }
 {
     if let Some(space) = space {
-        clear_blocks(space.blocks.as_mut_slice(), ranges);
+        clear_blocks(&mut space.blocks, ranges);
     }
 }
 
 #[tactic(auto, using(fdp_tables::proofs::Walks::put_start, fdp_tables::proofs::Walks::put_next, fdp_tables::proofs::Walks::put_skip))]
-fn clear_blocks(blocks: &mut [Option<KeptBlock>], ranges: &[Range])
-    ensures { (lba : ℕ) → row blocks.new lba ≡ (if is_in_ranges ranges.now lba then None else row blocks.old lba) }
+fn clear_blocks(blocks: &mut Blocks, ranges: &[Range])
+    ensures size { length blocks.new ≡ length blocks.old }
+    ensures rows { (lba : ℕ) → row blocks.new lba ≡ (if is_in_ranges ranges.now lba then None else row blocks.old lba) }
 {
     for lba in 0..blocks.len() {
         if is_in_ranges(ranges, lba as u64) {
-            blocks[lba] = None;
+            blocks.put(lba, None);
         }
     }
 }

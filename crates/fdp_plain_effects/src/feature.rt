@@ -12,7 +12,7 @@ use fdp_base::SetEvents;
 use fdp_tables::{Kept, KeptReference, KeptReports, no_reports};
 
 /// No handle references a unit any longer.
-fn forget_references(kept: &mut Kept)
+pub(crate) fn forget_references(kept: &mut Kept)
     ensures state { plain_of kept.new ≡ without_references kept.old.config (plain_of kept.old) }
     ensures rest { kept.new ≡ record kept.old { references = kept.new.references } }
     ensures rows { length kept.new.references.items ≡ length kept.old.references.items }

@@ -1,6 +1,7 @@
 //! What an entry changes in the tables of the plain drive.
 #![tactic(auto)]
 
+mod again;
 mod apply;
 mod blocks;
 mod completed;
@@ -12,5 +13,6 @@ mod make;
 mod update;
 mod write;
 
+pub use again::begin_again;
 pub use apply::{Made, change};
 pub use make::{make_blocks_of, make_going, make_space_of};

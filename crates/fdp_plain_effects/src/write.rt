@@ -10,7 +10,7 @@ ghost use Rattle.fdp_tables.specs.State.{block_of, going_of, namespace_of, plain
 ghost use Rattle.std.specs.Prelude.{◌≡◌, ℕ, ◌+◌, ◌-◌, ◌%◌, ◌<◌, ◌≤◌, if◌then◌else◌, ◌==◌, ◌&&◌, Some, length, option_map, IfOk};
 
 use fdp_base::{Bytes, Payload};
-use fdp_tables::{Kept, KeptBlock, KeptGoing, Space};
+use fdp_tables::{Blocks, Kept, KeptBlock, KeptGoing, KeptPage, Space};
 use std::alloc::{AllocError, Global};
 
 /// The blocks of a write, which were made before, stand in the namespace from an address on.
@@ -41,19 +41,21 @@ fn put_in_space(space: &mut Option<Space>, slba: usize, made: Vec<Option<KeptBlo
     ensures blocks { (lba : ℕ) → block_in space.new lba ≡ (if is_among slba (length made.items) lba then option_map block_of (row made.items (lba - slba)) else block_in space.old lba) }
 {
     if let Some(space) = space {
-        put_blocks(space.blocks.as_mut_slice(), slba, made);
+        put_blocks(&mut space.blocks, slba, made);
     }
 }
 
 /// The blocks that were made stand from an address on.
 #[tactic(auto, using(crate::proofs::Putting::putting_start, crate::proofs::Putting::putting_next, crate::proofs::Putting::putting_end))]
-fn put_blocks(blocks: &mut [Option<KeptBlock>], slba: usize, mut made: Vec<Option<KeptBlock>>)
+fn put_blocks(blocks: &mut Blocks, slba: usize, mut made: Vec<Option<KeptBlock>>)
     requires { slba + length made.items ≤ length blocks.old }
-    ensures { (lba : ℕ) → row blocks.new lba ≡ (if is_among slba (length made.items) lba then row made.items (lba - slba) else row blocks.old lba) }
+    ensures size { length blocks.new ≡ length blocks.old }
+    ensures rows { (lba : ℕ) → row blocks.new lba ≡ (if is_among slba (length made.items) lba then row made.items (lba - slba) else row blocks.old lba) }
 {
+    let _places = blocks.len(); // proof: as many as a number of their kind can say
     while let Some(block) = made.pop() {
         let place = slba + made.len();
-        blocks[place] = block;
+        blocks.put(place, block);
     }
 }
 
@@ -94,8 +96,10 @@ fn make_block(
         bytes: Bytes::from_vec(bytes),
         rg: going.rg,
         ruh: going.ruh,
-        ticket: going.ticket,
-        index,
+        page: KeptPage::Written {
+            ticket: going.ticket,
+            index,
+        },
     })
 }
 

@@ -4,7 +4,7 @@ use Rattle.fdp_base.specs.declared.entry.Reply.{Reply}
 use Rattle.fdp_base.specs.declared.entry.Spot.{Spot}
 use Rattle.fdp_base.specs.declared.status.TheConstants.Status as statuses
 use Rattle.fdp_rules.specs.Answer.{bare}
-use Rattle.fdp_rules.specs.PlainState.{Going, PageName.written}
+use Rattle.fdp_rules.specs.PlainState.{Going}
 use Rattle.fdp_rules.specs.Point.{Point}
 use Rattle.fdp_rules.specs.Room.{handles_of, roomiest}
 use Rattle.fdp_rules.specs.Sites.{group_of, is_there, site_of}
@@ -13,7 +13,7 @@ use Rattle.fdp_tables.specs.declared.state.Kept.{Kept}
 use Rattle.fdp_tables.specs.declared.state.KeptBlock.{KeptBlock}
 use Rattle.fdp_tables.specs.declared.state.KeptReference.{KeptReference}
 use Rattle.fdp_tables.specs.declared.state.Space.{Space}
-use Rattle.fdp_tables.specs.State.{plain_of, site_at}
+use Rattle.fdp_tables.specs.State.{page_of, plain_of, table_site}
 use Rattle.fdp_base.specs.CommandKinds.{blocks_written}
 
 -- it holds of each element
@@ -24,13 +24,13 @@ EachIn {X} P xs = (i : ℕ) (x : X) → slice_get xs i ≡ Some x → P x
 abbrev pub IsFreeOf : ℕ → KeptReference → Type 0
 IsFreeOf unit x = x.unit ≢ Some unit
 
--- a block that may be there does not stand in a unit
+-- a block that may be there does not stand in a unit, by the tables
 abbrev pub IsOutside : Kept → ℕ → Option KeptBlock → Type 0
-IsOutside k unit block = MatchOption block (Unit {0}) (λ b. IfSome (site_at k (written b.ticket b.index)) (λ (spot : Spot). spot.unit ≢ unit))
+IsOutside k unit block = MatchOption block (Unit {0}) (λ b. IfSome (table_site k (page_of b.page)) (λ (spot : Spot). spot.unit ≢ unit))
 
 -- no block of a namespace that may be there stands in a unit
 abbrev pub Leaves : Kept → ℕ → Option Space → Type 0
-Leaves k unit space = MatchOption space (Unit {0}) (λ x. EachIn (IsOutside k unit) x.blocks.items)
+Leaves k unit space = MatchOption space (Unit {0}) (λ x. EachIn (IsOutside k unit) x.blocks)
 
 -- no block stands in a unit
 abbrev pub IsEmptyUnit : Point → ℕ → Type 0

@@ -10,8 +10,7 @@ use fdp_base::{Entry, Spot};
 use fdp_tables::Standing;
 use std::alloc::{AllocError, Global};
 
-/// Whether an entry may follow. Only want of memory keeps it from an answer. An opening never follows: this run began
-/// fresh.
+/// Whether an entry may follow. Only want of memory keeps it from an answer.
 #[tactic(auto, unfolding(fdp_rules::specs::Step::Follows))]
 pub fn judge(kept: &Standing, alloc: Global, entry: &Entry) -> Result<bool, AllocError>
     ensures { IfOk result (λ answer. Decides answer (Follows true kept.now.config (point_kept kept.now) entry.now)) }
@@ -49,6 +48,6 @@ pub fn judge(kept: &Standing, alloc: Global, entry: &Entry) -> Result<bool, Allo
         Entry::Aside(aside) => Ok(is_aside(kept, aside.unit)),
         Entry::Shut(shut) => Ok(is_handle(kept, shut.rg, shut.ruh)),
         Entry::Worn(worn) => Ok(worn.rg < kept.config().groups),
-        Entry::Reopened => Ok(false),
+        Entry::Reopened => Ok(kept.is_opening()),
     }
 }

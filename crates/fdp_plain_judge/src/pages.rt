@@ -43,9 +43,9 @@ fn leaves(kept: &Standing, space: &Option<Space>, unit: u32) -> bool
 }
 
 fn has_none_in(kept: &Standing, space: &Space, unit: u32) -> bool
-    ensures { Decides result (EachIn (IsOutside kept.now unit) space.now.blocks.items) }
+    ensures { Decides result (EachIn (IsOutside kept.now unit) space.now.blocks) }
 {
-    for block in &space.blocks {
+    for block in space.blocks.as_slice() {
         if !is_outside(kept, block, unit) {
             return false;
         }
@@ -58,7 +58,7 @@ fn is_outside(kept: &Standing, block: &Option<KeptBlock>, unit: u32) -> bool
     ensures { Decides result (IsOutside kept.now unit block.now) }
 {
     match block {
-        Some(block) => match kept.site(block.ticket, block.index) {
+        Some(block) => match kept.site_of_page(block.page) {
             Some(spot) => spot.unit != unit,
             None => true,
         },

@@ -1,7 +1,7 @@
 //! Plays the rows of standard input on plain drives, and prints each row with its answer behind it.
 //!
-//! A row `drive NAME` begins anew on that drive. Blank rows and those that begin with `#` say nothing. Two rows stand for many:
-//! `close-units` and `relocate TURNS`. `entries` answers how many were taken. `lines.rt` says how the other rows read.
+//! A row `drive NAME` begins anew on that drive, and `reopen` the next run on its image. Blank rows and those that begin with `#` say nothing. Two rows stand for many:
+//! `close-units` and `relocate TURNS`. `entries` answers how many the run took. `lines.rt` says how the other rows read.
 #![tactic(auto)]
 
 mod answers;

@@ -18,7 +18,7 @@ pub enum Answer {
     NoMemory,
     /// The row is none of a table.
     Unread,
-    /// So many entries were taken since the drive began.
+    /// So many entries were taken since the run began.
     Counted(usize),
 }
 
@@ -51,7 +51,7 @@ pub fn play_next(
 
 /// Takes the entries of a row, up to the first that is refused.
 pub fn play(alloc: Global, plain: &mut Plain, row: &str) -> Result<Answer, AllocError> {
-    let position = plain.entries().len() as u64 + 1;
+    let position = plain.totals().position.wrapping_add(1);
     match entries_of(alloc, position, row)? {
         Some(entries) => Ok(take_all(alloc, plain, entries.as_slice())),
         None => Ok(Answer::Unread),

@@ -20,8 +20,15 @@ pub fn answer_row(alloc: Global, plain: &mut Plain, row: &str) -> Result<Answer,
         "relocate" => relocate(alloc, plain, words.number32()),
         "close-units" => close_units(alloc, plain),
         "entries" => Ok(Answer::Counted(plain.entries().len())),
+        "reopen" => reopen(alloc, plain),
         _ => play(alloc, plain, row),
     }
+}
+
+/// The run ends, and the next one on the same image begins.
+fn reopen(alloc: Global, plain: &mut Plain) -> Result<Answer, AllocError> {
+    plain.reopen(alloc)?;
+    Ok(Answer::Taken)
 }
 
 /// A drive of this name takes the place of the one that is there.

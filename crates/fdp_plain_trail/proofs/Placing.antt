@@ -1,7 +1,7 @@
 -- Rows of pages whose sites are changed: each has as many places as before.
-use Rattle.std.proofs.Common.{◌≡◌, ◌≢◌, ℕ, ◌<◌, Bool, true, false, List, [], length, get_or, set, slice_get, Option, None, Some, refl, sym, ◌∙◌, ap, map, cond, eq-eqb, ne_eqb}
-use Rattle.std.specs.Prelude.{◌==◌, ◌&&◌, option_map}
-use Rattle.std.proofs.lemmas.List.{length-map, length-set}
+use Rattle.std.proofs.Common.{◌≡◌, ℕ, List, length, slice_get, Option, None, Some, refl, ◌∙◌, ap, map}
+use Rattle.std.specs.Prelude.{option_map}
+use Rattle.std.proofs.lemmas.List.{length-map}
 use Rattle.std.proofs.lemmas.Option.{slice_get-map}
 use Rattle.fdp_base.specs.declared.entry.Spot.{Spot}
 

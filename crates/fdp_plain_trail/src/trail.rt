@@ -1,10 +1,11 @@
 ghost use Rattle.fdp_base.specs.Numbers.{with_at};
 ghost use Rattle.fdp_plain_trail.specs.Places.{HasGroupOf, HasPlaces};
 ghost use Rattle.fdp_plain_trail.specs.Rows.{KeepsPlaces};
-ghost use Rattle.fdp_rules.specs.PlainState.{PageName.written};
+ghost use Rattle.fdp_base.specs.declared.entry.Spot.{Spot};
+ghost use Rattle.fdp_rules.specs.PlainState.{PageName.found, PageName.written};
 ghost use Rattle.fdp_rules.specs.Sites.{group_of, last_run, moved_by, outside, traced_by};
 ghost use Rattle.fdp_tables.specs.Copies.{copy_of};
-ghost use Rattle.fdp_tables.specs.State.{copies_at, point_kept, site_at};
+ghost use Rattle.fdp_tables.specs.State.{copies_at, point_kept, site_at, table_site, table_trail};
 ghost use Rattle.std.specs.Option.{IfSome};
 ghost use Rattle.std.specs.Prelude.{◌≡◌, ℕ, ◌+◌, ◌*◌, ◌<◌, ◌==◌, ◌&&◌, if◌then◌else◌, Some, [], ◌∷◌, ◌++◌, Option, length, map, option_map, option_and_then, slice_get};
 ghost use Rattle.std.specs.Vec.{vec_items, vec_len, vec_capacity};
@@ -46,35 +47,41 @@ fn set_site(kept: &mut Kept, ticket: u64, index: u32, spot: Spot)
     kept.sites.place(ticket, index, spot);
 }
 
-/// No page of a write stands in an erased unit any longer.
+/// No page stands in an erased unit any longer.
 fn erase_sites(kept: &mut Kept, unit: u32)
     ensures sites { (t i : ℕ) → site_at kept.new (written t i) ≡ option_and_then (outside unit) (site_at kept.old (written t i)) }
-    ensures rest { kept.new ≡ record kept.old { sites = kept.new.sites } }
+    ensures found { (spot : Spot) → table_site kept.new (found spot) ≡ option_and_then (outside unit) (table_site kept.old (found spot)) }
+    ensures rest { kept.new ≡ record kept.old { sites = kept.new.sites; found = kept.new.found } }
     ensures rows { length kept.new.sites.rows ≡ length kept.old.sites.rows }
     ensures places { KeepsPlaces kept.old kept.new }
 {
     kept.sites.erase(unit);
+    kept.found.erase(unit);
 }
 
-/// The pages of writes stand where the pass of a group moved them.
+/// Pages stand where the pass of a group moved them.
 fn move_sites(kept: &mut Kept, rg: u16)
     requires { rg < length kept.old.copies.items }
     ensures sites { (t i : ℕ) → site_at kept.new (written t i) ≡ option_map (moved_by (last_run (copies_at kept.old rg))) (site_at kept.old (written t i)) }
-    ensures rest { kept.new ≡ record kept.old { sites = kept.new.sites } }
+    ensures found { (spot : Spot) → table_site kept.new (found spot) ≡ option_map (moved_by (last_run (copies_at kept.old rg))) (table_site kept.old (found spot)) }
+    ensures rest { kept.new ≡ record kept.old { sites = kept.new.sites; found = kept.new.found } }
     ensures rows { length kept.new.sites.rows ≡ length kept.old.sites.rows }
     ensures places { KeepsPlaces kept.old kept.new }
 {
     let pass = last_run(kept.copies[usize::from(rg)].as_slice());
     kept.sites.relocate(pass);
+    kept.found.relocate(pass);
 }
 
-/// Where pages stand after an entry, and what was copied. An erase and a move look at each page of the writes of which one stands somewhere.
+/// Where pages stand after an entry, and what was copied. An erase and a move look at each page of the writes, and of the units that
+/// were found, of which one stands somewhere.
 #[tactic(auto, unfolding(fdp_rules::specs::Sites::traced_by))]
 pub fn trace(kept: &mut Kept, entry: &Entry)
     requires { HasPlaces kept.old entry.now }
     ensures sites { (t i : ℕ) → site_at kept.new (written t i) ≡ (traced_by kept.old.config (point_kept kept.old).trail entry.now).site (written t i) }
+    ensures found { (spot : Spot) → table_site kept.new (found spot) ≡ (traced_by kept.old.config (table_trail kept.old) entry.now).site (found spot) }
     ensures copies { copies_at kept.new ≡ (traced_by kept.old.config (point_kept kept.old).trail entry.now).copies }
-    ensures rest { kept.new ≡ record kept.old { sites = kept.new.sites; copies = kept.new.copies } }
+    ensures rest { kept.new ≡ record kept.old { sites = kept.new.sites; found = kept.new.found; copies = kept.new.copies } }
     ensures site_rows { length kept.new.sites.rows ≡ length kept.old.sites.rows }
     ensures places { KeepsPlaces kept.old kept.new }
     ensures copy_rows { length kept.new.copies.items ≡ length kept.old.copies.items }
@@ -111,8 +118,9 @@ pub fn trace(kept: &mut Kept, entry: &Entry)
 fn end_pass(kept: &mut Kept, rg: u16)
     requires { rg < length kept.old.copies.items }
     ensures sites { (t i : ℕ) → site_at kept.new (written t i) ≡ option_map (moved_by (last_run (copies_at kept.old rg))) (site_at kept.old (written t i)) }
+    ensures found { (spot : Spot) → table_site kept.new (found spot) ≡ option_map (moved_by (last_run (copies_at kept.old rg))) (table_site kept.old (found spot)) }
     ensures copies { copies_at kept.new ≡ with_at (copies_at kept.old) rg [] }
-    ensures rest { kept.new ≡ record kept.old { sites = kept.new.sites; copies = kept.new.copies } }
+    ensures rest { kept.new ≡ record kept.old { sites = kept.new.sites; found = kept.new.found; copies = kept.new.copies } }
     ensures site_rows { length kept.new.sites.rows ≡ length kept.old.sites.rows }
     ensures places { KeepsPlaces kept.old kept.new }
     ensures copy_rows { length kept.new.copies.items ≡ length kept.old.copies.items }
@@ -125,8 +133,9 @@ fn end_pass(kept: &mut Kept, rg: u16)
 fn empty(kept: &mut Kept, unit: u32)
     requires { HasGroupOf kept.old unit }
     ensures sites { (t i : ℕ) → site_at kept.new (written t i) ≡ option_and_then (outside unit) (site_at kept.old (written t i)) }
+    ensures found { (spot : Spot) → table_site kept.new (found spot) ≡ option_and_then (outside unit) (table_site kept.old (found spot)) }
     ensures copies { copies_at kept.new ≡ with_at (copies_at kept.old) (group_of kept.old.config unit) [] }
-    ensures rest { kept.new ≡ record kept.old { sites = kept.new.sites; copies = kept.new.copies } }
+    ensures rest { kept.new ≡ record kept.old { sites = kept.new.sites; found = kept.new.found; copies = kept.new.copies } }
     ensures site_rows { length kept.new.sites.rows ≡ length kept.old.sites.rows }
     ensures places { KeepsPlaces kept.old kept.new }
     ensures copy_rows { length kept.new.copies.items ≡ length kept.old.copies.items }

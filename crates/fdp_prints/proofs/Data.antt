@@ -1,5 +1,5 @@
 -- The lines of data tell their bytes.
-use Rattle.std.proofs.Common.{◌≡◌, inl, inr, ℕ, zero, suc, ◌+◌, ◌-◌, ◌*◌, ◌/◌, ◌%◌, ◌^◌, ◌<◌, ◌≤◌, min, Bool, true, false, List, [], ◌∷◌, ◌++◌, length, take, drop, get_or, refl, sym, ap, ◌∙◌, arith, append_assoc, ne_eqb, eq-eqb}
+use Rattle.std.proofs.Common.{◌≡◌, inl, inr, ℕ, zero, suc, ◌+◌, ◌-◌, ◌*◌, ◌/◌, ◌%◌, ◌^◌, ◌<◌, ◌≤◌, min, Bool, true, false, List, [], ◌∷◌, ◌++◌, length, take, drop, get_or, refl, sym, ap, ◌∙◌, arith, append_assoc, ne_eqb, eq-eqb, cond}
 use Rattle.std.specs.Prelude.{codes, bytes_eq, flat_map, if◌then◌else◌, ◌==◌}
 use Rattle.std.specs.Int.{from_le_bytes, to_le_bytes, w32}
 use Rattle.std.specs.List.{before_first, after_first}
@@ -14,6 +14,8 @@ use Rattle.fdp_base.specs.declared.status.Status.{Status}
 use Rattle.fdp_base.specs.Geometry.{IsBlockSize}
 use Rattle.fdp_base.specs.Pattern.{repeated}
 use Rattle.fdp_base.specs.Text.{hex, hex_bytes}
+use Rattle.fdp_output.specs.CommandData.{own_text}
+use Rattle.fdp_output.specs.CommandText.{is_spelled}
 use Rattle.fdp_output.specs.Output.{pieces_of, block_text, block_line, block_lines, data_lines, data_text}
 use Rattle.fdp_trace.specs.Reader.FrontOf.{is_line_feed}
 use Rattle.fdp_prints.specs.Told.{AreBytes, data_size, is_success, reply_size}
@@ -187,29 +189,37 @@ no-blocks : (size : ℕ) (x r : List ℕ) → length x ≡ 0 → lines_in block_
 unfolding lines_in
 no-blocks size x r e = nothing-back x e
 
-read-back : (c : DriveConfig) (count : ℕ) (x r : List ℕ) → IsBlockSize c.block → length x ≡ count * c.block → AreBytes x → lines_in block_in c.block count (count * c.block) (block_lines count x ++ r) ≡ x
-read-back c zero x r is lx h = ap (λ (k : ℕ). lines_in block_in c.block zero k (block_lines zero x ++ r)) (omega arith) ∙ no-blocks c.block x r (omega (arith, lx))
-read-back c (suc n) x r is lx h =
-    let size : length x / suc n ≡ c.block = ap (λ (k : ℕ). k / suc n) (omega (arith, lx)) ∙ div-mul-add c.block (suc n) 0 (omega arith) in
-    ap (λ (k : ℕ). lines_in block_in c.block (suc n) (suc n * c.block) (flat_map block_line (pieces_of (suc n) k x) ++ r)) size
-    ∙ ap (λ (k : ℕ). lines_in block_in c.block (suc n) k (flat_map block_line (pieces_of (suc n) c.block x) ++ r)) (sym lx)
-    ∙ lines-back block_text block_in show-block block-back c.block (suc n) x r (omega (arith, sized c.block is)) (omega (arith, lx)) h
+pub read-back : (block count : ℕ) (x r : List ℕ) → IsBlockSize block → length x ≡ count * block → AreBytes x → lines_in block_in block count (count * block) (block_lines count x ++ r) ≡ x
+read-back block zero x r is lx h = ap (λ (k : ℕ). lines_in block_in block zero k (block_lines zero x ++ r)) (omega arith) ∙ no-blocks block x r (omega (arith, lx))
+read-back block (suc n) x r is lx h =
+    let size : length x / suc n ≡ block = ap (λ (k : ℕ). k / suc n) (omega (arith, lx)) ∙ div-mul-add block (suc n) 0 (omega arith) in
+    ap (λ (k : ℕ). lines_in block_in block (suc n) (suc n * block) (flat_map block_line (pieces_of (suc n) k x) ++ r)) size
+    ∙ ap (λ (k : ℕ). lines_in block_in block (suc n) k (flat_map block_line (pieces_of (suc n) block x) ++ r)) (sym lx)
+    ∙ lines-back block_text block_in show-block block-back block (suc n) x r (omega (arith, sized block is)) (omega (arith, lx)) h
 
-log-back : (size : ℕ) (x r : List ℕ) → length x ≡ size → AreBytes x → lines_in bytes_in 32 size size (data_lines x ++ r) ≡ x
+pub log-back : (size : ℕ) (x r : List ℕ) → length x ≡ size → AreBytes x → lines_in bytes_in 32 size size (data_lines x ++ r) ≡ x
 log-back size x r lx h =
     ap (λ (k : ℕ). lines_in bytes_in 32 k k (data_lines x ++ r)) (sym lx)
     ∙ lines-back hex_bytes bytes_in show-bytes bytes-back 32 (length x) x r (omega arith) (omega arith) h
 
-success-back : (c : DriveConfig) (command : Command) (x r : List ℕ) → IsBlockSize c.block → length x ≡ data_size c command → AreBytes x → success_in c command (data_text command x ++ r) ≡ x
+-- a command that carries no data prints none
+none-own : (b : Bool) → ◌≡◌ {A = List ℕ} (cond b [] []) []
+none-own true = refl
+none-own false = refl
+
+success-back : (c : DriveConfig) (command : Command) (x r : List ℕ) → IsBlockSize c.block → length x ≡ data_size c command → AreBytes x → success_in c command ((own_text c.block command ++ data_text command x) ++ r) ≡ x
 success-back c (commands.Write w) x r is lx h = nothing-back x lx
-success-back c (commands.Read d) x r is lx h = read-back c d.count x r is lx h
+success-back c (commands.Read d) x r is lx h =
+    ap (λ (own : List ℕ). success_in c (commands.Read d) ((own ++ data_text (commands.Read d) x) ++ r)) (none-own (is_spelled (commands.Read d))) ∙ read-back c.block d.count x r is lx h
 success-back c (commands.Zero z) x r is lx h = nothing-back x lx
 success-back c (commands.Dealloc d) x r is lx h = nothing-back x lx
 success-back c (commands.Flush f) x r is lx h = nothing-back x lx
 success-back c (commands.Delete d) x r is lx h = nothing-back x lx
-success-back c (commands.Status d) x r is lx h = log-back (4 * d.dwords) x r lx h
+success-back c (commands.Status d) x r is lx h =
+    ap (λ (own : List ℕ). success_in c (commands.Status d) ((own ++ data_text (commands.Status d) x) ++ r)) (none-own (is_spelled (commands.Status d))) ∙ log-back (4 * d.dwords) x r lx h
 success-back c (commands.Update u) x r is lx h = nothing-back x lx
-success-back c (commands.Log l) x r is lx h = log-back (4 * l.dwords) x r lx h
+success-back c (commands.Log l) x r is lx h =
+    ap (λ (own : List ℕ). success_in c (commands.Log l) ((own ++ data_text (commands.Log l) x) ++ r)) (none-own (is_spelled (commands.Log l))) ∙ log-back (4 * l.dwords) x r lx h
 success-back c (commands.SetFdp d) x r is lx h = nothing-back x lx
 success-back c (commands.GetFdp g) x r is lx h = nothing-back x lx
 success-back c (commands.SetEvents d) x r is lx h = nothing-back x lx
@@ -217,13 +227,13 @@ success-back c (commands.Create d) x r is lx h = nothing-back x lx
 success-back c (commands.Other o) x r is lx h = nothing-back x lx
 
 by-success : (c : DriveConfig) (command : Command) (b : Bool) (x r : List ℕ) → IsBlockSize c.block → length x ≡ (if b then data_size c command else 0) → AreBytes x
-    → (if b then success_in c command (data_text command x ++ r) else []) ≡ x
+    → (if b then success_in c command ((own_text c.block command ++ data_text command x) ++ r) else []) ≡ x
 by-success c command true x r is lx h = success-back c command x r is lx h
 by-success c command false x r is lx h = nothing-back x lx
 
--- the bytes of a reply are read back from its lines
+-- the bytes of a reply are read back from its lines, behind those that the command carries
 pub reply-back : (c : DriveConfig) (command : Command) (status : Status) (x r : List ℕ) → IsBlockSize c.block → length x ≡ reply_size c command status → AreBytes x
-    → reply_in c command status (data_text command x ++ r) ≡ x
+    → reply_in c command status ((own_text c.block command ++ data_text command x) ++ r) ≡ x
 reply-back c command status x r is lx h = by-success c command (is_success status) x r is lx h
 
 -- ---- two blocks

@@ -4,7 +4,8 @@ pub mod Digits
 pub mod Data
 pub mod Words
 pub mod Fields
-pub mod Reading
 pub mod Sizes
+pub mod Given
+pub mod Reading
 pub mod Typed
 pub mod Lines

@@ -1,8 +1,8 @@
 -- What is read of lines of data are bytes, as many as are asked for.
-use Rattle.std.proofs.Common.{◌≡◌, inl, inr, ℕ, zero, suc, ◌+◌, ◌-◌, ◌*◌, ◌/◌, ◌%◌, ◌^◌, ◌<◌, ◌≤◌, min, Bool, true, false, List, [], ◌∷◌, ◌++◌, length, drop, refl, sym, ap, subst, ◌∙◌, arith}
+use Rattle.std.proofs.Common.{◌≡◌, inl, inr, ℕ, zero, suc, ◌+◌, ◌-◌, ◌*◌, ◌/◌, ◌%◌, ◌^◌, ◌<◌, ◌≤◌, min, Bool, true, false, List, [], ◌∷◌, ◌++◌, length, drop, refl, sym, ap, subst, arith}
 use Rattle.std.specs.Prelude.{if◌then◌else◌, ◌==◌}
 use Rattle.std.specs.Int.{to_le_bytes, w32}
-use Rattle.std.specs.List.{AllByRecursion, before_first, after_first}
+use Rattle.std.specs.List.{before_first, after_first}
 use Rattle.std.proofs.lemmas.Bool.{eqb-true, or_cases}
 use Rattle.std.proofs.lemmas.List.{length-append}
 use Rattle.fdp_base.specs.declared.command.Command.{Command}
@@ -52,8 +52,10 @@ block-sized : (size : ℕ) (digits : List ℕ) → size % 4 ≡ 0 → IsSized si
 unfolding block_in
 block-sized size digits whole = by-eight size (hex_number digits % 2 ^ 32) digits (length digits == 8) whole
 
-module _ (piece : ℕ → List ℕ → List ℕ) (sized : (size : ℕ) (digits : List ℕ) → size % 4 ≡ 0 → IsSized size (piece size digits)) where
-  lines-sized : (size n left : ℕ) (text : List ℕ) → 0 < size → size % 4 ≡ 0 → left % 4 ≡ 0 → left ≤ n * size → IsSized left (lines_in piece size n left text)
+-- sizes that a piece may have
+module _ (IsFit : ℕ → Type 0) (least : (m n : ℕ) → IsFit m → IsFit n → IsFit (min m n)) (less : (m n : ℕ) → IsFit m → IsFit n → IsFit (m - n))
+    (piece : ℕ → List ℕ → List ℕ) (sized : (size : ℕ) (digits : List ℕ) → IsFit size → IsSized size (piece size digits)) where
+  lines-sized : (size n left : ℕ) (text : List ℕ) → 0 < size → IsFit size → IsFit left → left ≤ n * size → IsSized left (lines_in piece size n left text)
   unfolding lines_in
   lines-sized size zero left text some whole all few =
       let none : left ≡ 0 = omega (arith, few) in
@@ -62,9 +64,15 @@ module _ (piece : ℕ → List ℕ → List ℕ) (sized : (size : ℕ) (digits :
   lines-sized size (suc n) (suc left) text some whole all few =
       let more : suc n * size ≡ size + n * size = omega arith in
       sized-append (min size (suc left)) (suc left - size) (suc left) (piece (min size (suc left)) (drop 2 (before_first is_line_feed text))) (lines_in piece size n (suc left - size) (after_first is_line_feed text))
-      (sized (min size (suc left)) (drop 2 (before_first is_line_feed text)) (omega (arith, whole, all)))
-      (lines-sized size n (suc left - size) (after_first is_line_feed text) some whole (omega (arith, whole, all)) (omega (arith, few, more)))
+      (sized (min size (suc left)) (drop 2 (before_first is_line_feed text)) (least size (suc left) whole all))
+      (lines-sized size n (suc left - size) (after_first is_line_feed text) some whole (less (suc left) size all whole) (omega (arith, few, more)))
       (omega arith)
+
+least-four : (m n : ℕ) → m % 4 ≡ 0 → n % 4 ≡ 0 → min m n % 4 ≡ 0
+least-four m n hm hn = omega (arith, hm, hn)
+
+less-four : (m n : ℕ) → m % 4 ≡ 0 → n % 4 ≡ 0 → (m - n) % 4 ≡ 0
+less-four m n hm hn = omega (arith, hm, hn)
 
 block-is : (size : ℕ) → IsBlockSize size → (512 ≤ size) × (size % 4 ≡ 0)
 block-is size h =
@@ -79,21 +87,24 @@ times-four (suc n) size whole =
     let more : suc n * size ≡ size + n * size = omega arith in
     omega (arith, more, whole, times-four n size whole)
 
-nothing : IsSized 0 []
+pub nothing : IsSized 0 []
 nothing = record { count = refl; bytes_are = tt }
 
-pub blocks-sized : (c : DriveConfig) (count : ℕ) (text : List ℕ) → IsBlockSize c.block → IsSized (count * c.block) (lines_in block_in c.block count (count * c.block) text)
-blocks-sized c count text is =
-    let b = block-is c.block is in
-    lines-sized block_in block-sized c.block count (count * c.block) text (omega (arith, b.0)) b.1 (times-four count c.block b.1) (omega arith)
+pub blocks-sized : (block count : ℕ) (text : List ℕ) → IsBlockSize block → IsSized (count * block) (lines_in block_in block count (count * block) text)
+blocks-sized block count text is =
+    let b = block-is block is in
+    lines-sized (λ n. n % 4 ≡ 0) least-four less-four block_in block-sized block count (count * block) text (omega (arith, b.0)) b.1 (times-four count block b.1) (omega arith)
+
+-- so many bytes of data
+pub rows-sized : (size : ℕ) (text : List ℕ) → IsSized size (lines_in bytes_in 32 size size text)
+rows-sized size text = lines-sized (λ n. Unit {0}) (λ m n hm hn. tt) (λ m n hm hn. tt) bytes_in (λ size digits whole. bytes-sized size digits) 32 size size text (omega arith) tt tt (omega arith)
 
 pub dwords-sized : (dwords : ℕ) (text : List ℕ) → IsSized (4 * dwords) (lines_in bytes_in 32 (4 * dwords) (4 * dwords) text)
-dwords-sized dwords text =
-    lines-sized bytes_in (λ size digits whole. bytes-sized size digits) 32 (4 * dwords) (4 * dwords) text (omega arith) refl (omega arith) (omega arith)
+dwords-sized dwords text = rows-sized (4 * dwords) text
 
 pub success-sized : (c : DriveConfig) (command : Command) (text : List ℕ) → IsBlockSize c.block → IsSized (data_size c command) (success_in c command text)
 success-sized c (commands.Write w) text is = nothing
-success-sized c (commands.Read r) text is = blocks-sized c r.count text is
+success-sized c (commands.Read r) text is = blocks-sized c.block r.count text is
 success-sized c (commands.Zero z) text is = nothing
 success-sized c (commands.Dealloc d) text is = nothing
 success-sized c (commands.Flush f) text is = nothing

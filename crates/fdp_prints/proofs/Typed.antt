@@ -1,6 +1,6 @@
 -- What is read of a text is an entry that its print tells whole.
-use Rattle.std.proofs.Common.{◌≡◌, ℕ, ◌+◌, ◌^◌, ◌<◌, ◌≤◌, Bool, true, false, ◌&&◌, nat_le, List, [], ◌∷◌, take, drop, refl, sym, ap, subst, ◌∙◌, arith, Option, Some, None, Result, Ok, Err}
-use Rattle.std.specs.Prelude.{codes, bytes_eq, if◌then◌else◌, ◌==◌}
+use Rattle.std.proofs.Common.{◌≡◌, inl, inr, ℕ, ◌^◌, ◌<◌, ◌≤◌, Bool, true, false, ◌&&◌, nat_le, List, [], ◌∷◌, take, drop, refl, ap, subst, arith, Option, Some, None, Result, Ok, Err}
+use Rattle.std.specs.Prelude.{codes, bytes_eq, if◌then◌else◌}
 use Rattle.std.specs.List.{AllByRecursion, before_first, after_first}
 use Rattle.std.proofs.lemmas.Bool.Decides.{nat_tests}
 use Rattle.fdp_base.specs.declared.command.Command.{Command}
@@ -10,9 +10,7 @@ use Rattle.fdp_base.specs.declared.entry.Entry.{Entry}
 use Rattle.fdp_base.specs.declared.entry.Entry.TheVariants as entries
 use Rattle.fdp_base.specs.declared.entry.Spot.{Spot}
 use Rattle.fdp_base.specs.declared.status.Status.{Status}
-use Rattle.fdp_base.specs.CommandKinds.{word_of}
 use Rattle.fdp_base.specs.Geometry.{IsBlockSize}
-use Rattle.fdp_output.specs.CommandText.{argument_words}
 use Rattle.fdp_trace.specs.declared.fault.FaultKind.{FaultKind}
 use Rattle.fdp_trace.specs.declared.fault.FaultKind.TheVariants as kinds
 use Rattle.fdp_trace.specs.Demands.{Spells}
@@ -25,8 +23,8 @@ use Rattle.fdp_trace.proofs.Meaning.{ComesTo, comes}
 use Rattle.fdp_trace.proofs.Parts.{ranges_found}
 use Rattle.fdp_trace.proofs.ReadBack.{own_spells}
 use Rattle.fdp_trace.proofs.SpelledLines.{line_is_spelled}
-use Rattle.fdp_prints.specs.Told.{IsSpelled, IsTold, IsToldAt, IsToldName, IsToldSpot}
-use Rattle.fdp_prints.specs.Reader.{Words, copied_in, dword_field, entry_in, first_entry, flag, hex_number, hex_within, host_in, is_colon, moved_in, name_in, names_in, placed_entry, placed_in, shut_in, spot_field, started_in, status_field, status_in, told_bytes, with_bytes}
+use Rattle.fdp_prints.specs.Told.{IsFramed, IsGiven, IsSpelled, IsTold, IsToldAt, IsToldName, IsToldSpot}
+use Rattle.fdp_prints.specs.Reader.{Words, begins_entry, command_in, copied_in, dword_field, entry_in, first_entry, flag, hex_number, hex_within, host_in, is_colon, moved_in, name_in, names_in, placed_entry, placed_in, shut_in, spot_field, started_in, status_field, status_in, taken, told_bytes, with_bytes}
 use Rattle.fdp_prints.proofs.Sizes.{reply-sized}
 
 -- a step that gave something: what it was made of gave something
@@ -38,7 +36,7 @@ pub ok-one : {A : Type 0} (x y : A) → ◌≡◌ {A = Result A FaultKind} (Ok x
 ok-one x y e = cc
 
 -- what some line of a trace spells is printed as a line
-spelled_of : (words : Words) (command : Command) → Spells words command → IsSpelled command
+pub spelled_of : (words : Words) (command : Command) → Spells words command → IsSpelled command
 spelled_of words command (line, row, fits) =
     let within = ranges_found line words fits in
     record { line = line_is_spelled line command row within; says = own_spells line command row within }
@@ -133,8 +131,24 @@ by-command : (ws : Words) (command : Command) (r : Result Command FaultKind) →
 by-command ws command (Ok found) to e = subst IsSpelled (ok-one found command e) (spelled_of ws found to)
 by-command ws command (Err kind) to e = absurd cc
 
-command-told : (ws : Words) (command : Command) → command_of ws ≡ Ok command → IsSpelled command
-command-told ws command e = by-command ws command (command_of ws) (comes ws) e
+line-told : (ws : Words) (command : Command) → command_of ws ≡ Ok command → IsSpelled command
+line-told ws command e = by-command ws command (command_of ws) (comes ws) e
+
+-- what is given, a frame gives
+abbrev pub IsFrameGiven : ℕ → Option Command → Type 0
+IsFrameGiven block None = Unit {0}
+IsFrameGiven block (Some command) = IsFramed block command
+
+taken-told : (block : ℕ) (given : Option Command) (command : Command) → IsFrameGiven block given → taken given ≡ Ok command → IsGiven block command
+taken-told block None command frame e = absurd cc
+taken-told block (Some found) command frame e = inr (subst (IsFramed block) (ok-one found command e) frame)
+
+command-told : (block : ℕ) (given : Option Command) (ws : Words) (command : Command) → IsFrameGiven block given → command_in given ws ≡ Ok command → IsGiven block command
+unfolding command_in
+command-told block given ws command frame = by (begins_entry ws) where
+  by : (b : Bool) → (if b then taken given else command_of ws) ≡ Ok command → IsGiven block command
+  by true e = taken-told block given command frame e
+  by false e = inl (line-told ws command e)
 
 -- ---- entries
 
@@ -142,41 +156,41 @@ command-told ws command e = by-command ws command (command_of ws) (comes ws) e
 abbrev IsReadFrom : DriveConfig → List ℕ → Entry → Type 0
 IsReadFrom c text e = IsTold c (with_bytes (told_bytes c e text) e)
 
-host-told : (c : DriveConfig) (text : List ℕ) (ws : Words) (e : Entry) → IsBlockSize c.block → host_in ws ≡ Ok e → IsReadFrom c text e
+host-told : (given : Option Command) (c : DriveConfig) (text : List ℕ) (ws : Words) (e : Entry) → IsFrameGiven c.block given → IsBlockSize c.block → host_in given ws ≡ Ok e → IsReadFrom c text e
 unfolding host_in
-host-told c text ws e is eq =
+host-told given c text ws e frame is eq =
     let q = bind-ok (field_8 ws) _ e eq in
     let n = bind-ok (field_16 q.0.1) _ e q.2 in
     let a = bind-ok (flag n.0.1) _ e n.2 in
     let s = bind-ok (status_field a.0.1) _ e a.2 in
     let d = bind-ok (dword_field s.0.1) _ e s.2 in
     let m = bind-ok (field_64 d.0.1) _ e d.2 in
-    let k = bind-ok (command_of m.0.1) _ e m.2 in
+    let k = bind-ok (command_in given m.0.1) _ e m.2 in
     let status = status-field-told a.0.1 s.0 s.1 in
     let told = reply-sized c k.0 s.0.0 text is in
     subst (IsReadFrom c text) (ok-one (entries.Host (record { queue = q.0.0; number = n.0.0; command = k.0; reply = record { status = s.0.0; dw0 = d.0.0; bytes = []; applied = a.0.0 }; moment = m.0.0 })) e k.2) (record {
       queue = omega (arith, field-told 255 ws q.0 q.1);
       number = omega (arith, field-told 65535 q.0.1 n.0 n.1);
       moment = omega (arith, field-told 18446744073709551615 d.0.1 m.0 m.1);
-      command = command-told m.0.1 k.0 k.1;
+      command = command-told c.block given m.0.1 k.0 frame k.1;
       reply = record { sct = status.0; sc = status.1; dw0 = dword-told s.0.1 d.0 d.1; bytes = told.bytes_are; size = told.count };
     })
 
-started-told : (ws : Words) (e : Entry) → started_in ws ≡ Ok e → (c : DriveConfig) (text : List ℕ) → IsReadFrom c text e
+started-told : (given : Option Command) (ws : Words) (e : Entry) → started_in given ws ≡ Ok e → (c : DriveConfig) → IsFrameGiven c.block given → (text : List ℕ) → IsReadFrom c text e
 unfolding started_in
-started-told ws e eq c text =
+started-told given ws e eq c frame text =
     let q = bind-ok (field_8 ws) _ e eq in
     let n = bind-ok (field_16 q.0.1) _ e q.2 in
     let g = bind-ok (field_16 n.0.1) _ e n.2 in
     let r = bind-ok (field_8 g.0.1) _ e g.2 in
     let v = bind-ok (flag r.0.1) _ e r.2 in
-    let k = bind-ok (command_of v.0.1) _ e v.2 in
+    let k = bind-ok (command_in given v.0.1) _ e v.2 in
     subst (IsReadFrom c text) (ok-one (entries.Started (record { queue = q.0.0; number = n.0.0; command = k.0; rg = g.0.0; ruh = r.0.0; pid_valid = v.0.0 })) e k.2) (record {
       queue = omega (arith, field-told 255 ws q.0 q.1);
       number = omega (arith, field-told 65535 q.0.1 n.0 n.1);
       rg = omega (arith, field-told 65535 n.0.1 g.0 g.1);
       ruh = omega (arith, field-told 255 g.0.1 r.0 r.1);
-      command = command-told v.0.1 k.0 k.1;
+      command = command-told c.block given v.0.1 k.0 frame k.1;
     })
 
 page-told : (ws : Words) (e : Entry) → placed_in ws ≡ Ok e → (c : DriveConfig) (text : List ℕ) → IsReadFrom c text e
@@ -229,13 +243,13 @@ either : (P : Entry → Type 0) (b : Bool) (x y : Result Entry FaultKind) (e : E
 either P true x y e first second eq = first eq
 either P false x y e first second eq = second eq
 
-entry-told : (c : DriveConfig) (text : List ℕ) (ws : Words) (e : Entry) → IsBlockSize c.block → entry_in ws ≡ Ok e → IsReadFrom c text e
+entry-told : (given : Option Command) (c : DriveConfig) (text : List ℕ) (ws : Words) (e : Entry) → IsFrameGiven c.block given → IsBlockSize c.block → entry_in given ws ≡ Ok e → IsReadFrom c text e
 unfolding entry_in
-entry-told c text [] e is eq = absurd cc
-entry-told c text (word ∷ ws) e is eq =
+entry-told given c text [] e frame is eq = absurd cc
+entry-told given c text (word ∷ ws) e frame is eq =
     let P = IsReadFrom c text in
-    either P (bytes_eq word (codes "host")) _ _ e (host-told c text ws e is)
-    (either P (bytes_eq word (codes "started")) _ _ e (λ x. started-told ws e x c text)
+    either P (bytes_eq word (codes "host")) _ _ e (host-told given c text ws e frame is)
+    (either P (bytes_eq word (codes "started")) _ _ e (λ x. started-told given ws e x c frame text)
     (either P (bytes_eq word (codes "placed")) _ _ e (λ x. page-told ws e x c text)
     (either P (bytes_eq word (codes "copied")) _ _ e (λ x. copy-told ws e x c text)
     (either P (bytes_eq word (codes "moved")) _ _ e (λ x. move-told ws e x c text)
@@ -247,15 +261,15 @@ entry-told c text (word ∷ ws) e is eq =
     (either P (bytes_eq word (codes "reopened")) _ _ e (λ x. subst P (ok-one entries.Reopened e x) tt) (λ x. absurd cc))))))))))) eq
 
 -- what is read of a text is told whole, whatever stands behind its first line
-pub first-told : (c : DriveConfig) (text : List ℕ) (x : ℕ × Entry) → IsBlockSize c.block → first_entry c text ≡ Ok x → IsToldAt c x
+pub first-told : (given : Option Command) (c : DriveConfig) (text : List ℕ) (x : ℕ × Entry) → IsFrameGiven c.block given → IsBlockSize c.block → first_entry given c text ≡ Ok x → IsToldAt c x
 unfolding first_entry placed_entry
-first-told c text x is eq =
+first-told given c text x frame is eq =
     let ws = words_of (before_first is_line_feed text) in
     let behind = after_first is_line_feed text in
-    let p = bind-ok (placed_entry ws) (λ x. Ok (x.0, with_bytes (told_bytes c x.1 behind) x.1)) x eq in
+    let p = bind-ok (placed_entry given ws) (λ x. Ok (x.0, with_bytes (told_bytes c x.1 behind) x.1)) x eq in
     let n = bind-ok (field_64 ws) _ p.0 p.1 in
-    let e = bind-ok (entry_in n.0.1) _ p.0 n.2 in
+    let e = bind-ok (entry_in given n.0.1) _ p.0 n.2 in
     let placed = ok-one (n.0.0, e.0) p.0 e.2 in
     let whole = ok-one (p.0.0, with_bytes (told_bytes c p.0.1 behind) p.0.1) x p.2 in
-    let told : IsToldAt c (n.0.0, with_bytes (told_bytes c e.0 behind) e.0) = (omega (arith, field-told 18446744073709551615 ws n.0 n.1), entry-told c behind n.0.1 e.0 is e.1) in
+    let told : IsToldAt c (n.0.0, with_bytes (told_bytes c e.0 behind) e.0) = (omega (arith, field-told 18446744073709551615 ws n.0 n.1), entry-told given c behind n.0.1 e.0 frame is e.1) in
     subst (IsToldAt c) whole (subst (λ (y : ℕ × Entry). IsToldAt c (y.0, with_bytes (told_bytes c y.1 behind) y.1)) placed told)

@@ -1,5 +1,5 @@
 -- The reader's own words: what is read of the lines of an entry, without a look at whether they are just those that are printed of it.
-use Rattle.std.specs.Prelude.{ℕ, zero, suc, ◌-◌, ◌*◌, ◌/◌, ◌%◌, ◌^◌, min, Bool, ◌==◌, if◌then◌else◌, nat_le, List, [], ◌∷◌, ◌++◌, length, take, drop, codes, bytes_eq, Result, Ok, Err}
+use Rattle.std.specs.Prelude.{ℕ, zero, suc, ◌-◌, ◌*◌, ◌/◌, ◌%◌, ◌^◌, min, Bool, false, ◌==◌, if◌then◌else◌, nat_le, List, [], ◌∷◌, ◌++◌, length, take, drop, codes, bytes_eq, Option, Some, None, Result, Ok, Err}
 use Rattle.std.specs.List.{before_first, after_first}
 use Rattle.std.specs.Option.{option_map_or}
 use Rattle.std.specs.Int.{to_le_bytes, w32}
@@ -14,6 +14,10 @@ use Rattle.fdp_base.specs.declared.entry.Spot.{Spot}
 use Rattle.fdp_base.specs.declared.status.Status.{Status}
 use Rattle.fdp_base.specs.EntryKinds.{host_of}
 use Rattle.fdp_base.specs.Pattern.{repeated}
+use Rattle.fdp_binary.specs.declared.asked.Asked.{Asked}
+use Rattle.fdp_binary.specs.declared.asked.Asked.TheVariants as asks
+use Rattle.fdp_binary.specs.Fields.{blocks_in, pids_in, ranges_in, types_in}
+use Rattle.fdp_layouts.specs.declared.submission.Sqe.{Sqe}
 use Rattle.fdp_trace.specs.declared.fault.FaultKind.{FaultKind}
 use Rattle.fdp_trace.specs.declared.fault.FaultKind.TheVariants as kinds
 use Rattle.fdp_trace.specs.Numbers.{value_of}
@@ -78,17 +82,37 @@ spot_field ws = do
   page ← field_32 unit.1
   Ok (record { unit = unit.0; page = page.0 }, page.1)
 
+-- ---- commands
+
+abbrev pub begins_entry : Words → Bool
+begins_entry [] = false
+begins_entry (word ∷ ws) = bytes_eq word (codes "entry")
+
+abbrev pub taken : Option Command → Result Command FaultKind
+taken None = Err kinds.Word
+taken (Some command) = Ok command
+
+-- the command of a line of a trace; or, where an entry stands there, the one that is given for it with the data behind
+unfoldable pub command_in : Option Command → Words → Result Command FaultKind
+command_in given ws = if begins_entry ws then taken given else command_of ws
+
+-- the words of the command, in the line of a completion, or of a start
+unfoldable pub command_words_in : Words → Words
+command_words_in [] = []
+command_words_in (position ∷ []) = []
+command_words_in (position ∷ word ∷ ws) = if bytes_eq word (codes "host") then drop 6 ws else drop 5 ws
+
 -- ---- entries, without the bytes of a reply
 
-unfoldable pub host_in : Words → Result Entry FaultKind
-host_in ws = do
+unfoldable pub host_in : Option Command → Words → Result Entry FaultKind
+host_in given ws = do
   queue ← field_8 ws
   number ← field_16 queue.1
   applied ← flag number.1
   status ← status_field applied.1
   dw0 ← dword_field status.1
   moment ← field_64 dw0.1
-  command ← command_of moment.1
+  command ← command_in given moment.1
   Ok (entries.Host (record {
     queue = queue.0;
     number = number.0;
@@ -97,14 +121,14 @@ host_in ws = do
     moment = moment.0;
   }))
 
-unfoldable pub started_in : Words → Result Entry FaultKind
-started_in ws = do
+unfoldable pub started_in : Option Command → Words → Result Entry FaultKind
+started_in given ws = do
   queue ← field_8 ws
   number ← field_16 queue.1
   rg ← field_16 number.1
   ruh ← field_8 rg.1
   pid_valid ← flag ruh.1
-  command ← command_of pid_valid.1
+  command ← command_in given pid_valid.1
   Ok (entries.Started (record {
     queue = queue.0;
     number = number.0;
@@ -141,11 +165,11 @@ shut_in ws = do
   Ok (entries.Shut (record { rg = rg.0; ruh = ruh.0 }))
 
 -- the entry of a line with these words behind its position
-unfoldable pub entry_in : Words → Result Entry FaultKind
-entry_in [] = Err kinds.Count
-entry_in (word ∷ ws) =
-    if bytes_eq word (codes "host") then host_in ws
-    else (if bytes_eq word (codes "started") then started_in ws
+unfoldable pub entry_in : Option Command → Words → Result Entry FaultKind
+entry_in given [] = Err kinds.Count
+entry_in given (word ∷ ws) =
+    if bytes_eq word (codes "host") then host_in given ws
+    else (if bytes_eq word (codes "started") then started_in given ws
     else (if bytes_eq word (codes "placed") then placed_in ws
     else (if bytes_eq word (codes "copied") then copied_in ws
     else (if bytes_eq word (codes "moved") then moved_in ws
@@ -158,10 +182,10 @@ entry_in (word ∷ ws) =
     else Err kinds.Word))))))))))
 
 -- the position of a line with these words, and its entry
-unfoldable pub placed_entry : Words → Result (ℕ × Entry) FaultKind
-placed_entry ws = do
+unfoldable pub placed_entry : Option Command → Words → Result (ℕ × Entry) FaultKind
+placed_entry given ws = do
   position ← field_64 ws
-  entry ← entry_in position.1
+  entry ← entry_in given position.1
   Ok (position.0, entry)
 
 -- ---- the bytes of a reply, from the lines behind
@@ -185,6 +209,23 @@ lines_in piece size zero left text = []
 lines_in piece size (suc n) zero text = []
 lines_in piece size (suc n) (suc left) text =
     piece_in piece (min size (suc left)) (before_first is_line_feed text) ++ lines_in piece size n (suc left - size) (after_first is_line_feed text)
+
+-- the data behind an entry of this kind, with blocks of so many bytes
+abbrev pub data_read : ℕ → Option Asked → Sqe → List ℕ → List ℕ
+data_read block None e text = []
+data_read block (Some asks.Write) e text = lines_in block_in block (blocks_in e) (blocks_in e * block) text
+data_read block (Some asks.Read) e text = []
+data_read block (Some asks.Zero) e text = []
+data_read block (Some asks.Dealloc) e text = lines_in bytes_in 32 (16 * ranges_in e) (16 * ranges_in e) text
+data_read block (Some asks.Flush) e text = []
+data_read block (Some asks.Status) e text = []
+data_read block (Some asks.Update) e text = lines_in bytes_in 32 (2 * pids_in e) (2 * pids_in e) text
+data_read block (Some asks.Log) e text = []
+data_read block (Some asks.SetFdp) e text = []
+data_read block (Some asks.GetFdp) e text = []
+data_read block (Some asks.SetEvents) e text = lines_in bytes_in 32 (types_in e) (types_in e) text
+data_read block (Some asks.Create) e text = []
+data_read block (Some asks.Delete) e text = []
 
 -- the bytes that a command answers where it succeeds
 abbrev pub success_in : DriveConfig → Command → List ℕ → List ℕ
@@ -224,7 +265,7 @@ with_bytes bytes entries.Reopened = entries.Reopened
 abbrev pub told_bytes : DriveConfig → Entry → List ℕ → List ℕ
 told_bytes c e text = option_map_or (λ (h : Host). reply_in c h.command h.reply.status text) (host_of e) []
 
--- the entry with which a text begins, and its position
-unfoldable pub first_entry : DriveConfig → List ℕ → Result (ℕ × Entry) FaultKind
-first_entry c text =
-    placed_entry (words_of (before_first is_line_feed text)) >>= λ x. Ok (x.0, with_bytes (told_bytes c x.1 (after_first is_line_feed text)) x.1)
+-- the entry with which a text begins, and its position; this command is given for it where no line says its command
+unfoldable pub first_entry : Option Command → DriveConfig → List ℕ → Result (ℕ × Entry) FaultKind
+first_entry given c text =
+    placed_entry given (words_of (before_first is_line_feed text)) >>= λ x. Ok (x.0, with_bytes (told_bytes c x.1 (after_first is_line_feed text)) x.1)

@@ -1,5 +1,5 @@
 -- Which entries their printed lines tell whole.
-use Rattle.std.specs.Prelude.{ℕ, ◌≡◌, ◌*◌, ◌^◌, ◌<◌, Bool, true, ◌&&◌, ◌==◌, if◌then◌else◌, List, ◌∷◌, length, flat_map}
+use Rattle.std.specs.Prelude.{ℕ, ◌≡◌, ◌⊎◌, ◌*◌, ◌^◌, ◌<◌, Bool, true, false, ◌&&◌, ◌==◌, if◌then◌else◌, List, length, flat_map}
 use Rattle.std.specs.List.{AllByRecursion}
 use Rattle.fdp_base.specs.declared.command.Command.{Command}
 use Rattle.fdp_base.specs.declared.command.Command.TheVariants as commands
@@ -15,6 +15,7 @@ use Rattle.fdp_base.specs.declared.entry.Reply.{Reply}
 use Rattle.fdp_base.specs.declared.entry.Spot.{Spot}
 use Rattle.fdp_base.specs.declared.entry.Started.{Started}
 use Rattle.fdp_base.specs.declared.status.Status.{Status}
+use Rattle.fdp_binary.specs.Frames.{IsFrame}
 use Rattle.fdp_output.specs.CommandText.{is_spelled, line_words}
 use Rattle.fdp_output.specs.HistoryText.{entry_lines}
 use Rattle.fdp_trace.specs.Demands.{Spells}
@@ -30,6 +31,18 @@ AreBytes bytes = AllByRecursion (IsOfBits 8) bytes
 pub record IsSpelled (command : Command) : Type 0 where
   pub line : is_spelled command ≡ true
   pub says : Spells (line_words command) command
+
+-- a command that some frame of bytes says, with blocks of this size, and no line of a trace. A create has no frame: of one that no line says, neither
+-- its size nor its handles are printed, so it is not told
+pub record IsFramed (block : ℕ) (command : Command) : Type 0 where
+  pub line : is_spelled command ≡ false
+  pub frame : List ℕ
+  pub bytes : AreBytes frame
+  pub says : IsFrame block frame command
+
+-- a command that a line or a frame gives
+abbrev pub IsGiven : ℕ → Command → Type 0
+IsGiven block command = IsSpelled command ⊎ IsFramed block command
 
 abbrev pub is_success : Status → Bool
 is_success s = (s.sct == 0) && (s.sc == 0)
@@ -68,16 +81,16 @@ pub record IsToldHost (c : DriveConfig) (h : Host) : Type 0 where
   pub queue : IsOfBits 8 h.queue
   pub number : IsOfBits 16 h.number
   pub moment : IsOfBits 64 h.moment
-  pub command : IsSpelled h.command
+  pub command : IsGiven c.block h.command
   pub reply : IsToldReply c h.command h.reply
 
--- the start of a spelled write
-pub record IsToldStart (s : Started) : Type 0 where
+-- the start of such a write
+pub record IsToldStart (c : DriveConfig) (s : Started) : Type 0 where
   pub queue : IsOfBits 8 s.queue
   pub number : IsOfBits 16 s.number
   pub rg : IsOfBits 16 s.rg
   pub ruh : IsOfBits 8 s.ruh
-  pub command : IsSpelled s.command
+  pub command : IsGiven c.block s.command
 
 pub record IsToldPage (p : Placed) : Type 0 where
   pub ticket : IsOfBits 64 p.ticket
@@ -101,10 +114,10 @@ pub record IsToldMove (m : Moved) : Type 0 where
   pub rg : IsOfBits 16 m.rg
   pub blocks : AllByRecursion IsToldName m.blocks
 
--- an entry that its printed lines tell whole: each number is one of its type, each command is spelled
+-- an entry that its printed lines tell whole: each number is one of its type, and a line or a frame gives its command
 abbrev pub IsTold : DriveConfig → Entry → Type 0
 IsTold c (entries.Host h) = IsToldHost c h
-IsTold c (entries.Started s) = IsToldStart s
+IsTold c (entries.Started s) = IsToldStart c s
 IsTold c (entries.Placed p) = IsToldPage p
 IsTold c (entries.Copied x) = IsToldCopy x
 IsTold c (entries.Moved m) = IsToldMove m

@@ -3,14 +3,23 @@ ghost use Rattle.fdp_base.specs.declared.command.Command.{Command};
 ghost use Rattle.fdp_base.specs.declared.config.DriveConfig.{DriveConfig};
 ghost use Rattle.fdp_base.specs.declared.entry.Entry.{Entry};
 ghost use Rattle.fdp_base.specs.Geometry.{IsBlockSize};
-ghost use Rattle.fdp_output.specs.CommandText.{command_text};
+ghost use Rattle.fdp_output.specs.CommandData.{own_lines, own_text};
+ghost use Rattle.fdp_output.specs.CommandText.{command_text, work_words};
 ghost use Rattle.fdp_output.specs.HistoryText.{entry_lines};
 ghost use Rattle.fdp_output.specs.Output.{block_line};
-ghost use Rattle.fdp_prints.specs.Told.{AreBytes, AreTold, IsSpelled, IsTold, printed};
+ghost use Rattle.fdp_prints.specs.Told.{AreBytes, AreTold, IsFramed, IsGiven, IsTold, printed};
+ghost use Rattle.fdp_queues.specs.Entry.{work_of};
 
-/// Two commands that a trace can spell and that are printed alike are one.
+/// Two commands that a line or a frame gives and that are printed alike, with the data that they carry, are one. The line of a command that a trace
+/// spells has no data below it.
 pub fn one_command_a_line()
-    ensures { (a b : Command) → IsSpelled a → IsSpelled b → command_text a ≡ command_text b → a ≡ b }
+    ensures { (block : ℕ) (a b : Command) → IsBlockSize block → IsGiven block a → IsGiven block b → command_text a ≡ command_text b → own_text block a ≡ own_text block b → a ≡ b }
+{}
+
+/// Two commands of frames with one entry and the same lines of data are one.
+pub fn one_frame_a_print()
+    ensures { (block : ℕ) (a b : Command) → IsBlockSize block → IsFramed block a → IsFramed block b → work_words (work_of a 0) ≡ work_words (work_of b 0)
+        → own_lines block a ≡ own_lines block b → a ≡ b }
 {}
 
 /// Two blocks of one size that are printed alike are one.

@@ -1,9 +1,12 @@
 //! The numbers of entries, looked at one by one. Nothing comes of it but what is known of them.
 
 ghost use Rattle.std.specs.Prelude.{All};
-ghost use Rattle.fdp_ranges.specs.Ranged.{IsOfBits, IsRanged, IsRangedBlock, IsRangedHost, IsRangedSpot, IsRangedStart};
+ghost use Rattle.std.specs.List.{AllByRecursion};
+ghost use Rattle.fdp_prints.specs.Told.{AreBytes, IsToldName, IsToldSpot};
+ghost use Rattle.fdp_ranges.specs.Ranged.{IsRanged, IsRangedHost, IsRangedStart};
 
-use crate::bits::{is_byte, is_long, is_short, is_word};
+use crate::bits::{have_bytes, is_byte, is_long, is_short, is_word};
+use crate::commands::is_command;
 use fdp_base::{BlockName, Entry, Host, Spot, Started};
 
 /// Each number of these entries is one of its type.
@@ -57,6 +60,7 @@ fn is_host(host: &Host)
     is_byte(host.reply.status.sc);
     is_word(host.reply.dw0);
     are_bytes(host.reply.bytes.as_slice());
+    is_command(&host.command);
 }
 
 fn is_start(started: &Started)
@@ -66,25 +70,24 @@ fn is_start(started: &Started)
     is_short(started.number);
     is_short(started.rg);
     is_byte(started.ruh);
+    is_command(&started.command);
 }
 
 fn is_spot(spot: Spot)
-    ensures { IsRangedSpot spot }
+    ensures { IsToldSpot spot }
 {
     is_word(spot.unit);
     is_word(spot.page);
 }
 
 fn are_bytes(bytes: &[u8])
-    ensures { All (IsOfBits 8) bytes.now }
+    ensures { AreBytes bytes.now }
 {
-    for byte in bytes {
-        is_byte(*byte);
-    }
+    have_bytes(bytes);
 }
 
 fn are_blocks(blocks: &[BlockName])
-    ensures { All IsRangedBlock blocks.now }
+    ensures { AllByRecursion IsToldName blocks.now }
 {
     for block in blocks {
         is_block(*block);
@@ -92,7 +95,7 @@ fn are_blocks(blocks: &[BlockName])
 }
 
 fn is_block(block: BlockName)
-    ensures { IsRangedBlock block }
+    ensures { IsToldName block }
 {
     is_word(block.nsid);
     is_long(block.lba);

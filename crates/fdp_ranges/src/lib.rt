@@ -2,6 +2,7 @@
 #![tactic(auto)]
 
 mod bits;
+mod commands;
 mod entries;
 
 pub use entries::are_ranged;

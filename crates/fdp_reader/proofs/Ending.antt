@@ -1,6 +1,6 @@
 -- Where a text stops to be the print of entries.
-use Rattle.std.proofs.Common.{◌≡◌, ⊎_elim, ℕ, ◌/◌, ◌^◌, ◌<◌, List, [], ◌∷◌, ◌++◌, length, refl, sym, ap, subst, ◌∙◌, append_assoc, arith, Result, Ok, Err}
-use Rattle.std.specs.Prelude.{codes, decimal}
+use Rattle.std.proofs.Common.{◌≡◌, ⊎_elim, Bool, true, false, Option, ℕ, ◌/◌, ◌^◌, ◌<◌, List, [], ◌∷◌, ◌++◌, length, refl, sym, ap, subst, ◌∙◌, append_assoc, arith, Result, Ok, Err}
+use Rattle.std.specs.Prelude.{codes, decimal, if◌then◌else◌}
 use Rattle.std.specs.List.{flat_map}
 use Rattle.std.proofs.lemmas.List.{append-nil, append_cancel_left}
 use Rattle.fdp_base.specs.declared.command.Command.{Command}
@@ -10,19 +10,25 @@ use Rattle.fdp_base.specs.declared.entry.Entry.{Entry}
 use Rattle.fdp_base.specs.declared.entry.Entry.TheVariants as entries
 use Rattle.fdp_base.specs.Geometry.{IsBlockSize}
 use Rattle.fdp_base.specs.Text.{hex_bytes, spaced}
-use Rattle.fdp_output.specs.HistoryText.{entry_data, entry_lines, entry_words}
+use Rattle.fdp_queues.specs.Data.{payload_data, pids_data, ranges_data}
+use Rattle.fdp_output.specs.CommandData.{own_lines, own_text}
+use Rattle.fdp_output.specs.CommandText.{is_spelled}
+use Rattle.fdp_output.specs.HistoryText.{entry_data, entry_lines}
 use Rattle.fdp_output.specs.Output.{block_lines, block_text, data_lines, data_text, pieces_of}
 use Rattle.fdp_trace.specs.declared.fault.FaultKind.{FaultKind}
 use Rattle.fdp_prints.specs.Told.{AreTold, IsTold, IsToldAt, printed}
 use Rattle.fdp_prints.specs.Reader.{first_entry, told_bytes, with_bytes}
-use Rattle.fdp_prints.proofs.Lines.{entry-cut, entry_row, first-back, no-data, one-row, read-behind, row-cut, row-line}
+use Rattle.fdp_prints.proofs.Lines.{entry-cut, entry_row, first-back, read-behind, row-cut, row-line}
+use Rattle.fdp_prints.proofs.Reading.{words}
 use Rattle.fdp_prints.proofs.Data.{indented, show-block, show-bytes}
 use Rattle.fdp_prints.proofs.Typed.{ok-one}
 use Rattle.fdp_prints.proofs.Visible.{AllShow, no_feed}
 use Rattle.fdp_reader.specs.Form.{AreLines, IsLine, text_of}
+use Rattle.fdp_reader.specs.Framing.{IsGivenBy}
 use Rattle.fdp_reader.specs.Lines.{AreApart}
 use Rattle.fdp_reader.specs.Next.{IsEnd}
-use Rattle.fdp_reader.proofs.Alike.{GoesOn, data-alike, words-kept}
+use Rattle.fdp_reader.proofs.Agree.{GoesOn}
+use Rattle.fdp_reader.proofs.Alike.{IsAlike, entry-kept, given-at, given-to}
 use Rattle.fdp_reader.proofs.Cuts.{IsBeyond, IsWithin, compared, first-cut, line-cut, line-more, lines-append, lines-parts, no-end, text-append}
 
 -- ---- the lines of an entry
@@ -73,10 +79,31 @@ data-whole (commands.SetEvents s) x = whole-none
 data-whole (commands.Create create) x = whole-none
 data-whole (commands.Other o) x = whole-none
 
+own-lines-whole : (block : ℕ) (command : Command) → IsWhole (own_lines block command)
+own-lines-whole block (commands.Write w) = blocks-whole w.count (payload_data block w.count w.payload)
+own-lines-whole block (commands.Read r) = whole-none
+own-lines-whole block (commands.Zero z) = whole-none
+own-lines-whole block (commands.Dealloc d) = dwords-whole (ranges_data d.ranges)
+own-lines-whole block (commands.Flush f) = whole-none
+own-lines-whole block (commands.Delete d) = whole-none
+own-lines-whole block (commands.Status s) = whole-none
+own-lines-whole block (commands.Update u) = dwords-whole (pids_data u.pids)
+own-lines-whole block (commands.Log l) = whole-none
+own-lines-whole block (commands.SetFdp s) = whole-none
+own-lines-whole block (commands.GetFdp g) = whole-none
+own-lines-whole block (commands.SetEvents s) = dwords-whole s.types
+own-lines-whole block (commands.Create create) = whole-none
+own-lines-whole block (commands.Other o) = whole-none
+
+own-whole : (block : ℕ) (command : Command) → IsWhole (own_text block command)
+own-whole block command = by (is_spelled command) where
+  by : (b : Bool) → IsWhole (if b then [] else own_lines block command)
+  by true = whole-none
+  by false = own-lines-whole block command
+
 entry-data-whole : (c : DriveConfig) (e : Entry) → IsTold c e → IsWhole (entry_data c.block e)
-entry-data-whole c (entries.Host h) t =
-    subst IsWhole (ap (λ (own : List ℕ). own ++ data_text h.command h.reply.bytes) (sym (no-data c.block h.command t.command))) (data-whole h.command h.reply.bytes)
-entry-data-whole c (entries.Started s) t = subst IsWhole (sym (no-data c.block s.command t.command)) whole-none
+entry-data-whole c (entries.Host h) t = whole-append (own_text c.block h.command) (data_text h.command h.reply.bytes) (own-whole c.block h.command) (data-whole h.command h.reply.bytes)
+entry-data-whole c (entries.Started s) t = own-whole c.block s.command
 entry-data-whole c (entries.Placed p) t = whole-none
 entry-data-whole c (entries.Copied x) t = whole-none
 entry-data-whole c (entries.Moved m) t = whole-none
@@ -89,41 +116,68 @@ entry-data-whole c entries.Reopened t = whole-none
 
 pub entry-whole : (c : DriveConfig) (p : ℕ) (e : Entry) → p < 2 ^ 64 → IsTold c e → IsWhole (entry_lines c.block p e)
 entry-whole c p e lt t =
-    let row : entry_lines c.block p e ≡ (entry_row p e ++ 10 ∷ []) ++ entry_data c.block e = row-cut c p e t ∙ sym (append_assoc (entry_row p e) (10 ∷ []) (entry_data c.block e)) in
+    let row : entry_lines c.block p e ≡ (entry_row p e ++ 10 ∷ []) ++ entry_data c.block e = row-cut c p e ∙ sym (append_assoc (entry_row p e) (10 ∷ []) (entry_data c.block e)) in
     subst IsWhole (sym row) (whole-append (entry_row p e ++ 10 ∷ []) (entry_data c.block e) (whole-line (entry_row p e) (row-line c p e lt t)) (entry-data-whole c e t))
 
--- what is read of a text that begins with lines of an entry's print begins, printed, with the same lines
-entry-alike : (c : DriveConfig) (p : ℕ) (e : Entry) (line : List ℕ) (lines : List (List ℕ)) (more later : List ℕ) (x : ℕ × Entry) → IsBlockSize c.block → p < 2 ^ 64 → IsTold c e → AreLines (line ∷ lines)
-    → entry_lines c.block p e ≡ text_of (line ∷ lines) ++ more → first_entry c (text_of (line ∷ lines) ++ later) ≡ Ok x → GoesOn (entry_lines c.block x.0 x.1) (line ∷ lines)
-entry-alike c p e line lines more later x is lt t hl text read =
-    let cut = line-cut (entry_row p e) line (entry_data c.block e) (text_of lines ++ more) (row-line c p e lt t) hl.0 (sym (row-cut c p e t) ∙ text ∙ first-cut line lines more) in
-    let bytes = told_bytes c (with_bytes [] e) (text_of lines ++ later) in
-    let again = with_bytes bytes (with_bytes [] e) in
-    let there : first_entry c (text_of (line ∷ lines) ++ later) ≡ Ok (p, again) =
-    ap (first_entry c) (first-cut line lines later ∙ ap (λ (l : List ℕ). l ++ 10 ∷ (text_of lines ++ later)) (sym cut.0)) ∙ read-behind c p e (text_of lines ++ later) lt t in
-    let same : (p, again) ≡ x = ok-one (p, again) x (sym there ∙ read) in
-    let d = data-alike c e lines more later is t hl.1 cut.1 in
-    let own : entry_lines c.block p again ≡ text_of (line ∷ lines) ++ d.0 =
-    ap (λ (ws : List (List ℕ)). (spaced (decimal p ∷ ws) ++ 10 ∷ []) ++ entry_data c.block again) (words-kept e bytes)
-    ∙ append_assoc (spaced (decimal p ∷ entry_words e)) (10 ∷ []) (entry_data c.block again) ∙ ap (λ (s : List ℕ). s ++ 10 ∷ entry_data c.block again) (one-row c (decimal p) e t ∙ cut.0)
-    ∙ ap (λ (t : List ℕ). line ++ 10 ∷ t) d.1 ∙ sym (first-cut line lines d.0) in
-    subst (λ (y : ℕ × Entry). GoesOn (entry_lines c.block y.0 y.1) (line ∷ lines)) same (d.0, own)
+-- the words of an entry stay, whatever its bytes
+words-kept : (e : Entry) (bytes : List ℕ) → words (with_bytes bytes (with_bytes [] e)) ≡ words e
+words-kept (entries.Host h) bytes = refl
+words-kept (entries.Started s) bytes = refl
+words-kept (entries.Placed p) bytes = refl
+words-kept (entries.Copied x) bytes = refl
+words-kept (entries.Moved m) bytes = refl
+words-kept (entries.Erased x) bytes = refl
+words-kept (entries.Retired r) bytes = refl
+words-kept (entries.Aside a) bytes = refl
+words-kept (entries.Shut s) bytes = refl
+words-kept (entries.Worn w) bytes = refl
+words-kept entries.Reopened bytes = refl
+
+-- what is read of a text that begins with these lines, the first of them that of an entry
+module _ (given : Option Command) (c : DriveConfig) (p : ℕ) (d : Entry) (line : List ℕ) (lines : List (List ℕ)) (more later : List ℕ) (is : IsBlockSize c.block) (lt : p < 2 ^ 64) (t : IsTold c d) (hl : AreLines (line ∷ lines))
+    (text : entry_lines c.block p d ≡ text_of (line ∷ lines) ++ more) (gives : IsGivenBy c.block (text_of (line ∷ lines) ++ later) given) where
+  parts : (entry_row p d ≡ line) × (entry_data c.block d ≡ text_of lines ++ more)
+  parts = line-cut (entry_row p d) line (entry_data c.block d) (text_of lines ++ more) (row-line c p d lt t) hl.0 (sym (row-cut c p d) ∙ text ∙ first-cut line lines more)
+
+  begins : text_of (line ∷ lines) ++ later ≡ entry_row p d ++ 10 ∷ (text_of lines ++ later)
+  begins = first-cut line lines later ∙ ap (λ (l : List ℕ). l ++ 10 ∷ (text_of lines ++ later)) (sym parts.0)
+
+  alike : IsAlike given c p d (text_of lines ++ later) lines
+  alike = entry-kept given c p lines more later is hl.1 d t (λ k f. given-at c p d k (text_of lines ++ later) (text_of (line ∷ lines) ++ later) given lt t f begins gives) parts.1
+
+  again : Entry
+  again = with_bytes (told_bytes c (with_bytes [] alike.e) (text_of lines ++ later)) (with_bytes [] alike.e)
+
+  read-again : first_entry given c (text_of (line ∷ lines) ++ later) ≡ Ok (p, again)
+  unfolding again alike
+  read-again = ap (first_entry given c) (begins ∙ ap (λ (l : List ℕ). l ++ 10 ∷ (text_of lines ++ later)) (sym alike.row)) ∙ read-behind given c p alike.e (text_of lines ++ later) lt alike.told alike.for'
+
+  -- is an entry whose print begins with them
+  entry-alike : (x : ℕ × Entry) → first_entry given c (text_of (line ∷ lines) ++ later) ≡ Ok x → GoesOn (entry_lines c.block x.0 x.1) (line ∷ lines)
+  unfolding again alike
+  entry-alike x read =
+      let same : (p, again) ≡ x = ok-one (p, again) x (sym read-again ∙ read) in
+      let row : entry_row p again ≡ line = ap (λ (ws : List (List ℕ)). spaced (decimal p ∷ ws)) (words-kept alike.e (told_bytes c (with_bytes [] alike.e) (text_of lines ++ later))) ∙ alike.row ∙ parts.0 in
+      let own : entry_lines c.block p again ≡ text_of (line ∷ lines) ++ alike.goes.0 =
+      row-cut c p again ∙ ap (λ (s : List ℕ). s ++ 10 ∷ entry_data c.block again) row ∙ ap (λ (s : List ℕ). line ++ 10 ∷ s) alike.goes.1 ∙ sym (first-cut line lines alike.goes.0) in
+      subst (λ (y : ℕ × Entry). GoesOn (entry_lines c.block y.0 y.1) (line ∷ lines)) same (alike.goes.0, own)
 
 -- the same where the last of the lines is told apart
-entry-alike-last : (c : DriveConfig) (p : ℕ) (e : Entry) (lines : List (List ℕ)) (line : List ℕ) (more later : List ℕ) (x : ℕ × Entry) → IsBlockSize c.block → p < 2 ^ 64 → IsTold c e → AreLines (lines ++ line ∷ [])
-    → entry_lines c.block p e ≡ text_of (lines ++ line ∷ []) ++ more → first_entry c (text_of (lines ++ line ∷ []) ++ later) ≡ Ok x → GoesOn (entry_lines c.block x.0 x.1) (lines ++ line ∷ [])
-entry-alike-last c p e [] line more later x is lt t hl text read = entry-alike c p e line [] more later x is lt t hl text read
-entry-alike-last c p e (l ∷ ls) line more later x is lt t hl text read = entry-alike c p e l (ls ++ line ∷ []) more later x is lt t hl text read
+entry-alike-last : (given : Option Command) (c : DriveConfig) (p : ℕ) (e : Entry) (lines : List (List ℕ)) (line : List ℕ) (more later : List ℕ) (x : ℕ × Entry) → IsBlockSize c.block → p < 2 ^ 64 → IsTold c e → AreLines (lines ++ line ∷ [])
+    → entry_lines c.block p e ≡ text_of (lines ++ line ∷ []) ++ more → IsGivenBy c.block (text_of (lines ++ line ∷ []) ++ later) given → first_entry given c (text_of (lines ++ line ∷ []) ++ later) ≡ Ok x → GoesOn (entry_lines c.block x.0 x.1) (lines ++ line ∷ [])
+entry-alike-last given c p e [] line more later x is lt t hl text gives read = entry-alike given c p e line [] more later is lt t hl text gives x read
+entry-alike-last given c p e (l ∷ ls) line more later x is lt t hl text gives read = entry-alike given c p e l (ls ++ line ∷ []) more later is lt t hl text gives x read
 
 -- ---- an entry that was read, of whose print the text is not
 
 -- the text goes on as the print of an entry: that one is read
-read-is : (c : DriveConfig) (text : List ℕ) (x : ℕ × Entry) (q : ℕ) (d : Entry) (more : List ℕ) → IsBlockSize c.block → q < 2 ^ 64 → IsTold c d → first_entry c text ≡ Ok x → text ≡ entry_lines c.block q d ++ more → text ≡ entry_lines c.block x.0 x.1 ++ more
-read-is c text x q d more is lt t read whole =
-    let same : (q, d) ≡ x = ok-one (q, d) x (sym (ap (first_entry c) whole ∙ first-back c q d more is lt t) ∙ read) in
+read-is : (given : Option Command) (c : DriveConfig) (text : List ℕ) (x : ℕ × Entry) (q : ℕ) (d : Entry) (more : List ℕ) → IsBlockSize c.block → IsGivenBy c.block text given → q < 2 ^ 64 → IsTold c d → first_entry given c text ≡ Ok x → text ≡ entry_lines c.block q d ++ more → text ≡ entry_lines c.block x.0 x.1 ++ more
+read-is given c text x q d more is gives lt t read whole =
+    let for' = given-to c q d more text given is lt t (whole ∙ entry-cut c q d more) gives in
+    let same : (q, d) ≡ x = ok-one (q, d) x (sym (ap (first_entry given c) whole ∙ first-back given c q d more is lt t for') ∙ read) in
     whole ∙ ap (λ (y : ℕ × Entry). entry_lines c.block y.0 y.1 ++ more) same
 
-module _ (c : DriveConfig) (text : List ℕ) (x : ℕ × Entry) (lines : List (List ℕ)) (other rest : List ℕ) (is : IsBlockSize c.block) (read : first_entry c text ≡ Ok x)
+module _ (given : Option Command) (c : DriveConfig) (text : List ℕ) (x : ℕ × Entry) (lines : List (List ℕ)) (other rest : List ℕ) (is : IsBlockSize c.block) (gives : IsGivenBy c.block text given) (read : first_entry given c text ≡ Ok x)
     (apart-whole : (more : List ℕ) → text ≡ entry_lines c.block x.0 x.1 ++ more → ⊥) (hl : AreLines lines) (print : entry_lines c.block x.0 x.1 ≡ text_of lines ++ other) (text-is : text ≡ text_of lines ++ rest) (apart : AreApart other rest) where
   no-more : (q : ℕ) (d : Entry) (zs : List (ℕ × Entry)) (line later more : List ℕ) → q < 2 ^ 64 → IsTold c d → IsLine line → rest ≡ line ++ 10 ∷ later → entry_lines c.block q d ++ printed c.block zs ≡ (text_of lines ++ line) ++ 10 ∷ more → ⊥
   no-more q d zs line later more lt t is-line cut e =
@@ -134,14 +188,14 @@ module _ (c : DriveConfig) (text : List ℕ) (x : ℕ × Entry) (lines : List (L
       let whole : text ≡ entry_lines c.block q d ++ (text_of h.more ++ rest) =
       text-is ∙ ap (λ (ls : List (List ℕ)). text_of ls ++ rest) h.lines ∙ ap (λ (s : List ℕ). s ++ rest) (text-append w.lines h.more) ∙ append_assoc (text_of w.lines) (text_of h.more) rest
       ∙ ap (λ (s : List ℕ). s ++ (text_of h.more ++ rest)) (sym w.text_is) in
-      apart-whole (text_of h.more ++ rest) (read-is c text x q d (text_of h.more ++ rest) is lt t read whole))
+      apart-whole (text_of h.more ++ rest) (read-is given c text x q d (text_of h.more ++ rest) is gives lt t read whole))
       (λ (h : IsBeyond lines w.lines (line ++ 10 ∷ more) (printed c.block zs)).
       let parts = lines-parts lines h.line h.more (subst AreLines h.lines w.whole) in
       let next = line-cut line h.line more (text_of h.more ++ printed c.block zs) is-line parts.1 (h.text ∙ first-cut h.line h.more (printed c.block zs)) in
       let own : entry_lines c.block q d ≡ text_of (lines ++ line ∷ []) ++ text_of h.more =
       w.text_is ∙ ap text_of h.lines ∙ ap (λ (l : List ℕ). text_of (lines ++ l ∷ h.more)) (sym next.0) ∙ ap text_of (sym (append_assoc lines (line ∷ []) h.more)) ∙ text-append (lines ++ line ∷ []) h.more in
       let front : text ≡ text_of (lines ++ line ∷ []) ++ later = text-is ∙ ap (λ (s : List ℕ). text_of lines ++ s) cut ∙ sym (append_assoc (text_of lines) line (10 ∷ later)) ∙ sym (line-more lines line later) in
-      let again = entry-alike-last c q d lines line (text_of h.more) later x is lt t (lines-append lines (line ∷ []) hl (is-line, tt)) own (ap (first_entry c) (sym front) ∙ read) in
+      let again = entry-alike-last given c q d lines line (text_of h.more) later x is lt t (lines-append lines (line ∷ []) hl (is-line, tt)) own (subst (λ (s : List ℕ). IsGivenBy c.block s given) front gives) (ap (first_entry given c) (sym front) ∙ read) in
       let same : text_of lines ++ other ≡ text_of lines ++ (line ++ 10 ∷ again.0) = sym print ∙ again.1 ∙ line-more lines line again.0 ∙ append_assoc (text_of lines) line (10 ∷ again.0) in
       apart line again.0 later is-line (append_cancel_left (text_of lines) other (line ++ 10 ∷ again.0) same) cut)
       (compared w.lines lines (printed c.block zs) (line ++ 10 ∷ more) w.whole hl there)
@@ -152,7 +206,7 @@ module _ (c : DriveConfig) (text : List ℕ) (x : ℕ × Entry) (lines : List (L
 
   none-here : (zs : List (ℕ × Entry)) → AreTold c zs → printed c.block zs ≡ text → 0 < length text → ⊥
   none-here [] told e some = omega (arith, some, ap (λ (t : List ℕ). length t) e)
-  none-here (z ∷ zs) told e some = apart-whole (printed c.block zs) (read-is c text x z.0 z.1 (printed c.block zs) is told.0.0 told.0.1 read (sym e))
+  none-here (z ∷ zs) told e some = apart-whole (printed c.block zs) (read-is given c text x z.0 z.1 (printed c.block zs) is gives told.0.0 told.0.1 read (sym e))
 
   pub stop-here : IsToldAt c x → IsEnd c text lines rest
   stop-here told = record {
@@ -171,17 +225,25 @@ module _ (c : DriveConfig) (text : List ℕ) (x : ℕ × Entry) (lines : List (L
 no-read : (x : ℕ × Entry) (kind : FaultKind) (r : Result (ℕ × Entry) FaultKind) → r ≡ Ok x → r ≡ Err kind → ⊥
 no-read x kind r ok err = cc
 
-module _ (c : DriveConfig) (text : List ℕ) (kind : FaultKind) (is : IsBlockSize c.block) (read : first_entry c text ≡ Err kind) where
+module _ (given : Option Command) (c : DriveConfig) (text : List ℕ) (kind : FaultKind) (is : IsBlockSize c.block) (gives : IsGivenBy c.block text given) (read : first_entry given c text ≡ Err kind) where
+  -- no entry has the first line
+  no-row : (z : ℕ × Entry) (later : List ℕ) → IsToldAt c z → text ≡ entry_row z.0 z.1 ++ 10 ∷ later → ⊥
+  no-row z later told begins =
+      let row = entry_row z.0 z.1 in
+      let whole : text ≡ text_of (row ∷ []) ++ later = begins ∙ sym (first-cut row [] later) in
+      let there = read-again given c z.0 z.1 row [] (entry_data c.block z.1) later is told.0 told.1 (row-line c z.0 z.1 told.0 told.1, tt) (row-cut c z.0 z.1 ∙ sym (first-cut row [] (entry_data c.block z.1)))
+      (subst (λ (s : List ℕ). IsGivenBy c.block s given) whole gives) in
+      no-read _ kind (first_entry given c text) (ap (first_entry given c) whole ∙ there) read
+
   no-first : (line later more : List ℕ) (zs : List (ℕ × Entry)) → IsLine line → text ≡ line ++ 10 ∷ later → AreTold c zs → printed c.block zs ≡ ([] ++ line) ++ 10 ∷ more → ⊥
   no-first line later more [] is-line cut told e = no-end line more (sym e)
   no-first line later more (z ∷ zs) is-line cut told e =
-      let own = line-cut (entry_row z.0 z.1) line (entry_data c.block z.1 ++ printed c.block zs) more (row-line c z.0 z.1 told.0.0 told.0.1) is-line (sym (entry-cut c z.0 z.1 (printed c.block zs) told.0.1) ∙ e) in
-      let there = ap (first_entry c) (cut ∙ ap (λ (l : List ℕ). l ++ 10 ∷ later) (sym own.0)) ∙ read-behind c z.0 z.1 later told.0.0 told.0.1 in
-      no-read _ kind (first_entry c text) there read
+      let own = line-cut (entry_row z.0 z.1) line (entry_data c.block z.1 ++ printed c.block zs) more (row-line c z.0 z.1 told.0.0 told.0.1) is-line (sym (entry-cut c z.0 z.1 (printed c.block zs)) ∙ e) in
+      no-row z later told.0 (cut ∙ ap (λ (l : List ℕ). l ++ 10 ∷ later) (sym own.0))
 
   none-read : (zs : List (ℕ × Entry)) → AreTold c zs → printed c.block zs ≡ text → 0 < length text → ⊥
   none-read [] told e some = omega (arith, some, ap (λ (t : List ℕ). length t) e)
-  none-read (z ∷ zs) told e some = no-read _ kind (first_entry c text) (ap (first_entry c) (sym e) ∙ first-back c z.0 z.1 (printed c.block zs) is told.0.0 told.0.1) read
+  none-read (z ∷ zs) told e some = no-row z (entry_data c.block z.1 ++ printed c.block zs) told.0 (sym e ∙ entry-cut c z.0 z.1 (printed c.block zs))
 
   pub stop-first : IsEnd c text [] text
   stop-first = record {

@@ -2,6 +2,10 @@ pub mod Places
 pub mod Steps
 pub mod Cuts
 pub mod Walking
+pub mod Agree
+pub mod ByKind
+pub mod Frames
+pub mod Giving
 pub mod Alike
 pub mod Ending
 pub mod Prefixes

@@ -34,7 +34,7 @@ pub record HasMore (c : DriveConfig) (xs zs : List (ℕ × Entry)) (rest : List 
 pub told-more : (c : DriveConfig) (xs zs : List (ℕ × Entry)) (rest : List ℕ) → IsBlockSize c.block → AreTold c xs → AreTold c zs → printed c.block zs ≡ printed c.block xs ++ rest → HasMore c xs zs rest
 told-more c [] zs rest is hx hz e = record { others = zs; entries = refl; told = hz; text = e }
 told-more c (x ∷ xs) [] rest is hx hz e =
-    absurd (no-end (entry_row x.0 x.1) (entry_data c.block x.1 ++ (printed c.block xs ++ rest)) (sym (entry-cut c x.0 x.1 (printed c.block xs ++ rest) hx.0.1) ∙ sym (append_assoc (entry_lines c.block x.0 x.1) (printed c.block xs) rest) ∙ sym e))
+    absurd (no-end (entry_row x.0 x.1) (entry_data c.block x.1 ++ (printed c.block xs ++ rest)) (sym (entry-cut c x.0 x.1 (printed c.block xs ++ rest)) ∙ sym (append_assoc (entry_lines c.block x.0 x.1) (printed c.block xs) rest) ∙ sym e))
 told-more c (x ∷ xs) (z ∷ zs) rest is hx hz e =
     let t = entry-one c z.0 x.0 z.1 x.1 (printed c.block zs) (printed c.block xs ++ rest) is hz.0.0 hx.0.0 hz.0.1 hx.0.1 (e ∙ append_assoc (entry_lines c.block x.0 x.1) (printed c.block xs) rest) in
     let others = told-more c xs zs rest is hx.1 hz.1 t.2 in

@@ -56,7 +56,7 @@ print-stops : (c : DriveConfig) (traces : ℕ) (zs : List (ℕ × Entry)) → Ar
 unfolding step
 print-stops c traces [] told line more is e = absurd (no-end line more (sym e))
 print-stops c traces (z ∷ zs) told line more is e =
-    let own = line-cut (entry_row z.0 z.1) line (entry_data c.block z.1 ++ printed c.block zs) more (row-line c z.0 z.1 told.0.0 told.0.1) is (sym (entry-cut c z.0 z.1 (printed c.block zs) told.0.1) ∙ e) in
+    let own = line-cut (entry_row z.0 z.1) line (entry_data c.block z.1 ++ printed c.block zs) more (row-line c z.0 z.1 told.0.0 told.0.1) is (sym (entry-cut c z.0 z.1 (printed c.block zs)) ∙ e) in
     let stops : is_closing line ≡ false = ap is_closing (sym own.0) ∙ digit-stops (entry_row z.0 z.1) (row-digit z.0 z.1 told.0.0) in
     rw stops refl
 

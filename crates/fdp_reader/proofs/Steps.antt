@@ -1,7 +1,7 @@
 -- The steps of the loops that read.
-use Rattle.std.proofs.Common.{◌≡◌, ℕ, zero, suc, ◌+◌, ◌-◌, ◌%◌, ◌<◌, min, List, [], ◌∷◌, ◌++◌, take, drop, refl, sym, ap, ◌∙◌, append_assoc, arith, Result, Ok, Err}
+use Rattle.std.proofs.Common.{◌≡◌, ℕ, zero, suc, ◌+◌, ◌-◌, ◌%◌, ◌<◌, ◌≤◌, min, List, [], ◌∷◌, ◌++◌, length, take, drop, replicate, refl, sym, ap, ◌∙◌, append_assoc, arith, Result, Ok, Err}
 use Rattle.std.specs.List.{before_first, after_first}
-use Rattle.std.proofs.lemmas.List.{append-nil}
+use Rattle.std.proofs.lemmas.List.{append-nil, length-drop, nil_from_length}
 use Rattle.fdp_base.specs.declared.entry.BlockName.{BlockName}
 use Rattle.fdp_base.specs.Pattern.{repeated}
 use Rattle.fdp_trace.specs.declared.fault.FaultKind.{FaultKind}
@@ -75,3 +75,37 @@ names-end names words all none so_far = sym so_far ∙ ap (λ (ws : Words). with
 pub names-begin : (all : Result (List BlockName) FaultKind) → with_names [] all ≡ all
 names-begin (Ok names) = refl
 names-begin (Err kind) = refl
+
+-- ---- words
+
+pub skip-step : (n : ℕ) (ws os : List (List ℕ)) (w : List ℕ) → drop n ws ≡ w ∷ os → drop (n + 1) ws ≡ os
+skip-step zero [] os w is = absurd cc
+skip-step zero (x ∷ xs) os w is = tail-one x w xs os is where
+  tail-one : (x w : List ℕ) (xs os : List (List ℕ)) → x ∷ xs ≡ w ∷ os → xs ≡ os
+  tail-one x w xs os e = cc
+skip-step (suc n) [] os w is = absurd cc
+skip-step (suc n) (x ∷ xs) os w is =
+    let more : suc n + 1 ≡ suc (n + 1) = omega arith in
+    ap (λ (k : ℕ). drop k (x ∷ xs)) more ∙ skip-step n xs os w is
+
+pub skip-end : (n m : ℕ) (ws : List (List ℕ)) → n ≤ m → drop n ws ≡ [] → [] ≡ drop m ws
+skip-end n m ws le none =
+    let few : length ws ≤ n = omega (arith, length-drop n ws, ap (λ (t : List (List ℕ)). length t) none) in
+    sym (nil_from_length (drop m ws) (omega (arith, length-drop m ws, few, le)))
+
+-- ---- zeros
+
+pub zero-none : (old : List ℕ) → old ≡ old ++ replicate 0 0
+zero-none old = sym (append-nil old)
+
+zeros-next : (n : ℕ) → replicate {A = ℕ} n 0 ++ 0 ∷ [] ≡ replicate (n + 1) 0
+zeros-next zero = refl
+zeros-next (suc n) =
+    let more : suc n + 1 ≡ suc (n + 1) = omega arith in
+    ap (λ (t : List ℕ). 0 ∷ t) (zeros-next n) ∙ sym (ap (λ (k : ℕ). replicate {A = ℕ} k 0) more)
+
+pub zero-step : (n : ℕ) (old now : List ℕ) → now ≡ old ++ replicate n 0 → now ++ 0 ∷ [] ≡ old ++ replicate (n + 1) 0
+zero-step n old now so_far = ap (λ (t : List ℕ). t ++ 0 ∷ []) so_far ∙ append_assoc old (replicate n 0) (0 ∷ []) ∙ ap (λ (t : List ℕ). old ++ t) (zeros-next n)
+
+pub zero-end : (n m : ℕ) (old now : List ℕ) → n ≡ m → now ≡ old ++ replicate n 0 → now ≡ old ++ replicate m 0
+zero-end n m old now same so_far = so_far ∙ ap (λ (k : ℕ). old ++ replicate {A = ℕ} k 0) same

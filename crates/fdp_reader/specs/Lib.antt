@@ -1,4 +1,5 @@
 pub mod Forms
+pub mod Framing
 pub mod Yielding
 pub mod Form
 pub mod Lines

@@ -1,17 +1,26 @@
 -- The reader's own words for the entries of a text: the contracts of its private steps cite them.
-use Rattle.std.specs.Prelude.{◌≡◌, ℕ, ◌<◌, Bool, true, false, List, ◌∷◌, ◌++◌, length, drop}
+use Rattle.std.specs.Prelude.{◌≡◌, ℕ, ◌<◌, Bool, true, false, List, ◌∷◌, ◌++◌, length, drop, Option, Ok}
+use Rattle.fdp_base.specs.declared.command.Command.{Command}
 use Rattle.fdp_base.specs.declared.config.DriveConfig.{DriveConfig}
 use Rattle.fdp_base.specs.declared.entry.Entry.{Entry}
 use Rattle.fdp_output.specs.HistoryText.{entry_lines}
 use Rattle.fdp_prints.specs.Told.{AreTold, IsToldAt, printed}
+use Rattle.fdp_prints.specs.Reader.{first_entry}
 use Rattle.fdp_reader.specs.declared.next.Next.{Next}
 use Rattle.fdp_reader.specs.declared.next.Next.TheVariants as nexts
 use Rattle.fdp_reader.specs.Form.{AreLines, IsLine, text_of}
+use Rattle.fdp_reader.specs.Framing.{IsGivenBy}
 
 -- a text begins with another, or does not
 abbrev pub Begins : List ℕ → List ℕ → Bool → Type 0
 Begins text front true = text ≡ front ++ drop (length front) text
 Begins text front false = (more : List ℕ) → text ≡ front ++ more → ⊥
+
+-- what was read of a text, with the command that it gives
+pub record IsReadOf (c : DriveConfig) (text : List ℕ) (position : ℕ) (entry : Entry) : Type 0 where
+  pub given : Option Command
+  pub gives : IsGivenBy c.block text given
+  pub read : first_entry given c text ≡ Ok (position, entry)
 
 -- a text begins with the lines of an entry that its print tells whole
 pub record IsEntry (c : DriveConfig) (text : List ℕ) (position : ℕ) (entry : Entry) (len : ℕ) : Type 0 where

@@ -9,7 +9,7 @@ ghost use Rattle.fdp_reader.specs.Forms.{form_of};
 
 use crate::cut::{after, before, behind, front};
 use fdp_base::{Command, DriveConfig, Status};
-use fdp_trace::number_of_digits;
+use fdp_trace::{MOST_AMOUNT, number_of_digits};
 use std::alloc::{AllocError, Global};
 
 /// How the bytes of a piece stand on its line.
@@ -75,7 +75,12 @@ fn push_success(
 }
 
 /// Appends so many blocks.
-fn push_blocks(block: u32, count: u32, text: &[u8], into: &mut Vec<u8>) -> Result<(), AllocError>
+pub fn push_blocks(
+    block: u32,
+    count: u32,
+    text: &[u8],
+    into: &mut Vec<u8>,
+) -> Result<(), AllocError>
     ensures { OnOk result (into.new.items ≡ into.old.items ++ lines_in block_in block count (count * block) text.now) }
 {
     let left = count as usize * block as usize;
@@ -89,12 +94,22 @@ fn push_blocks(block: u32, count: u32, text: &[u8], into: &mut Vec<u8>) -> Resul
     )
 }
 
-/// Appends so many dwords.
+/// Appends so many dwords. Each takes eight digits and more: no memory is taken for more than a line of a trace asks for, where the text cannot have
+/// them.
 fn push_dwords(dwords: u32, text: &[u8], into: &mut Vec<u8>) -> Result<(), AllocError>
     ensures { OnOk result (into.new.items ≡ into.old.items ++ lines_in bytes_in 32 (4 * dwords) (4 * dwords) text.now) }
 {
-    let left = 4 * dwords as usize;
-    push_lines(Form::Bytes, LINE, left, left, text, into)
+    if u64::from(dwords) > MOST_AMOUNT && dwords as usize > text.len() {
+        return Err(AllocError);
+    }
+    push_rows(4 * dwords as usize, text, into)
+}
+
+/// Appends so many bytes, from lines of pieces.
+pub fn push_rows(size: usize, text: &[u8], into: &mut Vec<u8>) -> Result<(), AllocError>
+    ensures { OnOk result (into.new.items ≡ into.old.items ++ lines_in bytes_in 32 size size text.now) }
+{
+    push_lines(Form::Bytes, LINE, size, size, text, into)
 }
 
 /// Appends so many bytes, from at most so many lines.
@@ -162,7 +177,7 @@ fn push_word(count: usize, word: u32, into: &mut Vec<u8>) -> Result<(), AllocErr
 }
 
 /// Appends so many bytes, from two digits each.
-fn push_bytes(size: usize, digits: &[u8], into: &mut Vec<u8>) -> Result<(), AllocError>
+pub fn push_bytes(size: usize, digits: &[u8], into: &mut Vec<u8>) -> Result<(), AllocError>
     ensures { OnOk result (into.new.items ≡ into.old.items ++ bytes_in size digits.now) }
 {
     let mut rest = digits;

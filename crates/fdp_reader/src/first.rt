@@ -7,21 +7,22 @@ ghost use Rattle.fdp_reader.specs.Yielding.{Yields};
 use crate::cut::{after, before};
 use crate::data::reply_bytes;
 use crate::entry::placed_entry;
-use fdp_base::{Bytes, DriveConfig, Entry, Host, Reply};
+use fdp_base::{Bytes, Command, DriveConfig, Entry, Host, Reply};
 use fdp_trace::LineError;
 use std::alloc::{AllocError, Global};
 
 /// The position and the entry of the first line of a text, and behind it so many lines of data as its command and its status ask for. Whether
-/// they are just the lines that are printed of it is not looked at.
+/// they are just the lines that are printed of it is not looked at. Where no line says its command, it is the one that is given.
 #[tactic(auto, unfolding(fdp_prints::specs::Reader::first_entry))]
 pub fn read_first(
     alloc: Global,
     config: &DriveConfig,
     text: &[u8],
+    given: Option<Command>,
 ) -> Result<(u64, Entry), LineError>
-    ensures { Yields result (first_entry config.now text.now) }
+    ensures { Yields result (first_entry given config.now text.now) }
 {
-    let (position, entry) = placed_entry(alloc, before(text, b'\n'))?;
+    let (position, entry) = placed_entry(alloc, before(text, b'\n'), given)?;
     let whole = with_reply(alloc, config, entry, after(text, b'\n'))?;
     Ok((position, whole))
 }

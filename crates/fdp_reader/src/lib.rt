@@ -1,6 +1,7 @@
 //! Reads the record of a run: its output and its printed history. What is read is printed again, and compared.
 #![tactic(auto)]
 
+mod carried;
 mod cut;
 mod data;
 mod entries;
@@ -8,6 +9,7 @@ mod entry;
 mod fault;
 mod fields;
 mod first;
+mod frame;
 mod front;
 mod lines;
 mod names;

@@ -2,12 +2,13 @@
 
 ghost use Rattle.std.specs.Prelude.{◌≡◌, IfOk, bytes_eq};
 ghost use Rattle.fdp_base.specs.Config.{IsValidConfig};
-ghost use Rattle.fdp_prints.specs.Reader.{first_entry};
-ghost use Rattle.fdp_reader.specs.Next.{IsNext, Begins};
+ghost use Rattle.fdp_reader.specs.Framing.{IsGivenBy};
+ghost use Rattle.fdp_reader.specs.Next.{Begins, IsNext, IsReadOf};
 
 use crate::first::read_first;
+use crate::frame::read_given;
 use crate::lines::same_lines;
-use fdp_base::{DriveConfig, Entry};
+use fdp_base::{Command, DriveConfig, Entry};
 use fdp_printing::push_entry;
 use fdp_trace::LineError;
 use std::alloc::{AllocError, Global};
@@ -32,7 +33,22 @@ pub fn next_entry(alloc: Global, config: &DriveConfig, text: &[u8]) -> Result<Ne
     requires { IsValidConfig config.now }
     ensures { IfOk result (IsNext config.now text.now) }
 {
-    match read_first(alloc, config, text) {
+    let given = read_given(alloc, config, text)?;
+    next_with(alloc, config, text, given)
+}
+
+/// The same where this command is given for an entry on the first line.
+fn next_with(
+    alloc: Global,
+    config: &DriveConfig,
+    text: &[u8],
+    given: Option<Command>,
+) -> Result<Next, AllocError>
+    requires valid { IsValidConfig config.now }
+    requires gives { IsGivenBy config.now.block text.now given }
+    ensures { IfOk result (IsNext config.now text.now) }
+{
+    match read_first(alloc, config, text, given) {
         Ok((position, entry)) => compared(alloc, config, text, position, entry),
         Err(LineError::Fault(_)) => Ok(Next::Stop { len: 0 }),
         Err(LineError::Memory) => Err(AllocError),
@@ -48,7 +64,7 @@ fn compared(
     entry: Entry,
 ) -> Result<Next, AllocError>
     requires valid { IsValidConfig config.now }
-    requires read { first_entry config.now text.now ≡ Ok (position, entry) }
+    requires read { IsReadOf config.now text.now position entry }
     ensures { IfOk result (IsNext config.now text.now) }
 {
     let mut printed = Vec::new(alloc);

@@ -18,6 +18,7 @@ use Rattle.fdp_tables.specs.declared.state.Kept.{Kept}
 use Rattle.fdp_base.specs.declared.entry.Entry.{Entry}
 use Rattle.fdp_tables.specs.declared.state.KeptGoing.{KeptGoing}
 use Rattle.fdp_tables.specs.Fresh.{IsBlank, whole_reference}
+use Rattle.fdp_tables.specs.Starts.{start_of}
 use Rattle.fdp_tables.specs.State.{going_of, namespace_of, plain_of, row}
 use Rattle.fdp_tables.proofs.Spaces.{row_absent}
 use Rattle.fdp_tables.specs.Sound.{IsSound}
@@ -89,6 +90,7 @@ blank_sound c valid k h =
     let one : length k.sites.rows ≡ 1 = ap length h.sites in
     record {
       config = subst IsValidConfig (sym h.config) valid;
+      start = subst (λ (starts : List ℕ). start_of starts ≤ length k.entries.items) (sym h.starts) (omega arith);
       index = rw (h.index, h.config) valid.ranges.index;
       generation = omega (arith, h.generation);
       spaces = h.spaces.count;
@@ -103,6 +105,7 @@ blank_sound c valid k h =
       lost = ap length h.lost ∙ length-replicate (c.groups * c.units) false ∙ ap (λ (b : DriveConfig). b.groups * b.units) (sym h.config);
       worn = ap length h.worn ∙ length-replicate c.groups false ∙ ap (λ (b : DriveConfig). b.groups) (sym h.config);
       sites = one ∙ ap (λ (es : List Entry). length es + 1) (sym h.entries);
+      found_pages = λ nsid lba b spot e _. absurd (none-some b (sym (h.spaces.empty nsid lba) ∙ e));
       copies = sym (length-map k.copies.items vec_items) ∙ ap length h.copies ∙ length-replicate c.groups [] ∙ ap (λ (b : DriveConfig). b.groups) (sym h.config);
       host_blocks = omega (arith, h.host_blocks);
       media_blocks = omega (arith, h.media_blocks);

@@ -1,6 +1,6 @@
 -- What stands where nothing was written.
-use Rattle.std.proofs.Common.{◌≡◌, ℕ, ◌+◌, ◌*◌, zero, suc, Bool, true, false, cond, ltb, List, [], ◌∷◌, length, map, Option, None, Some, refl, ap, sym, ◌∙◌, replicate, slice_get, not, filter}
-use Rattle.std.specs.Prelude.{option_map, unwrap_or, reverse}
+use Rattle.std.proofs.Common.{◌≡◌, drop, ℕ, ◌+◌, ◌*◌, zero, suc, Bool, true, false, cond, ltb, List, [], ◌∷◌, length, map, Option, None, Some, refl, ap, sym, ◌∙◌, replicate, slice_get, not, filter}
+use Rattle.std.specs.Prelude.{◌==◌, ◌&&◌, option_map, unwrap_or, reverse}
 use Rattle.std.specs.Option.{option_map_or}
 use Rattle.std.specs.Vec.{vec_items}
 use Rattle.fdp_base.specs.declared.config.DriveConfig.{DriveConfig}
@@ -24,7 +24,8 @@ use Rattle.fdp_tables.specs.Reports.{no_reports}
 use Rattle.fdp_tables.proofs.Spaces.{row_absent}
 use Rattle.fdp_tables.specs.PageSites.{site_in}
 use Rattle.fdp_tables.specs.Copies.{copy_of}
-use Rattle.fdp_tables.specs.State.{copies_at, going_of, keeps, plain_of, point_kept, reference_of, row, site_at}
+use Rattle.fdp_tables.specs.Starts.{start_of}
+use Rattle.fdp_tables.specs.State.{copies_at, going_of, keeps, own_entries, plain_of, point_kept, reference_of, row, site_at}
 
 -- what is read of any row, where all rows are the same and a row that is not there reads so too
 pub read_same : {X Y : Type 0} (f : X → Y) (y : Y) (n i : ℕ) (x : X) → f x ≡ y → option_map_or f (slice_get (replicate n x) i) y ≡ y
@@ -73,10 +74,14 @@ first_row : (t i : ℕ) → site_in ([] ∷ []) t i ≡ None
 first_row zero i = refl
 first_row (suc t) i = refl
 
+-- the run has no entry
+pub blank_own : (c : DriveConfig) (k : Kept) → IsBlank c k → own_entries k ≡ []
+blank_own c k h = ap (λ (starts : List ℕ). drop (start_of starts) k.entries.items) h.starts ∙ h.entries
+
 blank_site : (c : DriveConfig) (k : Kept) → IsBlank c k → (name : PageName) → site_at k name ≡ first_site name
 unfolding trail_of
 blank_site c k h (written ticket index) = ap (λ rows. site_in rows ticket index) h.sites ∙ first_row ticket index
-blank_site c k h (found spot) = ap (λ (es : List Entry). (trail_of k.config es).site (found spot)) h.entries
+blank_site c k h (found spot) = ap (λ (es : List Entry). (trail_of k.config es).site (found spot)) (blank_own c k h)
 
 through : {X Y Z : Type 0} (f : Y → Z) (g : X → Y) (z : Z) (o : Option X) → option_map_or (λ (x : X). f (g x)) o z ≡ option_map_or f (option_map g o) z
 through f g z None = refl
@@ -92,7 +97,7 @@ blank_copies c k h rg =
 pub blank_point : (c : DriveConfig) (k : Kept) → IsBlank c k → point_kept k ≡ point_of c (fresh c) []
 unfolding point_of state_of totals_of events_of host_events_of controller_events_of trail_of fresh kept_from
 blank_point c k h = λ d. record {
-  is_opening = false;
+  is_opening = ap (λ (starts : List ℕ). ltb 0 (length starts) && (length (drop (start_of starts) k.entries.items) == 0)) h.starts d;
   state = blank_state c k h d;
   trail = record { site = λ name. blank_site c k h name d; copies = λ rg. blank_copies c k h rg d };
   totals = record { position = ap length h.entries d; host_blocks = h.host_blocks d; media_blocks = h.media_blocks d; erases = h.erases d };

@@ -49,7 +49,7 @@ either_none : {X : Type 0} (b : Bool) (x y : Option X) → x ≡ None → y ≡ 
 either_none true x y e f = e
 either_none false x y e f = f
 
-no_block : (space : Space) (lba : ℕ) → row space.blocks.items lba ≡ None → block_in (Some space) lba ≡ None
+no_block : (space : Space) (lba : ℕ) → row space.blocks lba ≡ None → block_in (Some space) lba ≡ None
 no_block space lba e = rw e refl
 
 pub laying_next : (made : List NamespaceConfig) (i : ℕ) (rows : List (Option Space)) (space : Space) (d : NamespaceConfig) → i < length made → i + 1 < length rows → IsMade space (get_or made i d).blocks true (unwrap_or (get_or made i d).handles []) 0 → length (set rows (i + 1) (Some space)) ≡ 17 → IsLaying made i rows → IsLaying made (i + 1) (set rows (i + 1) (Some space))

@@ -4,7 +4,7 @@ use Rattle.std.specs.Prelude.{◌==◌, ◌&&◌, nat_lt, option_and_then, optio
 use Rattle.std.specs.Option.{option_flatten, option_map_or}
 use Rattle.std.proofs.lemmas.Bool.{cases_lt}
 use Rattle.std.proofs.lemmas.Option.{slice_get-map, slice_get_past, slice_get_read}
-use Rattle.std.proofs.lemmas.List.{append-nil, append_assoc, drop_all, drop_more, take_all, take_more, map-append, set_at, length-map, length-take-le, get_or_at, length-drop}
+use Rattle.std.proofs.lemmas.List.{append-nil, append_assoc, drop_all, drop_more, take_all, take_more, map-append, set_at, length-map, length-set, length-take-le, get_or_at, length-drop}
 use Rattle.fdp_rules.specs.Point.{Copy}
 use Rattle.fdp_rules.specs.Sites.{ascends, last_run}
 use Rattle.fdp_base.specs.declared.entry.Spot.{Spot}
@@ -190,10 +190,11 @@ module _ (test : ℕ → Bool) (queues i : ℕ) where
 pub record IsPut {X : Type 0} (f : ℕ → Option X → Option X) (xs : List (Option X)) (i : ℕ) (ys : List (Option X)) : Type 0 where
   pub before : (k : ℕ) → k < i → row ys k ≡ f k (row xs k)
   pub behind : (k : ℕ) → i ≤ k → row ys k ≡ row xs k
+  pub size : length ys ≡ length xs
 
 module _ {X : Type 0} (f : ℕ → Option X → Option X) (xs : List (Option X)) where
   pub put_start : IsPut f xs 0 xs
-  put_start = record { before = λ k below. absurd (omega arith); behind = λ k past. refl }
+  put_start = record { before = λ k below. absurd (omega arith); behind = λ k past. refl; size = refl }
 
   row-set : (ys : List (Option X)) (i : ℕ) (y : Option X) → i < length ys → (k : ℕ) → row (set ys i y) k ≡ with_at (row ys) i y k
   row-set ys i y there k = read-set option_flatten ys i y there k
@@ -211,12 +212,14 @@ module _ {X : Type 0} (f : ℕ → Option X → Option X) (xs : List (Option X))
         (λ k below. let ne : k ≢ i = omega arith in row-set ys i y there k ∙ placed_other ys i y k ne ∙ h.before k below)
         (row-set ys i y there i ∙ placed_here ys i y ∙ e);
     behind = λ k past. let ne : k ≢ i = omega arith in row-set ys i y there k ∙ placed_other ys i y k ne ∙ h.behind k (omega arith);
+    size = length-set ys i y ∙ h.size;
   }
 
   pub put_skip : (ys : List (Option X)) (i : ℕ) → f i (row xs i) ≡ row xs i → IsPut f xs i ys → IsPut f xs (i + 1) ys
   put_skip ys i e h = record {
     before = below_more (λ k. row ys k ≡ f k (row xs k)) i h.before (h.behind i (omega arith) ∙ sym e);
     behind = λ k past. h.behind k (omega arith);
+    size = h.size;
   }
 
   pub put_end : (ys : List (Option X)) (i : ℕ) → length xs ≤ i → ((k : ℕ) → f k None ≡ None) → IsPut f xs i ys → (k : ℕ) → row ys k ≡ f k (row xs k)

@@ -27,6 +27,7 @@ whole_reference c = record { unit = None; left = c.unit_pages }
 pub record IsBlank (c : DriveConfig) (k : Kept) : Type 0 where
   pub config : k.config ≡ c
   pub entries : k.entries.items ≡ []
+  pub starts : k.starts.items ≡ []
   pub enabled : k.enabled ≡ c.enabled
   pub index : k.index ≡ c.index
   pub generation : k.generation ≡ 0
@@ -38,6 +39,7 @@ pub record IsBlank (c : DriveConfig) (k : Kept) : Type 0 where
   pub worn : k.worn.items ≡ replicate c.groups false
   pub media : k.media.items ≡ []
   pub sites : k.sites.rows ≡ [] ∷ []
+  pub found : k.found.rows ≡ []
   pub copies : map vec_items k.copies.items ≡ replicate c.groups []
   pub host_blocks : k.host_blocks ≡ 0
   pub media_blocks : k.media_blocks ≡ 0
@@ -49,3 +51,4 @@ pub record IsFresh (c : DriveConfig) (k : Kept) : Type 0 where
   pub config : k.config ≡ c
   pub point : point_kept k ≡ point_of c (fresh c) []
   pub sound : IsSound k
+  pub starts : k.starts.items ≡ []

@@ -1,5 +1,7 @@
+pub mod Blocks
 pub mod Copies
 pub mod PageSites
+pub mod Starts
 pub mod State
 pub mod Sound
 pub mod Spaces

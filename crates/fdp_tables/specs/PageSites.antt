@@ -1,5 +1,5 @@
 -- Where the pages of writes stand, in a table with a row for each ticket.
-use Rattle.std.specs.Prelude.{◌≡◌, ℕ, ◌+◌, Bool, ◌==◌, List, [], ◌∷◌, Option, if◌then◌else◌, is_some, map, option_and_then, option_map, slice_get, slice_index_or}
+use Rattle.std.specs.Prelude.{◌≡◌, ℕ, ◌+◌, ◌<◌, Bool, ◌==◌, List, [], ◌∷◌, Option, Some, if◌then◌else◌, is_some, length, map, option_and_then, option_map, slice_get, slice_index_or}
 use Rattle.std.specs.List.{list_any}
 use Rattle.std.specs.Option.{option_flatten}
 use Rattle.fdp_base.specs.declared.entry.Spot.{Spot}
@@ -39,3 +39,15 @@ pub record AreSited (rows : List (List (Option Spot))) (tickets : List ℕ) : Ty
 abbrev pub changed_by : SiteChange → Option Spot → Option Spot
 changed_by (changes.Erased unit) page = option_and_then (outside unit) page
 changed_by (changes.Moved pass) page = option_map (moved_by (map copy_of pass.now)) page
+
+-- the row of a unit is the last, with a place for each of so many pages; its first pages, and those of the units before, stand
+-- where they are
+pub record IsLaid (rows : List (List (Option Spot))) (unit pages done : ℕ) : Type 0 where
+  pub units_are : length rows ≡ unit + 1
+  pub places : length (slice_index_or rows unit []) ≡ pages
+  pub stand : (spot : Spot) → spot.unit < unit + 1 → spot.page < pages → (spot.unit ≡ unit → spot.page < done) → site_in rows spot.unit spot.page ≡ Some spot
+
+-- so many units have a row each, and each of their pages stands where it is
+pub record AreInPlace (rows : List (List (Option Spot))) (units pages : ℕ) : Type 0 where
+  pub units_are : length rows ≡ units
+  pub stand : (spot : Spot) → spot.unit < units → spot.page < pages → site_in rows spot.unit spot.page ≡ Some spot

@@ -11,16 +11,16 @@ use Rattle.fdp_tables.specs.State.{block_of, namespace_of, row}
 
 -- the block at an address of a namespace that may be absent
 abbrev pub block_in : Option Space → ℕ → Option Block
-block_in space lba = option_map block_of (option_and_then (λ x. row x.blocks.items lba) space)
+block_in space lba = option_map block_of (option_and_then (λ x. row x.blocks lba) space)
 
 -- the size of a namespace in blocks, 0 where it is absent
 abbrev pub size_in : Option Space → ℕ
-size_in space = option_map_or (λ x. length x.blocks.items) space 0
+size_in space = option_map_or (λ x. length x.blocks) space 0
 
 -- a created namespace: its size, its handles, whether the host gave them, and its position; its blocks are absent
 pub record IsMade (space : Space) (size : ℕ) (given : Bool) (list : List ℕ) (birth : ℕ) : Type 0 where
   pub namespace : namespace_of space ≡ (let made : Namespace = record { size = size; handles = chosen_handles list; given = given && nat_lt 0 (length list); birth = birth } in made)
-  pub empty : (lba : ℕ) → row space.blocks.items lba ≡ None
+  pub empty : (lba : ℕ) → row space.blocks lba ≡ None
 
 -- a block of a going write, with blocks of so many bytes
 abbrev pub written_block : ℕ → Payload → Going → ℕ → Block

@@ -2,7 +2,8 @@ ghost use Rattle.fdp_rules.specs.Effect.{chosen_handles, created};
 ghost use Rattle.fdp_tables.specs.Spaces.{IsMade};
 ghost use Rattle.std.specs.Prelude.{◌≡◌, ◌<◌, ◌&&◌, List, None, replicate, IfOk};
 
-use crate::state::{KeptBlock, Space};
+use crate::blocks::Blocks;
+use crate::state::Space;
 use fdp_base::HandleList;
 use std::alloc::{AllocError, Global};
 
@@ -21,7 +22,7 @@ pub fn make_space(
         handles: chosen_handles(alloc, list)?,
         given: given && !list.as_slice().is_empty(),
         birth,
-        blocks: absent_blocks(alloc, size)?,
+        blocks: Blocks::absent(alloc, size)?,
     })
 }
 
@@ -36,16 +37,4 @@ fn chosen_handles(alloc: Global, list: &HandleList) -> Result<HandleList, AllocE
     } else {
         list.clone()
     }
-}
-
-/// So many blocks that are absent.
-#[tactic(auto, using(std::proofs::lemmas::List::replicate_more))]
-fn absent_blocks(alloc: Global, size: u64) -> Result<Vec<Option<KeptBlock>>, AllocError>
-    ensures { IfOk result (λ blocks. blocks.items ≡ replicate size None) }
-{
-    let mut blocks = Vec::new(alloc);
-    for _ in 0..size {
-        blocks.push(None)?;
-    }
-    Ok(blocks)
 }

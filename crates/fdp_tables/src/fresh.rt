@@ -30,6 +30,7 @@ impl Kept {
         Ok(Kept {
             config: config.copied()?,
             entries: Vec::new(alloc),
+            starts: Vec::new(alloc),
             enabled: config.enabled,
             index: config.index,
             generation: 0,
@@ -41,6 +42,7 @@ impl Kept {
             worn: all_unset(alloc, groups)?,
             media: Vec::new(alloc),
             sites: first_sites(alloc)?,
+            found: PageSites::new(alloc),
             copies: no_copies(alloc, groups)?,
             host_blocks: 0,
             media_blocks: 0,
@@ -105,10 +107,7 @@ fn all_unset(alloc: Global, count: usize) -> Result<Vec<bool>, AllocError>
 fn first_sites(alloc: Global) -> Result<PageSites, AllocError>
     ensures { IfOk result (λ sites. sites.rows ≡ [] ∷ []) }
 {
-    let mut sites = PageSites::new(alloc);
-    sites.reserve()?;
-    sites.push(Vec::new(alloc));
-    Ok(sites)
+    PageSites::without_pages(alloc, 1)
 }
 
 #[tactic(auto, using(std::proofs::lemmas::List::replicate_more))]

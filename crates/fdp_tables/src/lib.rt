@@ -1,17 +1,21 @@
 //! The tables of the plain drive: what the entries of a run leave, and what is looked up there.
 #![tactic(auto)]
 
+mod blocks;
 mod create;
 mod fresh;
 mod kinds;
+mod laid;
 mod look;
 mod page_sites;
 mod room;
 mod runs;
 mod sites;
 mod standing;
+mod starts;
 mod state;
 
+pub use blocks::Blocks;
 pub use create::make_space;
 pub use fresh::no_reports;
 pub use kinds::{is_read, is_write};
@@ -19,4 +23,4 @@ pub use page_sites::PageSites;
 pub use room::is_among;
 pub use runs::last_run;
 pub use standing::Standing;
-pub use state::{Kept, KeptBlock, KeptGoing, KeptReference, KeptReports, Space};
+pub use state::{Kept, KeptBlock, KeptGoing, KeptPage, KeptReference, KeptReports, Space};

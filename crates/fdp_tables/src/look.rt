@@ -52,7 +52,7 @@ impl Kept {
         ensures { option_copied result ≡ block_at self.now nsid lba }
     {
         match self.space(nsid) {
-            Some(space) => block_in(space, lba),
+            Some(space) => space.blocks.get(lba),
             None => None,
         }
     }
@@ -146,15 +146,5 @@ impl Kept {
         ensures { result ≡ is_partly_written self.now.config (reference_of reference.now) }
     {
         0 < reference.left && reference.left < self.config.unit_pages
-    }
-}
-
-fn block_in(space: &Space, lba: u64) -> Option<&KeptBlock>
-    ensures { option_copied result ≡ row space.now.blocks.items lba }
-{
-    match space.blocks.as_slice().get(lba as usize) {
-        Some(Some(block)) => Some(block),
-        Some(None) => None,
-        None => None,
     }
 }

@@ -42,33 +42,22 @@ impl Kept {
             .budget(self.handles_in_force(), self.lost_in(rg))
     }
 
-    /// Whether the block at an address lies in a group.
-    pub fn lies_in(&self, rg: u16, nsid: u32, lba: u64) -> bool
-        ensures { result ≡ lies_in rg ((plain_of self.now).blocks nsid lba) }
-    {
-        match self.block(nsid, lba) {
-            Some(block) => block.rg == rg,
-            None => false,
-        }
-    }
-
-    /// Whether the block at an address lies in a group, and is none of `count` blocks of namespace `except` from `slba` on.
-    fn is_other(&self, nsid: u32, lba: u64, rg: u16, except: u32, slba: u64, count: u64) -> bool
-        ensures { result ≡ (lies_in rg ((plain_of self.now).blocks nsid lba) && not (nsid == except && is_among slba count lba)) }
-    {
-        self.lies_in(rg, nsid, lba) && !(nsid == except && is_among(slba, count, lba))
-    }
-
     /// How many blocks of a namespace lie in a group, but for `count` blocks of namespace `except` from `slba` on. It
-    /// looks at each block.
+    /// looks at these alone.
     fn stored_in(&self, nsid: u32, rg: u16, except: u32, slba: u64, count: u64) -> u64
         ensures { result ≡ count_below (size_of (plain_of self.now) nsid) (λ lba. lies_in rg ((plain_of self.now).blocks nsid lba) && not (nsid == except && is_among slba count lba)) }
     {
-        let mut stored = 0;
-        for lba in 0..self.size_of(nsid) {
-            stored += u64::from(self.is_other(nsid, lba, rg, except, slba, count));
+        match self.space(nsid) {
+            Some(space) => {
+                let all = space.blocks.count_in(rg);
+                if nsid == except {
+                    all - space.blocks.count_among(rg, slba, count)
+                } else {
+                    all
+                }
+            }
+            None => 0,
         }
-        stored
     }
 
     /// How many blocks lie in a group, but for `count` blocks of namespace `except` from `slba` on.

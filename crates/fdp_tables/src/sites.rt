@@ -2,10 +2,10 @@ ghost use Rattle.std.specs.Prelude.{◌≡◌, map};
 ghost use Rattle.fdp_rules.specs.PlainState.{PageName.written};
 ghost use Rattle.fdp_rules.specs.Sites.{is_there, site_of};
 ghost use Rattle.fdp_tables.specs.Copies.{copy_of};
-ghost use Rattle.fdp_tables.specs.State.{copies_at, going_of, plain_of, point_kept, site_at};
+ghost use Rattle.fdp_tables.specs.State.{copies_at, going_of, page_of, plain_of, point_kept, site_at, table_site};
 
 use crate::standing::Standing;
-use crate::state::KeptGoing;
+use crate::state::{KeptGoing, KeptPage};
 use fdp_base::Spot;
 
 impl Standing<'_> {
@@ -26,12 +26,22 @@ impl Standing<'_> {
         }
     }
 
+    /// Where the page of a block stands.
+    pub fn site_of_page(&self, page: KeptPage) -> Option<Spot>
+        ensures { result ≡ table_site self.now (page_of page) }
+    {
+        match page {
+            KeptPage::Written { ticket, index } => self.kept.sites.get(ticket, index),
+            KeptPage::Found(spot) => self.kept.found.get(u64::from(spot.unit), spot.page),
+        }
+    }
+
     /// Where a block stands.
     pub fn site_of(&self, nsid: u32, lba: u64) -> Option<Spot>
         ensures { result ≡ site_of (point_kept self.now) nsid lba }
     {
-        match self.block(nsid, lba) {
-            Some(block) => self.site(block.ticket, block.index),
+        match self.kept.block(nsid, lba) {
+            Some(block) => self.site_of_page(block.page),
             None => None,
         }
     }

@@ -29,7 +29,7 @@ impl<'a> Model for Standing<'a> {
 }
 
 impl<'a> Standing<'a> {
-    ghost use Rattle.fdp_tables.specs.Sound.{IsSound};
+    ghost use Rattle.fdp_tables.specs.Sound.{IsSound, KnowsFound};
 
     pub fn new(kept: &'a Kept) -> Standing<'a>
         requires { IsSound kept.now }
@@ -77,7 +77,8 @@ impl<'a> Standing<'a> {
 
     /// The namespaces by identifier.
     pub fn spaces(&self) -> &[Option<Space>]
-        ensures { result.now ≡ self.now.spaces.items }
+        ensures value { result.now ≡ self.now.spaces.items }
+        ensures known { KnowsFound self.now }
     {
         self.kept.spaces.as_slice()
     }

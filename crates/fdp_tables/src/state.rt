@@ -1,14 +1,23 @@
+use crate::blocks::Blocks;
 use crate::page_sites::PageSites;
 use fdp_base::{Bytes, Command, DriveConfig, Entry, Event, HandleList, Spot};
 
-/// A block of a namespace. Its page is named by the ticket of its write and its index there.
+/// The page that holds a block, by the name under which the run follows it.
+#[derive(Clone, Copy, Debug, PartialEq, Eq)]
+pub enum KeptPage {
+    /// It was written in this run: the ticket of its write, and its index there.
+    Written { ticket: u64, index: u32 },
+    /// It was found as the run began, at this spot.
+    Found(Spot),
+}
+
+/// A block of a namespace.
 #[derive(Debug, Drop)]
 pub struct KeptBlock {
     pub bytes: Bytes,
     pub rg: u16,
     pub ruh: u8,
-    pub ticket: u64,
-    pub index: u32,
+    pub page: KeptPage,
 }
 
 /// A namespace with a place for each of its blocks.
@@ -19,7 +28,7 @@ pub struct Space {
     pub given: bool,
     /// The position of its creation.
     pub birth: u64,
-    pub blocks: Vec<Option<KeptBlock>>,
+    pub blocks: Blocks,
 }
 
 /// What a handle references in a group.
@@ -59,11 +68,14 @@ pub struct KeptGoing {
     pub placed: u32,
 }
 
-/// What the entries of a run leave, as tables.
+/// What the entries of a run leave, as tables, and those of the runs before it on the same image.
 #[derive(Debug, Drop)]
 pub struct Kept {
     pub config: DriveConfig,
+    /// Of all runs, one behind another: the position of each is its place, from 1 on.
     pub entries: Vec<Entry>,
+    /// For each run but the first, how many entries came before it.
+    pub starts: Vec<usize>,
     pub enabled: bool,
     pub index: u8,
     /// How often Set Features changed these two.
@@ -80,15 +92,17 @@ pub struct Kept {
     pub lost: Vec<bool>,
     /// Whether relocation found no free unit in a group.
     pub worn: Vec<bool>,
-    /// The moments of the media errors, the oldest first.
+    /// The moments of the media errors of this run, the oldest first.
     pub media: Vec<u64>,
     /// Where the pages of writes stand.
     pub sites: PageSites,
+    /// Where the pages stand that were found as this run began: a row for each unit, a place for each of its pages.
+    pub found: PageSites,
     /// By group: what relocation copied since its last pass.
     pub copies: Vec<Vec<(Spot, Spot)>>,
     pub host_blocks: u128,
     pub media_blocks: u128,
     pub erases: u128,
-    /// All events that were kept, the oldest first.
+    /// All events that were kept in all runs, the oldest first.
     pub events: Vec<Event>,
 }

@@ -1,18 +1,14 @@
--- Entries whose commands are spelled.
+-- Histories of traces whose commands lines spell.
+use Rattle.std.specs.Prelude.{ℕ, All, List}
+use Rattle.fdp_base.specs.declared.command.Command.{Command}
+use Rattle.fdp_base.specs.declared.config.DriveConfig.{DriveConfig}
 use Rattle.fdp_base.specs.declared.entry.Entry.{Entry}
-use Rattle.fdp_base.specs.declared.entry.Entry.TheVariants as entries
 use Rattle.fdp_prints.specs.Told.{IsSpelled}
+use Rattle.fdp_rules.specs.Queue.{KeepsQueueOrder, StartsOwn}
+use Rattle.fdp_rules.specs.Step.{IsQueue}
 
--- the command of an entry, where it has one, is one that a line of a trace says
-abbrev pub HasSpelled : Entry → Type 0
-HasSpelled (entries.Host h) = IsSpelled h.command
-HasSpelled (entries.Started s) = IsSpelled s.command
-HasSpelled (entries.Placed p) = Unit {0}
-HasSpelled (entries.Copied x) = Unit {0}
-HasSpelled (entries.Moved m) = Unit {0}
-HasSpelled (entries.Erased e) = Unit {0}
-HasSpelled (entries.Retired r) = Unit {0}
-HasSpelled (entries.Aside a) = Unit {0}
-HasSpelled (entries.Shut s) = Unit {0}
-HasSpelled (entries.Worn w) = Unit {0}
-HasSpelled entries.Reopened = Unit {0}
+-- each queue completes and starts commands of its trace alone, and each command of a trace is one that a line says
+pub record ServesSpelled (c : DriveConfig) (trace : ℕ → List Command) (es : List Entry) : Type 0 where
+  pub orders : (queue : ℕ) → IsQueue c queue → KeepsQueueOrder queue (trace queue) es
+  pub starts : (queue : ℕ) → IsQueue c queue → StartsOwn queue (trace queue) es
+  pub spelled : (queue : ℕ) → All IsSpelled (trace queue)

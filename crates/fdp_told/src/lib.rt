@@ -3,4 +3,4 @@
 
 mod laws;
 
-pub use laws::legal_histories_are_told;
+pub use laws::{legal_histories_are_told, traces_are_spelled, traces_give_the_commands};

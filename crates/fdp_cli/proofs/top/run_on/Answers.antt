@@ -1,7 +1,8 @@
-use Rattle.std.proofs.Common.{◌≡◌, ◌≤◌, ◌∙◌, arith, length, sym}
+use Rattle.std.proofs.Common.{◌≡◌, ◌≤◌, ◌∙◌, All, arith, length, subst, sym}
 use Rattle.std.specs.Prelude.{map}
 use Rattle.std.proofs.lemmas.List.{length-map}
 use Rattle.fdp_finding.specs.Wanted.{commands_of}
+use Rattle.fdp_ranges.specs.Ranged.{IsRanged}
 use Rattle.fdp_cli.proofs.Shown.{ended, not_opened, served-nothing, trace_served}
 use Rattle.fdp_cli.proofs.top.run_on.Goals as goal
 
@@ -19,7 +20,7 @@ returns-in-Ok-clause-ends g c =
     let count : c.len-count.result ≡ length traces = c.len-count.ensures ∙ c.args.traces.ok.0 ∙ sym (length-map c.args.traces.items (λ trace. trace.items)) in
     let few : length traces ≤ c.args.config.now.queues = omega (arith, c.requires.queued, length-map c.args.traces.items (λ trace. trace.items)) in
     ended g.F.Flash.state c.args.form c.args.config.now traces (map (λ got. got.items) session.result.receipts.items) c.len-count.result c.args.flash c.finish-flash.result.0 c.in-Ok.group session.result.group session.result.end (g.K.Sink.state c.args.sink.now) (g.K.Sink.state c.show-status.new.sink) c.show-status.result count few
-    (record { loaded = c.in-Ok.ensures; legal = c.finish-flash.ensures.legal; cells = c.finish-flash.ensures.cells; apart = c.finish-flash.ensures.apart; reads = c.finish-flash.ensures.reads; used = c.finish-flash.ensures.used; counted = c.finish-flash.ensures.counted; worn = c.finish-flash.ensures.worn; roomy = c.finish-flash.ensures.roomy; firm = c.finish-flash.ensures.firm; stands = c.finish-flash.ensures.stands; sure = c.finish-flash.ensures.sure; doubt = c.finish-flash.ensures.doubt })
+    (record { loaded = c.in-Ok.ensures; legal = c.finish-flash.ensures.legal; ranged = subst (All IsRanged) c.entries.ensures.entries c.are_ranged.ensures; cells = c.finish-flash.ensures.cells; apart = c.finish-flash.ensures.apart; reads = c.finish-flash.ensures.reads; used = c.finish-flash.ensures.used; counted = c.finish-flash.ensures.counted; worn = c.finish-flash.ensures.worn; roomy = c.finish-flash.ensures.roomy; firm = c.finish-flash.ensures.firm; stands = c.finish-flash.ensures.stands; sure = c.finish-flash.ensures.sure; doubt = c.finish-flash.ensures.doubt })
     c.finish-flash.ensures.flash session.ensures c.show-status.ensures.shows
 
 pub returns-in-Err-clause-ends : goal.returns-in-Err-clause-ends

@@ -10,7 +10,7 @@ returns-in-Err-Illegal c =
     let e = c.index-entries-place.result in
     replayed-refused c.args.config.now c.args.entries.now run c.loop-place.place e c.in-Err-Illegal.field-0-0 c.in-Err-Illegal.field-0-1
     (slice_get-get_or c.args.entries.now c.loop-place.place e c.loop-place-test.true ∙ sym (ap Some c.index-entries-place.is))
-    (subst (IsCause run.config run.entries e) c.in-Err-Illegal.field-0-is c.in-Err-Illegal.ensures.cause) c.loop-place.invariant
+    (subst (IsCause run e) c.in-Err-Illegal.field-0-is c.in-Err-Illegal.ensures.cause) c.loop-place.invariant
 
 pub returns : goal.returns
 returns c = replayed-all c.args.config.now c.args.entries.now c.loop-place.plain c.loop-place.place (omega (arith, c.loop-place-test.false)) c.loop-place.invariant

@@ -13,3 +13,6 @@ pub returns : goal.returns
 returns c =
     let k = c.args.kept.now in
     appending_from_end (read_block k.config (plain_of k) c.args.nsid) c.args.slba c.args.count c.loop-lba.lba [] c.loop-lba.bytes.items (omega arith) c.loop-lba.invariant
+
+pub overflow_add-lba-end : goal.overflow_add-lba-end
+overflow_add-lba-end c = omega (arith, c.size_of-size.ensures, c.requires, c.from.ensures)

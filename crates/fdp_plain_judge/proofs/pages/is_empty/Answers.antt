@@ -13,7 +13,7 @@ loop-space-init c = each_at_first (Leaves c.args.kept.now c.args.unit) c.spaces-
 pub returns-then-not-leaves : goal.returns-then-not-leaves
 returns-then-not-leaves c =
     let P : List (Option Space) → Type 0 = λ xs. Decides false (EachIn (Leaves c.args.kept.now c.args.unit) xs) in
-    empty_decides c.args.kept.now c.args.unit false (subst P c.spaces-space-items.ensures
+    empty_decides c.args.kept.now c.args.unit false c.spaces-space-items.ensures.known (subst P c.spaces-space-items.ensures.value
     (not_each_item (Leaves c.args.kept.now c.args.unit) c.spaces-space-items.result.now c.loop-space.space-index c.space-item.result (omega arith) c.space-item.is (not_from_Decides _ c.leaves.ensures c.if-not-leaves.true)))
 
 pub loop-space-preserved : goal.loop-space-preserved
@@ -23,5 +23,5 @@ loop-space-preserved c =
 pub returns : goal.returns
 returns c =
     let P : List (Option Space) → Type 0 = λ xs. Decides true (EachIn (Leaves c.args.kept.now c.args.unit) xs) in
-    empty_decides c.args.kept.now c.args.unit true (subst P c.spaces-space-items.ensures
+    empty_decides c.args.kept.now c.args.unit true c.spaces-space-items.ensures.known (subst P c.spaces-space-items.ensures.value
     (each (Leaves c.args.kept.now c.args.unit) c.spaces-space-items.result.now c.loop-space.space-index (omega arith) c.loop-space.invariant))

@@ -11,3 +11,6 @@ returns-clause-sites c = λ t i. ap (λ rows. site_in rows t i) c.erase.ensures 
 
 pub returns-clause-places : goal.returns-clause-places
 returns-clause-places c = λ t. ap (λ rows. count_at rows t) c.erase.ensures ∙ count-changed (option_and_then (outside c.args.unit)) c.args.kept.now.sites.rows t
+
+pub returns-clause-found : goal.returns-clause-found
+returns-clause-found c = λ spot. ap (λ rows. site_in rows spot.unit spot.page) c.erase-2.ensures ∙ site-changed (option_and_then (outside c.args.unit)) c.args.kept.now.found.rows spot.unit spot.page refl

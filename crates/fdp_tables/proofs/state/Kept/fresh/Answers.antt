@@ -10,7 +10,7 @@ use Rattle.fdp_tables.proofs.Beginning.{blank_sound}
 use Rattle.fdp_tables.proofs.state.Kept.fresh.Goals as goal
 
 begun : (c : DriveConfig) → IsValidConfig c → (r : Result Kept AllocError) → IfOk r (IsBlank c) → IfOk r (IsFresh c)
-begun c valid (Ok k) h = record { config = h.config; point = blank_point c k h; sound = blank_sound c valid k h }
+begun c valid (Ok k) h = record { config = h.config; point = blank_point c k h; sound = blank_sound c valid k h; starts = h.starts }
 begun c valid (Err e) h = h
 
 pub returns : goal.returns

@@ -1,5 +1,0 @@
-use Rattle.std.proofs.Common.{◌≡◌, None, replicate}
-use Rattle.fdp_tables.proofs.create.absent_blocks.Given as goal
-
-abbrev pub invariant-loop : goal.invariant-loop
-invariant-loop l = l.blocks.items ≡ replicate l.counter None
