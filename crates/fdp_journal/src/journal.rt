@@ -1,6 +1,7 @@
 ghost use Rattle.std.specs.Prelude.{◌≡◌, ◌≢◌, ◌↔◌, ℕ, ◌≤◌, ◌<◌, ◌+◌, false, IsTrue, IfOk, suc};
 ghost use Rattle.fdp_base.specs.Geometry.{IsValidGeometry, area_pages};
 ghost use Rattle.fdp_flash.specs.Runs.{Runs};
+ghost use Rattle.fdp_records.specs.Borrowed.{change_of};
 ghost use Rattle.fdp_records.specs.Limits.{is_within_limits};
 ghost use Rattle.fdp_records.specs.Spares.{system_spare};
 ghost use Rattle.fdp_records.specs.declared.spare.SystemKind.TheVariants as kinds;
@@ -10,7 +11,7 @@ use crate::appended::Appended;
 use fdp_base::{Geometry, Totals};
 use fdp_flash::{Flash, Wrote};
 use fdp_image::page_of_area;
-use fdp_records::{Change, Stamp, SystemKind, SystemSpare};
+use fdp_records::{ChangeRef, Stamp, SystemKind, SystemSpare};
 use std::alloc::{AllocError, Global};
 use std::marker::Model;
 
@@ -151,16 +152,21 @@ impl Journal {
     ///
     /// Whatever a stop or a failure in it leaves, the area reads as before or with this change, and all pages but the one behind
     /// the journal are as they were.
-    pub fn append<F: Flash>(&mut self, flash: &mut F, change: &Change, totals: &Totals) -> Appended
+    pub fn append<F: Flash>(
+        &mut self,
+        flash: &mut F,
+        change: ChangeRef<'_>,
+        totals: &Totals,
+    ) -> Appended
         requires sure { self.old.in_doubt ≡ false }
-        requires limits { IsTrue (is_within_limits change.now) }
+        requires limits { IsTrue (is_within_limits (change_of change)) }
         requires geometry { (F.state flash.old).geometry ≡ self.old.geometry }
         requires cells { IsTrue (F.state flash.old).told → IsJournalIn (F.state flash.old).cells self.old }
         ensures full { (result ≡ Appended.AreaFull) ↔ IsFull self.old }
         ensures unchanged { result ≡ Appended.AreaFull → (self.new ≡ self.old) × (flash.new ≡ flash.old) }
-        ensures images { Runs (F.state flash.old) (F.state flash.new) (λ moment image. MayBeAppended (F.state flash.old).cells self.old (change.now, totals.now) image) }
-        ensures left { IsTrue (F.state flash.old).told → result ≢ Appended.AreaFull → MayBeAppended (F.state flash.old).cells self.old (change.now, totals.now) (F.state flash.new).cells }
-        ensures done { result ≡ Appended.Done → Appends self.old self.new (F.state flash.old) (F.state flash.new) (change.now, totals.now) }
+        ensures images { Runs (F.state flash.old) (F.state flash.new) (λ moment image. MayBeAppended (F.state flash.old).cells self.old (change_of change.entry, totals.now) image) }
+        ensures left { IsTrue (F.state flash.old).told → result ≢ Appended.AreaFull → MayBeAppended (F.state flash.old).cells self.old (change_of change.entry, totals.now) (F.state flash.new).cells }
+        ensures done { result ≡ Appended.Done → Appends self.old self.new (F.state flash.old) (F.state flash.new) (change_of change.entry, totals.now) }
         ensures doubt { (moment : ℕ) → result ≡ Appended.Doubt moment → FallsInDoubt self.old self.new (F.state flash.old) (F.state flash.new) moment }
     {
         if self.is_full() {
@@ -181,13 +187,13 @@ impl Journal {
     }
 
     /// Programs the record of a change behind the journal.
-    fn write<F: Flash>(&mut self, flash: &mut F, change: &Change, totals: &Totals) -> Wrote
-        requires limits { IsTrue (is_within_limits change.now) }
+    fn write<F: Flash>(&mut self, flash: &mut F, change: ChangeRef<'_>, totals: &Totals) -> Wrote
+        requires limits { IsTrue (is_within_limits (change_of change)) }
         requires geometry { (F.state flash.old).geometry ≡ self.old.geometry }
         requires cells { IsTrue (F.state flash.old).told → IsJournalIn (F.state flash.old).cells self.old }
         requires room { next_in self.old < area_pages self.old.geometry }
         ensures same { self.new ≡ self.old }
-        ensures written { Writes self.old (F.state flash.old) (F.state flash.new) (change.now, totals.now) result }
+        ensures written { Writes self.old (F.state flash.old) (F.state flash.new) (change_of change.entry, totals.now) result }
     {
         let at = page_of_area(&self.geometry, self.area, self.next());
         let spare = self.next_spare();

@@ -1,5 +1,5 @@
 -- The saving of a write.
-use Rattle.std.proofs.Common.{◌≡◌, ℕ, ◌+◌, ◌≤◌, Bool, true, false, not, List, [], ◌∷◌, length, Some, set, refl, ap, sym, ◌∙◌, subst, arith, get_or-set_other, length-set}
+use Rattle.std.proofs.Common.{◌≡◌, ℕ, ◌+◌, ◌≤◌, Bool, true, false, not, [], ◌∷◌, Some, refl, ap, sym, ◌∙◌, subst, arith}
 use Rattle.std.specs.Prelude.{IsTrue, ◌&&◌, if◌then◌else◌, nat_le}
 use Rattle.std.proofs.lemmas.Bool.{le-leb}
 use Rattle.fdp_base.specs.declared.command.Command.TheVariants as commands
@@ -24,7 +24,6 @@ use Rattle.fdp_durability.specs.fdp_saving.declared.saved.Saved.TheVariants as a
 use Rattle.fdp_snapshot.specs.declared.state.Summary.{Summary}
 use Rattle.fdp_snapshot.specs.Fixed.{IsSummary}
 use Rattle.fdp_keeper.specs.Keeper.{IsOutlineAfter, IsWithEvent}
-use Rattle.fdp_keeper.specs.Lists.{AreOfEachLength, IsTaken}
 
 -- ---- the event
 
@@ -68,20 +67,10 @@ totals-written t n queue number w reply moment applied is =
     ∙ ap (λ (k : ℕ). record { position = t.position + 1; host_blocks = t.host_blocks + (if reply.applied then w.count else 0); media_blocks = k; erases = t.erases }) (plus-none t.media_blocks)
     ∙ ap (λ (k : ℕ). record { position = t.position + 1; host_blocks = t.host_blocks + (if reply.applied then w.count else 0); media_blocks = t.media_blocks + 0; erases = k }) (plus-none t.erases)
 
--- ---- lists
+-- ---- tests
 
 pub within-most : (most n : ℕ) → 1 ≤ n → n ≤ most → is_within 1 most n ≡ true
 within-most most n some few = ap (λ (b : Bool). b && nat_le n most) (le-leb 1 n some) ∙ le-leb n most few
-
-pub within-test : (n : ℕ) → 1 ≤ n → n ≤ 64 → is_within 1 64 n ≡ true
-within-test n some few = within-most 64 n some few
-
-pub taken-list : {X : Type 0} (most n : ℕ) (xs : List (List X)) → AreOfEachLength most xs → n ≤ most → IsTaken most (set xs n []) n
-taken-list {X} most n xs h low = record {
-  count = length-set xs n [] ∙ h.count;
-  low = low;
-  each = λ k within apart. ap length (get_or-set_other xs n k [] [] apart) ∙ h.each k within;
-}
 
 pub none-of : (b : Bool) → not b ≡ true → b ≡ false
 none-of true e = absurd cc

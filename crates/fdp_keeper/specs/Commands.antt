@@ -3,8 +3,10 @@ use Rattle.std.specs.Prelude.{◌≡◌, ℕ, ◌+◌, ◌*◌, ◌<◌, ◌≤�
 use Rattle.std.specs.List.{list_any}
 use Rattle.fdp_base.specs.declared.command.Command.{Command}
 use Rattle.fdp_base.specs.declared.command.Command.TheVariants as commands
+use Rattle.fdp_base.specs.declared.command.Create.{Create}
 use Rattle.fdp_base.specs.declared.command.HandleUpdate.{HandleUpdate}
 use Rattle.fdp_base.specs.declared.command.SetEvents.{SetEvents}
+use Rattle.fdp_base.specs.declared.command.Zero.{Zero}
 use Rattle.fdp_base.specs.declared.config.DriveConfig.{DriveConfig}
 use Rattle.fdp_base.specs.declared.event.EventKind.{EventKind}
 use Rattle.fdp_base.specs.CommandKinds.{IsWellFormed, is_saved, is_write}
@@ -16,8 +18,7 @@ use Rattle.fdp_image.specs.Checkpoint.{in_place}
 use Rattle.fdp_image.specs.CheckpointRows.{has_kind}
 use Rattle.fdp_image.specs.Reading.{Reading}
 use Rattle.fdp_base.specs.declared.entry.Totals.{Totals}
-use Rattle.fdp_keeper.specs.declared.change_lists.ChangeLists.{ChangeLists}
-use Rattle.fdp_keeper.specs.Lists.{AreOfEachLength, IsTaken}
+use Rattle.fdp_keeper.specs.declared.command_lists.CommandLists.{CommandLists}
 use Rattle.fdp_outline.specs.Outline.{IsOutlineOf}
 use Rattle.fdp_durability.specs.fdp_readings.Changes.{TellsClosed}
 use Rattle.fdp_records.specs.declared.change.Change.{Change}
@@ -72,41 +73,10 @@ IsChangeOf c s (commands.Other o) change = Unit {0}
 pub record AreMarked (c : DriveConfig) (s : PlainState) (marks : List Bool) (references : References) : Type 0 where
   pub each : (rg ruh : ℕ) → ruh < 16 → references rg ruh ≡ (if slice_index_or marks (16 * rg + ruh) false then no_reference c else s.references rg ruh)
 
--- no list is lent
-pub record AreWhole (lists : ChangeLists) : Type 0 where
-  pub ranges : AreOfEachLength 16 lists.ranges.items
-  pub pids : AreOfEachLength 64 lists.pids.items
-  pub handles : AreOfEachLength 256 lists.handles.items
-
--- a list of ranges of this length is lent
-pub record LendsRanges (lists : ChangeLists) (count : ℕ) : Type 0 where
-  pub ranges : IsTaken 16 lists.ranges.items count
-  pub pids : AreOfEachLength 64 lists.pids.items
-  pub handles : AreOfEachLength 256 lists.handles.items
-
--- one of identifiers
-pub record LendsPids (lists : ChangeLists) (count : ℕ) : Type 0 where
-  pub ranges : AreOfEachLength 16 lists.ranges.items
-  pub pids : IsTaken 64 lists.pids.items count
-  pub handles : AreOfEachLength 256 lists.handles.items
-
--- one of handles
-pub record LendsHandles (lists : ChangeLists) (count : ℕ) : Type 0 where
-  pub ranges : AreOfEachLength 16 lists.ranges.items
-  pub pids : AreOfEachLength 64 lists.pids.items
-  pub handles : IsTaken 256 lists.handles.items count
-
--- the list that a change of a command names is lent to it
-abbrev pub AreLent : ChangeLists → Change → Type 0
-AreLent lists (changes.Write nsid slba pid pid_invalid pages) = AreWhole lists
-AreLent lists (changes.Clear nsid ranges) = LendsRanges lists (length ranges)
-AreLent lists (changes.Update nsid closed pids) = LendsPids lists (length pids)
-AreLent lists (changes.Create nsid size given handles) = LendsHandles lists (length handles)
-AreLent lists (changes.Delete nsid) = AreWhole lists
-AreLent lists (changes.SetFdp enabled index generation) = AreWhole lists
-AreLent lists (changes.SetEvents ruh on mask) = AreWhole lists
-AreLent lists (changes.Moved victim first second handles) = AreWhole lists
-AreLent lists (changes.Shut rg ruh) = AreWhole lists
+-- what the change of a command names and the command does not list: the range of a zeroing, the handles of a create
+pub record AreListsOf (command : Command) (lists : CommandLists) : Type 0 where
+  pub zeroed : (zero : Zero) → command ≡ commands.Zero zero → lists.zeroed ≡ record { slba = zero.slba; length = zero.count } ∷ []
+  pub handles : (create : Create) → command ≡ commands.Create create → lists.handles.items ≡ chosen_handles create.list
 
 -- a change can be kept in an outline: it is one of a command, and names what there may be
 abbrev pub CanBeKept : Summary → Change → Type 0

@@ -1,5 +1,5 @@
 -- What saves a drive, as contracts see it, and what a saving makes of it.
-use Rattle.std.specs.Prelude.{◌≡◌, ℕ, ◌+◌, ◌<◌, ◌^◌, IsTrue, List, [], Some, true}
+use Rattle.std.specs.Prelude.{◌≡◌, ℕ, ◌+◌, ◌<◌, ◌^◌, IsTrue, List, Some, map, true}
 use Rattle.fdp_base.specs.declared.command.Write.{Write}
 use Rattle.fdp_base.specs.declared.config.DriveConfig.{DriveConfig}
 use Rattle.fdp_base.specs.declared.entry.Entry.{Entry}
@@ -9,13 +9,13 @@ use Rattle.fdp_book.specs.Book.{BookSeen, point_in}
 use Rattle.fdp_durability.specs.Saved.{SavesDrive, SavesEntry, SettlesDrive, firm_renewed, firm_with}
 use Rattle.fdp_flash.specs.declared.answer.Wrote.{Wrote}
 use Rattle.fdp_flash.specs.FlashState.{FlashState}
+use Rattle.fdp_flash.specs.Layout.{page_number}
 use Rattle.fdp_durability.specs.fdp_journal.JournalState.{JournalState}
 use Rattle.fdp_outline.specs.Events.{with_events}
 use Rattle.fdp_outline.specs.Outline.{IsOutlineOf}
 use Rattle.fdp_durability.specs.fdp_readings.Changes.{AreItsPages, change_of_write}
 use Rattle.fdp_durability.specs.fdp_readings.Drawn.{drawn}
 use Rattle.fdp_records.specs.declared.change.Change.{Change}
-use Rattle.fdp_records.specs.declared.change.Change.TheVariants as changes
 use Rattle.fdp_rules.specs.Next.{next}
 use Rattle.fdp_rules.specs.Events.{write_events}
 use Rattle.fdp_rules.specs.PlainState.{Going, PlainState}
@@ -104,23 +104,17 @@ pub record KeepsWrite (b : BookSeen) (e : Entry) (old now : JournalState) (s : S
   pub outline : IsOutlineAfter b.config (point_in b) e s answer
   pub geometry : now.geometry ≡ old.geometry
 
+-- these are the numbers of the pages of a going write
+pub record AreNumbersOf (b : BookSeen) (g : Going) (numbers : List ℕ) : Type 0 where
+  pub spots : List Spot
+  pub pages : AreItsPages (point_in b) g spots
+  pub numbers_are : numbers ≡ map (page_number (geometry_of b.config)) spots
+
 -- the change is that of the write of a ticket, with its pages
 pub record IsWriteOf (b : BookSeen) (g : Going) (w : Write) (change : Change) : Type 0 where
   pub spots : List Spot
   pub pages : AreItsPages (point_in b) g spots
   pub change_is : change ≡ change_of_write b.config w g spots
-
--- the pages that a change of a write names
-abbrev pub numbers_in : Change → List ℕ
-numbers_in (changes.Write nsid slba pid pid_invalid pages) = pages
-numbers_in (changes.Clear nsid ranges) = []
-numbers_in (changes.Update nsid closed pids) = []
-numbers_in (changes.Create nsid size given handles) = []
-numbers_in (changes.Delete nsid) = []
-numbers_in (changes.SetFdp enabled index generation) = []
-numbers_in (changes.SetEvents ruh on mask) = []
-numbers_in (changes.Moved victim first second handles) = []
-numbers_in (changes.Shut rg ruh) = []
 
 -- an outline with the event of a write, if it has one, unless the answer is that it was not saved
 abbrev pub IsWithEvent : PlainState → Going → Write → Summary → Summary → Saved → Type 0

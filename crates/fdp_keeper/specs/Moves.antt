@@ -104,18 +104,6 @@ pub record IsMoveOf (copies : List Copied) (ruhs : List ℕ) (change : Change) :
   pub new : AreNewPages first second copies
   pub unit : (u : ℕ) → OldInOrder u 0 copies → victim.unit ≡ u
 
--- the handles that the change of a move names
-abbrev pub handles_in : Change → List ℕ
-handles_in (changes.Write nsid slba pid pid_invalid pages) = []
-handles_in (changes.Clear nsid ranges) = []
-handles_in (changes.Update nsid closed pids) = []
-handles_in (changes.Create nsid size given handles) = []
-handles_in (changes.Delete nsid) = []
-handles_in (changes.SetFdp enabled index generation) = []
-handles_in (changes.SetEvents ruh on mask) = []
-handles_in (changes.Moved victim first second handles) = handles
-handles_in (changes.Shut rg ruh) = []
-
 -- copies that a record can name: at least one and at most 256, of pages of units that there may be; the old pages lie in order, the new ones in
 -- order in one unit and then in another
 pub record CanBeNamed (copies : List Copied) : Type 0 where

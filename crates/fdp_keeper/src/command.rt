@@ -2,12 +2,12 @@
 
 ghost use Rattle.std.specs.Prelude.{IsTrue, ℕ};
 ghost use Rattle.fdp_base.specs.declared.entry.Reply.{Reply};
-ghost use Rattle.fdp_keeper.specs.Commands.{AreWhole, CanBeSaved};
+ghost use Rattle.fdp_keeper.specs.Commands.{CanBeSaved};
 ghost use Rattle.fdp_keeper.specs.Keeper.{CanKeep, KeepsWrite};
 ghost use Rattle.fdp_durability.specs.fdp_readings.Changes.{completed};
 
-use crate::change_lists::{ChangeLists, give_back};
-use crate::command_change::change_of;
+use crate::command_change::command_change;
+use crate::command_lists::lists_of;
 use crate::kept_change::keep_saved;
 use crate::saving::save;
 use fdp_base::{Command, Totals};
@@ -20,29 +20,26 @@ use fdp_outline::Outline;
 pub fn save_command<F: Flash>(
     saver: &mut Saver,
     outline: &mut Outline,
-    lists: &mut ChangeLists,
     flash: &mut F,
     book: &Book,
     command: &Command,
 ) -> Saved
     requires can { CanKeep book.now saver.old outline.old (F.state flash.old) }
     requires may { CanBeSaved book.now command.now }
-    requires lists { AreWhole lists.old }
-    ensures saves { (queue number : ℕ) (reply : Reply) (moment : ℕ) → IsTrue reply.applied → KeepsWrite book.now (completed queue number command.now reply moment) saver.old saver.new outline.new (F.state flash.old) (F.state flash.new) result }
-    ensures lists { AreWhole lists.new }
+    ensures { (queue number : ℕ) (reply : Reply) (moment : ℕ) → IsTrue reply.applied → KeepsWrite book.now (completed queue number command.now reply moment) saver.old saver.new outline.new (F.state flash.old) (F.state flash.new) result }
 {
     book.known(); // proof
     book.counted(); // proof
     book.numbered(); // proof
     let totals = book.totals();
     outline.set_totals(totals);
-    let change = change_of(lists, book, outline.summary().generation, command);
+    let lists = lists_of(book, command);
+    let change = command_change(&lists, book, outline.summary().generation, command);
     let after = Totals {
         position: totals.position + 1,
         ..totals
     };
-    let saved = save(saver, outline, flash, book, &change, &after);
-    keep_saved(outline, book, &change, after.position, saved);
-    give_back(lists, change);
+    let saved = save(saver, outline, flash, book, change, &after);
+    keep_saved(outline, book, change, after.position, saved);
     saved
 }

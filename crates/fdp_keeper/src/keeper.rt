@@ -24,55 +24,41 @@ ghost use Rattle.fdp_keeper.specs.Keeper.{CanSave, KeepsDrive, KeepsEntry, Keeps
 ghost use Rattle.fdp_outline.specs.Outline.{IsOutlineOf, IsWritable};
 ghost use Rattle.fdp_durability.specs.fdp_saving.Saver.{first_saver};
 
-use crate::change_lists::{ChangeLists, change_lists};
+use crate::change_room::ChangeRoom;
 use crate::command::save_command;
 use crate::firm::{firm_renewed, firm_saved};
-use crate::lists::lists_up_to;
 use crate::saved_move::save_move;
 use crate::saving::{checkpoint, settle};
 use crate::shut::save_shut;
 use crate::write::save_write;
-use fdp_base::{Command, Copied, DriveConfig, Sequence};
+use fdp_base::{Command, DriveConfig};
 use fdp_book::{Book, Ticket};
 use fdp_durability::{Saved, Saver};
 use fdp_flash::{Flash, Wrote};
-use fdp_outline::{MovedBlock, Outline, fresh_summary};
+use fdp_outline::{Outline, fresh_summary};
 use fdp_snapshot::Summary;
 use std::alloc::{AllocError, Global};
 use std::marker::Model;
-
-/// The most pages of one write.
-pub const MOST_NUMBERS: u16 = 64;
-
-/// The most blocks of one move.
-pub const MOST_BLOCKS: u16 = 256;
 
 /// What saves a drive: the saver of its system areas, and what a checkpoint says beside the pages of the blocks.
 #[derive(Drop)]
 pub struct Keeper {
     saver: Saver,
     outline: Outline,
-    /// Room for the numbers of the pages of a write.
-    numbers: Vec<Sequence<u32>>,
-    /// Room for what the change of another command names, and for the handles of the blocks of a move.
-    lists: ChangeLists,
-    /// Room for what a move copies.
-    copies: Vec<Copied>,
-    /// Room for the blocks of a move.
-    blocks: Vec<MovedBlock>,
+    room: ChangeRoom,
     /// How many entries of the history no stop loses.
     firm: u64,
 }
 
 impl Model for Keeper {
     ghost use Rattle.fdp_keeper.specs.Keeper.{KeeperSeen};
-    ghost use Rattle.fdp_keeper.specs.Ready.{AreReady};
+    ghost use Rattle.fdp_keeper.specs.Ready.{IsReady};
 
     ghost Value = { KeeperSeen };
 
     ghost view = { λ k. record { saver = k.saver; summary = k.outline; firm = k.firm } };
 
-    ghost invariant = { λ k. AreReady k.numbers.items k.lists k.copies k.blocks };
+    ghost invariant = { λ k. IsReady k.room };
 }
 
 impl Keeper {
@@ -86,17 +72,11 @@ impl Keeper {
         let saver = Saver::fresh(alloc, &config.geometry())?;
         let summary = fresh_summary(alloc, config)?;
         let outline = Outline::new(alloc, summary)?;
-        let numbers = lists_up_to(alloc, MOST_NUMBERS, 0u32)?;
-        let lists = change_lists(alloc)?;
-        let copies = Vec::with_capacity(alloc, MOST_BLOCKS as usize)?;
-        let blocks = Vec::with_capacity(alloc, MOST_BLOCKS as usize)?;
+        let room = ChangeRoom::new(alloc)?;
         Ok(Keeper {
             saver,
             outline,
-            numbers,
-            lists,
-            copies,
-            blocks,
+            room,
             firm: 0,
         })
     }
@@ -124,17 +104,11 @@ impl Keeper {
         let count = config.handle_count(summary.enabled, summary.index);
         let mut outline = Outline::new(alloc, summary)?;
         outline.keep_reopened(position, config.groups, count);
-        let numbers = lists_up_to(alloc, MOST_NUMBERS, 0u32)?;
-        let lists = change_lists(alloc)?;
-        let copies = Vec::with_capacity(alloc, MOST_BLOCKS as usize)?;
-        let blocks = Vec::with_capacity(alloc, MOST_BLOCKS as usize)?;
+        let room = ChangeRoom::new(alloc)?;
         Ok(Keeper {
             saver,
             outline,
-            numbers,
-            lists,
-            copies,
-            blocks,
+            room,
             firm: 0,
         })
     }
@@ -194,7 +168,7 @@ impl Keeper {
         let saved = save_write(
             &mut self.saver,
             &mut self.outline,
-            &mut self.numbers,
+            &mut self.room.numbers,
             flash,
             book,
             ticket,
@@ -209,14 +183,7 @@ impl Keeper {
         requires may { CanBeSaved book.now command.now }
         ensures { (queue number : ℕ) (reply : Reply) (moment : ℕ) → IsTrue reply.applied → KeepsEntry book.now (completed queue number command.now reply moment) self.old self.new (F.state flash.old) (F.state flash.new) result }
     {
-        let saved = save_command(
-            &mut self.saver,
-            &mut self.outline,
-            &mut self.lists,
-            flash,
-            book,
-            command,
-        );
+        let saved = save_command(&mut self.saver, &mut self.outline, flash, book, command);
         self.firm = firm_saved(book, self.firm, saved);
         saved
     }
@@ -243,9 +210,7 @@ impl Keeper {
         let saved = save_move(
             &mut self.saver,
             &mut self.outline,
-            &mut self.lists.handles,
-            &mut self.copies,
-            &mut self.blocks,
+            &mut self.room,
             flash,
             book,
             rg,

@@ -12,19 +12,26 @@ ghost use Rattle.fdp_keeper.specs.Commands.{CanBeKept, IsOutlineBehind};
 ghost use Rattle.fdp_outline.specs.Events.{with_events};
 ghost use Rattle.fdp_outline.specs.Outline.{IsOutlineOf};
 ghost use Rattle.fdp_durability.specs.fdp_readings.Drawn.{drawn};
+ghost use Rattle.fdp_records.specs.Borrowed.{change_of};
 ghost use Rattle.fdp_rules.specs.PlainState.{PlainState};
 
 use fdp_book::Book;
 use fdp_commands::named_by;
 use fdp_durability::Saved;
 use fdp_outline::Outline;
-use fdp_records::Change;
+use fdp_records::ChangeRef;
 
 /// Keeps the change of a command that was saved, or may have been.
-pub fn keep_saved(outline: &mut Outline, book: &Book, change: &Change, position: u64, saved: Saved)
-    requires kept { CanBeKept outline.old change.now }
+pub fn keep_saved(
+    outline: &mut Outline,
+    book: &Book,
+    change: ChangeRef<'_>,
+    position: u64,
+    saved: Saved,
+)
+    requires kept { CanBeKept outline.old (change_of change) }
     requires position { 0 < position }
-    ensures { (totals : Totals) → totals.position ≡ position → IsTrue (fits book.now.config (drawn book.now.config (point_in book.now)) (change.now, totals)) → IsOutlineOf book.now.config (drawn book.now.config (point_in book.now)) outline.old → IsOutlineBehind book.now.config (drawn book.now.config (point_in book.now)) (change.now, totals) outline.old outline.new saved }
+    ensures { (totals : Totals) → totals.position ≡ position → IsTrue (fits book.now.config (drawn book.now.config (point_in book.now)) (change_of change.entry, totals)) → IsOutlineOf book.now.config (drawn book.now.config (point_in book.now)) outline.old → IsOutlineBehind book.now.config (drawn book.now.config (point_in book.now)) (change_of change.entry, totals) outline.old outline.new saved }
 {
     match saved {
         Saved::Done => keep_change(outline, book, change, position),
@@ -34,34 +41,34 @@ pub fn keep_saved(outline: &mut Outline, book: &Book, change: &Change, position:
 }
 
 /// Keeps a change: namespaces, setting and kinds of event, and the events of the change.
-fn keep_change(outline: &mut Outline, book: &Book, change: &Change, position: u64)
-    requires kept { CanBeKept outline.old change.now }
+fn keep_change(outline: &mut Outline, book: &Book, change: ChangeRef<'_>, position: u64)
+    requires kept { CanBeKept outline.old (change_of change) }
     requires position { 0 < position }
-    ensures { (totals : Totals) → totals.position ≡ position → IsTrue (fits book.now.config (drawn book.now.config (point_in book.now)) (change.now, totals)) → IsOutlineOf book.now.config (drawn book.now.config (point_in book.now)) outline.old → IsOutlineOf book.now.config (applied book.now.config (drawn book.now.config (point_in book.now)) (change.now, totals)) outline.new }
+    ensures { (totals : Totals) → totals.position ≡ position → IsTrue (fits book.now.config (drawn book.now.config (point_in book.now)) (change_of change.entry, totals)) → IsOutlineOf book.now.config (drawn book.now.config (point_in book.now)) outline.old → IsOutlineOf book.now.config (applied book.now.config (drawn book.now.config (point_in book.now)) (change_of change.entry, totals)) outline.new }
 {
     outline.known(); // proof
     match change {
-        Change::Clear { .. } => {}
-        Change::Update { nsid, closed, pids } => {
-            keep_closed(outline, book, position, *nsid, *closed, 0, pids.as_slice());
+        ChangeRef::Clear { .. } => {}
+        ChangeRef::Update { nsid, closed, pids } => {
+            keep_closed(outline, book, position, nsid, closed, 0, pids);
         }
-        Change::Create {
+        ChangeRef::Create {
             nsid,
             size,
             given,
             handles,
-        } => outline.keep_created(position, *nsid, *size, *given, handles.as_slice()),
-        Change::Delete { nsid } => outline.keep_deleted(*nsid),
-        Change::SetFdp {
+        } => outline.keep_created(position, nsid, size, given, handles),
+        ChangeRef::Delete { nsid } => outline.keep_deleted(nsid),
+        ChangeRef::SetFdp {
             enabled,
             index,
             generation,
-        } => outline.keep_setting(*enabled, *index, *generation),
-        Change::SetEvents { ruh, on, mask } => outline.keep_kinds(*ruh, *on, *mask),
+        } => outline.keep_setting(enabled, index, generation),
+        ChangeRef::SetEvents { ruh, on, mask } => outline.keep_kinds(ruh, on, mask),
         // These have savings of their own.
-        Change::Write { .. } => unreachable!(),
-        Change::Moved { .. } => unreachable!(),
-        Change::Shut { .. } => unreachable!(),
+        ChangeRef::Write { .. } => unreachable!(),
+        ChangeRef::Moved { .. } => unreachable!(),
+        ChangeRef::Shut { .. } => unreachable!(),
     }
 }
 

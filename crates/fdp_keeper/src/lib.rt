@@ -1,15 +1,15 @@
 //! What a drive keeps to save itself, and the calls that save a change or the drive.
 #![tactic(auto)]
 
-mod change_lists;
+mod change_room;
 mod command;
 mod command_change;
+mod command_lists;
 mod created;
 mod firm;
 mod keeper;
 mod kept_change;
 mod kinds;
-mod lists;
 mod move_change;
 mod moves;
 mod page_set;

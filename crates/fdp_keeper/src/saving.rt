@@ -6,6 +6,7 @@ ghost use Rattle.fdp_book.specs.Book.{point_in};
 ghost use Rattle.fdp_durability.specs.Saved.{SavesDrive, SavesEntry, SettlesDrive};
 ghost use Rattle.fdp_keeper.specs.Keeper.{CanGive};
 ghost use Rattle.fdp_durability.specs.fdp_readings.Changes.{FitsDrawn, Saves};
+ghost use Rattle.fdp_records.specs.Borrowed.{change_of};
 ghost use Rattle.fdp_records.specs.Limits.{is_within_limits};
 ghost use Rattle.fdp_rules.specs.Next.{totals_with};
 
@@ -14,7 +15,7 @@ use fdp_book::Book;
 use fdp_durability::{Saved, Saver};
 use fdp_flash::{Flash, Wrote};
 use fdp_outline::Outline;
-use fdp_records::Change;
+use fdp_records::ChangeRef;
 
 /// Saves a change of the drive of a book, with the totals behind it. All savings of a change go through here.
 pub fn save<F: Flash>(
@@ -22,12 +23,12 @@ pub fn save<F: Flash>(
     outline: &Outline,
     flash: &mut F,
     book: &Book,
-    change: &Change,
+    change: ChangeRef<'_>,
     totals: &Totals,
 ) -> Saved
-    requires limits { IsTrue (is_within_limits change.now) }
+    requires limits { IsTrue (is_within_limits (change_of change)) }
     requires given { CanGive book.now saver.old outline.now (F.state flash.old) }
-    ensures saves { (e : Entry) → Saves book.now.config (point_in book.now) change.now e → FitsDrawn book.now.config (point_in book.now) change.now e → totals.now ≡ totals_with (point_in book.now).totals e → SavesEntry book.now.config book.now.found book.now.entries e saver.old saver.new (F.state flash.old) (F.state flash.new) result }
+    ensures saves { (e : Entry) → Saves book.now.config (point_in book.now) (change_of change.entry) e → FitsDrawn book.now.config (point_in book.now) (change_of change.entry) e → totals.now ≡ totals_with (point_in book.now).totals e → SavesEntry book.now.config book.now.found book.now.entries e saver.old saver.new (F.state flash.old) (F.state flash.new) result }
     ensures geometry { saver.new.geometry ≡ saver.old.geometry }
 {
     book.known(); // proof

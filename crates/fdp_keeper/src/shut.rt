@@ -9,7 +9,7 @@ use fdp_book::Book;
 use fdp_durability::{Saved, Saver};
 use fdp_flash::Flash;
 use fdp_outline::Outline;
-use fdp_records::Change;
+use fdp_records::ChangeRef;
 
 /// Saves that a handle was left without a unit in a group. The outline goes on with its event, whatever the answer.
 pub fn save_shut<F: Flash>(
@@ -28,12 +28,12 @@ pub fn save_shut<F: Flash>(
     book.counted(); // proof
     let totals = book.totals();
     outline.set_totals(totals);
-    let change = Change::Shut { rg, ruh };
+    let change = ChangeRef::Shut { rg, ruh };
     let after = Totals {
         position: totals.position + 1,
         ..totals
     };
-    let saved = save(saver, outline, flash, book, &change, &after);
+    let saved = save(saver, outline, flash, book, change, &after);
     outline.keep_shut(after.position, rg, ruh);
     saved
 }

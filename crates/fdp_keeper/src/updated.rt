@@ -4,48 +4,33 @@ ghost use Rattle.std.specs.Prelude.{◌≡◌, ◌<◌, ◌^◌, ◌≤◌, ◌&
 ghost use Rattle.fdp_base.specs.declared.command.Command.TheVariants as commands;
 ghost use Rattle.fdp_base.specs.declared.config.DriveConfig.{DriveConfig};
 ghost use Rattle.fdp_book.specs.Book.{state_in};
-ghost use Rattle.fdp_keeper.specs.Commands.{AreLent, AreMarked, AreWhole, CanBeSaved, IsUpdateOf, LendsPids};
+ghost use Rattle.fdp_keeper.specs.Commands.{AreMarked, CanBeSaved, IsUpdateOf};
 ghost use Rattle.fdp_durability.specs.fdp_readings.Changes.{TellsClosed, closes_unit};
+ghost use Rattle.fdp_records.specs.Borrowed.{change_of};
 ghost use Rattle.fdp_records.specs.Limits.{is_within_limits};
 ghost use Rattle.fdp_rules.specs.Effect.{References, is_partly_written, updated_at, updated_by};
 ghost use Rattle.fdp_rules.specs.PlainState.{PlainState};
 ghost use Rattle.fdp_rules.specs.Target.{Target};
 
-use crate::change_lists::{ChangeLists, MOST_PIDS};
-use crate::lists::{filled_with, take};
-use fdp_base::{HandleUpdate, Sequence};
+use fdp_base::HandleUpdate;
 use fdp_book::Book;
 use fdp_commands::named_by;
-use fdp_records::Change;
+use fdp_records::ChangeRef;
 
-/// The change of an update. Its list is taken out.
-pub fn updated_change(lists: &mut ChangeLists, book: &Book, update: &HandleUpdate) -> Change
-    requires can { CanBeSaved book.now (commands.Update update.now) }
-    requires lists { AreWhole lists.old }
-    ensures change { IsUpdateOf book.now.config (state_in book.now) update.now result }
-    ensures limits { IsTrue (is_within_limits result) }
-    ensures lent { AreLent lists.new result }
+/// The change of an update.
+pub fn updated_change<'a>(book: &Book, update: &'a HandleUpdate) -> ChangeRef<'a>
+    requires { CanBeSaved book.now (commands.Update update.now) }
+    ensures change { IsUpdateOf book.now.config (state_in book.now) update.now (change_of result) }
+    ensures limits { IsTrue (is_within_limits (change_of result)) }
 {
     let pids = update.pids.as_slice();
     let mut marks = [false; 256];
     let closed = closed_by(book, update.nsid, &mut marks, pids);
-    let list = take_pids(lists, pids);
-    Change::Update {
+    ChangeRef::Update {
         nsid: update.nsid,
         closed,
-        pids: Sequence::from_vec(list),
+        pids,
     }
-}
-
-/// These placement identifiers in a list that was kept for them.
-fn take_pids(lists: &mut ChangeLists, pids: &[u16]) -> Vec<u16>
-    requires few { length pids.now ≤ 64 }
-    requires lists { AreWhole lists.old }
-    ensures list { result.items ≡ pids.now }
-    ensures lent { LendsPids lists.new (length pids.now) }
-{
-    let list = take(&mut lists.pids, pids.len(), MOST_PIDS);
-    filled_with(list, pids)
 }
 
 /// Which of these placement identifiers close a unit, as bits, behind an update of the handles that are marked, by group.

@@ -14,6 +14,7 @@
 
 ghost use Rattle.std.specs.Prelude.{◌≡◌, ◌≤◌, ◌+◌, ◌*◌, Some, IsTrue, length};
 ghost use Rattle.std.specs.Int.{to_le_bytes, w32};
+ghost use Rattle.fdp_records.specs.Borrowed.{change_of};
 ghost use Rattle.fdp_records.specs.Bytes.{laid, placed};
 ghost use Rattle.fdp_records.specs.Limits.{is_within_limits};
 ghost use Rattle.fdp_records.specs.Reading.{decoded};
@@ -21,7 +22,8 @@ ghost use Rattle.fdp_records.specs.Records.{body_pieces, head_of, record_of, rec
 ghost use Rattle.fdp_records.specs.Sizes.{IsSized, PagesFit};
 
 use crate::bytes::put;
-use crate::change::{Change, UnitPages};
+use crate::change::UnitPages;
+use crate::change_ref::ChangeRef;
 use crate::head::{Head, put_head};
 use crate::item::put_all;
 use crate::kind::RecordKind;
@@ -29,14 +31,14 @@ use crate::limits::NO_UNIT;
 use crate::page_set::PageSet;
 use fdp_base::Totals;
 
-impl Change {
+impl<'a> ChangeRef<'a> {
     /// Writes the record of the change, with the totals at its position; the rest is zero.
     #[tactic(auto, unfolding(crate::specs::Records::record_of))]
     pub fn encode(&self, totals: &Totals, into: &mut [u8])
-        requires limits { IsTrue (is_within_limits self.now) }
-        requires room { record_size self.now ≤ length into.old }
-        ensures bytes { into.new ≡ record_of (length into.old) self.now totals.now }
-        ensures told { decoded into.new ≡ Some (self.now, totals.now) }
+        requires limits { IsTrue (is_within_limits (change_of self.now)) }
+        requires room { record_size (change_of self.now) ≤ length into.old }
+        ensures bytes { into.new ≡ record_of (length into.old) (change_of self.now) totals.now }
+        ensures told { decoded into.new ≡ Some (change_of self.now, totals.now) }
     {
         into.fill(0);
         put_head(into, self.head(), totals);
@@ -45,70 +47,70 @@ impl Change {
 
     #[tactic(auto, unfolding(crate::specs::Limits::is_within_limits))]
     fn head(&self) -> Head
-        requires { IsTrue (is_within_limits self.now) }
-        ensures { result ≡ head_of self.now }
+        requires { IsTrue (is_within_limits (change_of self.now)) }
+        ensures { result ≡ head_of (change_of self.now) }
     {
-        match self {
-            Change::Write {
+        match *self {
+            ChangeRef::Write {
                 nsid,
                 pid_invalid,
                 pages,
                 ..
             } => Head {
                 kind: RecordKind::Write,
-                flags: if *pid_invalid { 1 } else { 0 },
-                count: pages.as_slice().len() as u16,
-                nsid: *nsid,
+                flags: if pid_invalid { 1 } else { 0 },
+                count: pages.len() as u16,
+                nsid,
             },
-            Change::Clear { nsid, ranges } => Head {
+            ChangeRef::Clear { nsid, ranges } => Head {
                 kind: RecordKind::Clear,
                 flags: 0,
-                count: ranges.as_slice().len() as u16,
-                nsid: *nsid,
+                count: ranges.len() as u16,
+                nsid,
             },
-            Change::Update { nsid, pids, .. } => Head {
+            ChangeRef::Update { nsid, pids, .. } => Head {
                 kind: RecordKind::Update,
                 flags: 0,
-                count: pids.as_slice().len() as u16,
-                nsid: *nsid,
+                count: pids.len() as u16,
+                nsid,
             },
-            Change::Create {
+            ChangeRef::Create {
                 nsid,
                 given,
                 handles,
                 ..
             } => Head {
                 kind: RecordKind::Create,
-                flags: if *given { 2 } else { 0 },
-                count: handles.as_slice().len() as u16,
-                nsid: *nsid,
+                flags: if given { 2 } else { 0 },
+                count: handles.len() as u16,
+                nsid,
             },
-            Change::Delete { nsid } => Head {
+            ChangeRef::Delete { nsid } => Head {
                 kind: RecordKind::Delete,
                 flags: 0,
                 count: 0,
-                nsid: *nsid,
+                nsid,
             },
-            Change::SetFdp { .. } => bare_head(RecordKind::SetFdp),
-            Change::SetEvents { .. } => bare_head(RecordKind::SetEvents),
-            Change::Moved { handles, .. } => Head {
+            ChangeRef::SetFdp { .. } => bare_head(RecordKind::SetFdp),
+            ChangeRef::SetEvents { .. } => bare_head(RecordKind::SetEvents),
+            ChangeRef::Moved { handles, .. } => Head {
                 kind: RecordKind::Moved,
                 flags: 0,
-                count: handles.as_slice().len() as u16,
+                count: handles.len() as u16,
                 nsid: 0,
             },
-            Change::Shut { .. } => bare_head(RecordKind::Shut),
+            ChangeRef::Shut { .. } => bare_head(RecordKind::Shut),
         }
     }
 
     #[tactic(auto, unfolding(crate::specs::Sizes::IsSized))]
     fn put_body(&self, into: &mut [u8])
-        requires { record_size self.now ≤ length into.old }
-        ensures bytes { into.new ≡ laid (body_pieces self.now) into.old }
-        ensures fit { IsSized self.now }
+        requires { record_size (change_of self.now) ≤ length into.old }
+        ensures bytes { into.new ≡ laid (body_pieces (change_of self.now)) into.old }
+        ensures fit { IsSized (change_of self.now) }
     {
         match self {
-            Change::Write {
+            ChangeRef::Write {
                 nsid,
                 slba,
                 pid,
@@ -118,18 +120,18 @@ impl Change {
                 let _nsid = *nsid; // proof
                 put(into, 40, &slba.to_le_bytes());
                 put(into, 48, &pid.to_le_bytes());
-                put_all(into, 56, pages.as_slice());
+                put_all(into, 56, pages);
             }
-            Change::Clear { nsid, ranges } => {
+            ChangeRef::Clear { nsid, ranges } => {
                 let _nsid = *nsid; // proof
-                put_all(into, 40, ranges.as_slice());
+                put_all(into, 40, ranges);
             }
-            Change::Update { nsid, closed, pids } => {
+            ChangeRef::Update { nsid, closed, pids } => {
                 let _nsid = *nsid; // proof
                 put(into, 40, &closed.to_le_bytes());
-                put_all(into, 48, pids.as_slice());
+                put_all(into, 48, pids);
             }
-            Change::Create {
+            ChangeRef::Create {
                 nsid,
                 size,
                 handles,
@@ -137,12 +139,12 @@ impl Change {
             } => {
                 let _nsid = *nsid; // proof
                 put(into, 40, &size.to_le_bytes());
-                put_all(into, 48, handles.as_slice());
+                put_all(into, 48, handles);
             }
-            Change::Delete { nsid } => {
+            ChangeRef::Delete { nsid } => {
                 let _nsid = *nsid; // proof
             }
-            Change::SetFdp {
+            ChangeRef::SetFdp {
                 enabled,
                 index,
                 generation,
@@ -151,12 +153,12 @@ impl Change {
                 put(into, 41, &[*index]);
                 put(into, 44, &generation.to_le_bytes());
             }
-            Change::SetEvents { ruh, on, mask } => {
+            ChangeRef::SetEvents { ruh, on, mask } => {
                 put(into, 40, &[*ruh]);
                 put(into, 41, &[u8::from(*on)]);
                 put(into, 42, &[*mask]);
             }
-            Change::Moved {
+            ChangeRef::Moved {
                 victim,
                 first,
                 second,
@@ -165,9 +167,9 @@ impl Change {
                 put_pages(into, 40, victim);
                 put_pages(into, 76, first);
                 put_pages(into, 112, &target_or_none(second));
-                put_all(into, 148, handles.as_slice());
+                put_all(into, 148, handles);
             }
-            Change::Shut { rg, ruh } => {
+            ChangeRef::Shut { rg, ruh } => {
                 put(into, 40, &rg.to_le_bytes());
                 put(into, 42, &[*ruh]);
             }

@@ -9,6 +9,7 @@ ghost use Rattle.fdp_image.specs.Reading.{Reading};
 ghost use Rattle.fdp_image.specs.Reads.{reads_as};
 ghost use Rattle.fdp_image.specs.Replacing.{pages_for};
 ghost use Rattle.fdp_journal.specs.JournalState.{next_in};
+ghost use Rattle.fdp_records.specs.Borrowed.{change_of};
 ghost use Rattle.fdp_records.specs.Limits.{is_within_limits};
 ghost use Rattle.fdp_snapshot.specs.Checkpoint.{IsState};
 ghost use Rattle.fdp_saving.specs.Calls.{AreCallsOfAppend, AreCallsOfSaving, MakesSystemCalls};
@@ -21,7 +22,7 @@ use crate::saver::Saver;
 use fdp_base::Totals;
 use fdp_flash::{Flash, Wrote};
 use fdp_journal::Appended;
-use fdp_records::Change;
+use fdp_records::ChangeRef;
 use fdp_snapshot::{PageList, Summary};
 
 impl Saver {
@@ -34,12 +35,12 @@ impl Saver {
     pub fn save<F: Flash>(
         &mut self,
         flash: &mut F,
-        change: &Change,
+        change: ChangeRef<'_>,
         totals: &Totals,
         summary: &Summary,
         pages: &[PageList],
     ) -> Saved
-        requires limits { IsTrue (is_within_limits change.now) }
+        requires limits { IsTrue (is_within_limits (change_of change)) }
         requires geometry { (F.state flash.old).geometry ≡ self.old.geometry }
         requires state { IsState (with_pages summary.now pages.now) }
         requires room { suc (pages_for self.old.geometry.block summary.now) < area_pages self.old.geometry }
@@ -47,8 +48,8 @@ impl Saver {
         requires saver { IsTrue (F.state flash.old).told → IsSaverIn (F.state flash.old).cells self.old }
         ensures saver { self.new ≡ after_saving self.old summary.now result }
         ensures stands { IsTrue (F.state flash.old).told → IsSaverIn (F.state flash.new).cells self.new }
-        ensures stops { (c : DriveConfig) (own tried : Reading) → IsOfDrive c self.old (with_pages summary.now pages.now) → (IsTrue (F.state flash.old).told → AreasSay c self.old (F.state flash.old).cells own tried) → (IsTrue (F.state flash.old).told → IsTrue (fits c (base_of (needs_checkpoint self.old) own (with_pages summary.now pages.now)) (change.now, totals.now))) → Holds (ReadsAsOneOf c (F.state flash.old).cells (within_saved c (needs_checkpoint self.old) own tried (with_pages summary.now pages.now) (change.now, totals.now) result)) (F.state flash.old) (F.state flash.new) }
-        ensures said { (c : DriveConfig) (own tried : Reading) → IsOfDrive c self.old (with_pages summary.now pages.now) → IsTrue (F.state flash.old).told → AreasSay c self.old (F.state flash.old).cells own tried → IsTrue (fits c (base_of (needs_checkpoint self.old) own (with_pages summary.now pages.now)) (change.now, totals.now)) → SayAfterSaving c self.new (F.state flash.new).cells own tried (with_pages summary.now pages.now) (base_of (needs_checkpoint self.old) own (with_pages summary.now pages.now)) (change.now, totals.now) result }
+        ensures stops { (c : DriveConfig) (own tried : Reading) → IsOfDrive c self.old (with_pages summary.now pages.now) → (IsTrue (F.state flash.old).told → AreasSay c self.old (F.state flash.old).cells own tried) → (IsTrue (F.state flash.old).told → IsTrue (fits c (base_of (needs_checkpoint self.old) own (with_pages summary.now pages.now)) (change_of change.entry, totals.now))) → Holds (ReadsAsOneOf c (F.state flash.old).cells (within_saved c (needs_checkpoint self.old) own tried (with_pages summary.now pages.now) (change_of change.entry, totals.now) result)) (F.state flash.old) (F.state flash.new) }
+        ensures said { (c : DriveConfig) (own tried : Reading) → IsOfDrive c self.old (with_pages summary.now pages.now) → IsTrue (F.state flash.old).told → AreasSay c self.old (F.state flash.old).cells own tried → IsTrue (fits c (base_of (needs_checkpoint self.old) own (with_pages summary.now pages.now)) (change_of change.entry, totals.now)) → SayAfterSaving c self.new (F.state flash.new).cells own tried (with_pages summary.now pages.now) (base_of (needs_checkpoint self.old) own (with_pages summary.now pages.now)) (change_of change.entry, totals.now) result }
         ensures calls { MakesSystemCalls (F.state flash.old) (F.state flash.new) (AreCallsOfSaving self.old summary.now result) }
         ensures ends { EndsSaving (F.state flash.old) (F.state flash.new) result }
     {
@@ -66,16 +67,16 @@ impl Saver {
     }
 
     /// Appends the record of a change.
-    fn append<F: Flash>(&mut self, flash: &mut F, change: &Change, totals: &Totals) -> Wrote
+    fn append<F: Flash>(&mut self, flash: &mut F, change: ChangeRef<'_>, totals: &Totals) -> Wrote
         requires sure { self.old.in_doubt ≡ false }
         requires room { next_in self.old < area_pages self.old.geometry }
-        requires limits { IsTrue (is_within_limits change.now) }
+        requires limits { IsTrue (is_within_limits (change_of change)) }
         requires geometry { (F.state flash.old).geometry ≡ self.old.geometry }
         requires saver { IsTrue (F.state flash.old).told → IsSaverIn (F.state flash.old).cells self.old }
         ensures saver { self.new ≡ after_append self.old result }
         ensures stands { IsTrue (F.state flash.old).told → IsSaverIn (F.state flash.new).cells self.new }
-        ensures stops { (c : DriveConfig) (own : Reading) → geometry_of c ≡ self.old.geometry → (IsTrue (F.state flash.old).told → reads_as c (F.state flash.old).cells ≡ Some own) → (IsTrue (F.state flash.old).told → IsTrue (fits c own (change.now, totals.now))) → Holds (ReadsAsOneOf c (F.state flash.old).cells (within_append c own (change.now, totals.now))) (F.state flash.old) (F.state flash.new) }
-        ensures said { (c : DriveConfig) (own : Reading) → geometry_of c ≡ self.old.geometry → IsTrue (F.state flash.old).told → reads_as c (F.state flash.old).cells ≡ Some own → IsTrue (fits c own (change.now, totals.now)) → SayAfterAppend c self.new (F.state flash.new).cells own (change.now, totals.now) result }
+        ensures stops { (c : DriveConfig) (own : Reading) → geometry_of c ≡ self.old.geometry → (IsTrue (F.state flash.old).told → reads_as c (F.state flash.old).cells ≡ Some own) → (IsTrue (F.state flash.old).told → IsTrue (fits c own (change_of change.entry, totals.now))) → Holds (ReadsAsOneOf c (F.state flash.old).cells (within_append c own (change_of change.entry, totals.now))) (F.state flash.old) (F.state flash.new) }
+        ensures said { (c : DriveConfig) (own : Reading) → geometry_of c ≡ self.old.geometry → IsTrue (F.state flash.old).told → reads_as c (F.state flash.old).cells ≡ Some own → IsTrue (fits c own (change_of change.entry, totals.now)) → SayAfterAppend c self.new (F.state flash.new).cells own (change_of change.entry, totals.now) result }
         ensures calls { MakesSystemCalls (F.state flash.old) (F.state flash.new) (AreCallsOfAppend self.old result) }
         ensures ends { EndsCheckpoint (F.state flash.old) (F.state flash.new) result }
     {

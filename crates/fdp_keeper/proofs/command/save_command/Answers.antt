@@ -5,6 +5,7 @@ use Rattle.fdp_book.specs.Book.{point_in}
 use Rattle.fdp_outline.specs.Outline.{IsOutlineOf}
 use Rattle.fdp_durability.specs.fdp_readings.Changes.{FitsDrawn, Saves, completed}
 use Rattle.fdp_durability.specs.fdp_readings.Drawn.{drawn}
+use Rattle.fdp_records.specs.Borrowed.{change_of}
 use Rattle.fdp_rules.specs.History.{point_of}
 use Rattle.fdp_rules.specs.Next.{totals_with}
 use Rattle.fdp_snapshot.specs.declared.state.Summary.{Summary}
@@ -12,15 +13,15 @@ use Rattle.fdp_keeper.proofs.Behind.{can-be-kept, change-fits, change-saves, gen
 use Rattle.fdp_keeper.proofs.Parts.{can-give, with-totals}
 use Rattle.fdp_keeper.proofs.command.save_command.Goals as goal
 
-pub change_of-change-requires-clause-generation : goal.change_of-change-requires-clause-generation
-change_of-change-requires-clause-generation g c =
+pub command_change-change-requires-clause-generation : goal.command_change-change-requires-clause-generation
+command_change-change-requires-clause-generation g c =
     let b = c.args.book.now in
     let r = drawn b.config (point_in b) in
     let was : IsOutlineOf b.config r c.set_totals.new.self = with-totals b.config r c.args.outline.now c.set_totals.new.self c.totals-totals.result c.set_totals.ensures c.requires.can.outline in
     ap (λ (x : Summary). x.generation) c.summary.ensures.summary ∙ generation-said b.config r c.set_totals.new.self was
 
-pub change_of-change-requires-clause-next : goal.change_of-change-requires-clause-next
-change_of-change-requires-clause-next g c =
+pub command_change-change-requires-clause-next : goal.command_change-change-requires-clause-next
+command_change-change-requires-clause-next g c =
     let b = c.args.book.now in
     let r = drawn b.config (point_in b) in
     let was : IsOutlineOf b.config r c.set_totals.new.self = with-totals b.config r c.args.outline.now c.set_totals.new.self c.totals-totals.result c.set_totals.ensures c.requires.can.outline in
@@ -36,19 +37,19 @@ keep_saved-requires-clause-kept g c =
     let b = c.args.book.now in
     let r = drawn b.config (point_in b) in
     let was : IsOutlineOf b.config r c.set_totals.new.self = with-totals b.config r c.args.outline.now c.set_totals.new.self c.totals-totals.result c.set_totals.ensures c.requires.can.outline in
-    can-be-kept b c.set_totals.new.self c.args.command.now c.change_of-change.result c.known.ensures.config c.known.ensures.orderly was c.requires.may c.change_of-change.ensures.change
+    can-be-kept b c.set_totals.new.self c.args.command.now (change_of c.command_change-change.result) c.known.ensures.config c.known.ensures.orderly was c.requires.may c.command_change-change.ensures.change
 
-pub returns-clause-saves : goal.returns-clause-saves
+pub returns : goal.returns
 unfolding point_of
-returns-clause-saves g c queue number reply moment applied =
+returns g c queue number reply moment applied =
     let b = c.args.book.now in
     let p = point_in b in
     let command = c.args.command.now in
     let e : Entry = completed queue number command reply moment in
     let may = c.requires.may in
-    let change = c.change_of-change.result in
-    let saves : Saves b.config p change e = change-saves b.config p queue number command reply moment change c.known.ensures.orderly applied may.saved may.other c.change_of-change.ensures.change in
-    let fits : FitsDrawn b.config p change e = change-fits b.config p command change e c.known.ensures.config c.known.ensures.orderly may.accepted may.saved may.other c.change_of-change.ensures.change in
+    let change = change_of c.command_change-change.result in
+    let saves : Saves b.config p change e = change-saves b.config p queue number command reply moment change c.known.ensures.orderly applied may.saved may.other c.command_change-change.ensures.change in
+    let fits : FitsDrawn b.config p change e = change-fits b.config p command change e c.known.ensures.config c.known.ensures.orderly may.accepted may.saved may.other c.command_change-change.ensures.change in
     let before : c.totals-totals.result ≡ p.totals = c.totals-totals.ensures.totals in
     let after : record c.totals-totals.result { position = c.totals-totals.result.position + 1 } ≡ totals_with p.totals e =
     totals-other c.totals-totals.result queue number command reply moment may.other ∙ ap (λ (t : Totals). totals_with t e) before in

@@ -1,18 +1,18 @@
-use Rattle.std.proofs.Common.{List, ℕ, length, ◌≤◌, arith, subst, sym}
+use Rattle.std.proofs.Common.{arith, refl, subst}
 use Rattle.std.specs.Prelude.{IsTrue}
 use Rattle.fdp_book.specs.Book.{point_in}
 use Rattle.fdp_image.specs.Fits.{fits}
 use Rattle.fdp_keeper.proofs.Behind.{kept-created, kept-updated}
 use Rattle.fdp_outline.proofs.Applying.{outline-cleared}
 use Rattle.fdp_durability.specs.fdp_readings.Drawn.{drawn}
-use Rattle.fdp_records.specs.declared.change.Change.{Change}
+use Rattle.fdp_records.specs.Borrowed.{change_of}
+use Rattle.fdp_records.specs.declared.change_ref.ChangeRef.{ChangeRef}
 use Rattle.fdp_keeper.proofs.kept_change.keep_change.Goals as goal
 
 pub keep_closed-requires : goal.keep_closed-requires
 keep_closed-requires c =
     let kept = rw c.in-Update.is at c.requires.kept in
-    let few : length c.as_slice.result.now ≤ 64 = subst (λ (xs : List ℕ). length xs ≤ 64) (sym c.as_slice.ensures) kept in
-    omega (arith, few)
+    omega (arith, kept)
 
 pub keep_created-requires-clause-nsid : goal.keep_created-requires-clause-nsid
 keep_created-requires-clause-nsid c = let kept = rw c.in-Create.is at c.requires.kept in kept.0
@@ -24,9 +24,7 @@ pub keep_created-requires-clause-size : goal.keep_created-requires-clause-size
 keep_created-requires-clause-size c = let kept = rw c.in-Create.is at c.requires.kept in kept.2
 
 pub keep_created-requires-clause-few : goal.keep_created-requires-clause-few
-keep_created-requires-clause-few c =
-    let kept = rw c.in-Create.is at c.requires.kept in
-    subst (λ (xs : List ℕ). length xs ≤ 16) (sym c.as_slice-in-Create.ensures) kept.3
+keep_created-requires-clause-few c = let kept = rw c.in-Create.is at c.requires.kept in kept.3
 
 pub keep_deleted-requires : goal.keep_deleted-requires
 keep_deleted-requires c = rw c.in-Delete.is at c.requires.kept
@@ -40,12 +38,12 @@ returns-in-Clear c totals at fit h = rw c.in-Clear.is (outline-cleared c.args.bo
 pub returns-in-Update : goal.returns-in-Update
 returns-in-Update c totals at fit h =
     rw c.in-Update.is
-    (kept-updated c.args.book.now.config (point_in c.args.book.now) c.args.outline.now c.keep_closed.new.outline totals c.in-Update.nsid c.in-Update.closed c.args.position c.as_slice.result.now c.in-Update.pids c.as_slice.ensures at c.requires.position c.keep_closed.ensures h)
+    (kept-updated c.args.book.now.config (point_in c.args.book.now) c.args.outline.now c.keep_closed.new.outline totals c.in-Update.nsid c.in-Update.closed c.args.position c.in-Update.pids.now c.in-Update.pids.now refl at c.requires.position c.keep_closed.ensures h)
 
 pub returns-in-Create : goal.returns-in-Create
 returns-in-Create c totals at fit h =
     rw c.in-Create.is
-    (kept-created c.args.book.now.config (drawn c.args.book.now.config (point_in c.args.book.now)) c.keep_created.new.self totals c.in-Create.nsid c.in-Create.size c.in-Create.given c.as_slice-in-Create.result.now c.in-Create.handles c.as_slice-in-Create.ensures (c.keep_created.ensures c.args.book.now.config (drawn c.args.book.now.config (point_in c.args.book.now)) totals at h))
+    (kept-created c.args.book.now.config (drawn c.args.book.now.config (point_in c.args.book.now)) c.keep_created.new.self totals c.in-Create.nsid c.in-Create.size c.in-Create.given c.in-Create.handles.now c.in-Create.handles.now refl (c.keep_created.ensures c.args.book.now.config (drawn c.args.book.now.config (point_in c.args.book.now)) totals at h))
 
 pub returns-in-Delete : goal.returns-in-Delete
 returns-in-Delete c totals at fit h = rw c.in-Delete.is (c.keep_deleted.ensures c.args.book.now.config (drawn c.args.book.now.config (point_in c.args.book.now)) totals h)
@@ -55,7 +53,7 @@ returns-in-SetFdp c totals at fit h = rw c.in-SetFdp.is (c.keep_setting.ensures 
 
 pub returns-in-SetEvents : goal.returns-in-SetEvents
 returns-in-SetEvents c totals at fit h = rw c.in-SetEvents.is (c.keep_kinds.ensures c.args.book.now.config (drawn c.args.book.now.config (point_in c.args.book.now)) totals
-    (subst (λ (x : Change). IsTrue (fits c.args.book.now.config (drawn c.args.book.now.config (point_in c.args.book.now)) (x, totals))) c.in-SetEvents.is fit) h)
+    (subst (λ (x : ChangeRef). IsTrue (fits c.args.book.now.config (drawn c.args.book.now.config (point_in c.args.book.now)) (change_of x, totals))) c.in-SetEvents.is fit) h)
 
 pub unreachable-requires : goal.unreachable-requires
 unreachable-requires c = rw c.in-Write.is at c.requires.kept

@@ -1,4 +1,4 @@
-use Rattle.std.proofs.Common.{◌≡◌, ◌+◌, ◌<◌, ◌≤◌, ◌∙◌, List, ap, arith, length, map, refl, subst, sym}
+use Rattle.std.proofs.Common.{◌≡◌, ◌+◌, ◌<◌, ◌≤◌, ◌∙◌, ℕ, List, ap, arith, length, map, refl, subst, sym}
 use Rattle.fdp_base.specs.declared.config.DriveConfig.{DriveConfig}
 use Rattle.fdp_base.specs.declared.entry.Copied.{Copied}
 use Rattle.fdp_base.specs.declared.entry.Entry.{Entry}
@@ -16,6 +16,7 @@ use Rattle.fdp_durability.specs.fdp_readings.Drawn.{drawn}
 use Rattle.fdp_base.specs.Placement.{handle_count}
 use Rattle.fdp_image.specs.Changed.{changed}
 use Rattle.fdp_records.specs.declared.change.Change.{Change}
+use Rattle.fdp_records.specs.Borrowed.{change_of}
 use Rattle.fdp_rules.specs.Room.{handles_in_force}
 use Rattle.fdp_rules.specs.Events.{events_of_entry}
 use Rattle.fdp_rules.specs.History.{point_of}
@@ -62,7 +63,7 @@ move_change-change-requires-clause-named g c =
     let found : 0 < length (copies_of_blocks owners pass.copies) = subst (λ (xs : List Copied). 0 < length xs) (c.as_slice.ensures.value ∙ items) (some-counted (length c.as_slice.result.now) (sym c.is_empty.ensures ∙ c.if-is_empty.false)) in
     let few : length (copies_of_blocks owners pass.copies) ≤ 256 = subst (λ (xs : List Copied). length xs ≤ 256) items c.list_copies.ensures.few in
     let group : rg < length t.units.groups = omega (arith, c.requires.group, ap (λ (k : Cut). k.groups) c.known.ensures.units.cut) in
-    subst CanBeNamed (sym (c.as_slice-2.ensures.value ∙ items)) (can-be-named b.config t rg pass c.known.ensures.config c.known.ensures.units.cut c.known.ensures.joined group is few found)
+    subst CanBeNamed (sym (c.as_slice-3.ensures.value ∙ items)) (can-be-named b.config t rg pass c.known.ensures.config c.known.ensures.units.cut c.known.ensures.joined group is few found)
 
 pub handle_count-count-requires-clause-index : goal.handle_count-count-requires-clause-index
 unfolding point_of
@@ -92,12 +93,14 @@ returns-clause-some g c =
     let can : CanBeNamed (copies_of_blocks owners pass.copies) = can-be-named b.config t rg pass c.known.ensures.config c.known.ensures.units.cut c.known.ensures.joined group is few found in
     let blocks : c.list_copies.new.blocks.items ≡ map (moved_of owners) (copies_of_blocks owners pass.copies) =
     c.list_copies.ensures.blocks ∙ ap (λ (x : PageTables). map (moved_of (owner_at x.owners)) (copies_of_blocks (owner_at x.owners) (copies_at x rg))) c.pages.ensures ∙ ap (λ (xs : List Copied). map (moved_of owners) (copies_of_blocks owners xs)) (copies-are t rg pass is) in
-    let move : IsMoveOf (copies_of_blocks owners pass.copies) (map (λ (x : MovedBlock). x.ruh) (map (moved_of owners) (copies_of_blocks owners pass.copies))) c.move_change-change.result =
-    subst (λ (xs : List Copied). IsMoveOf xs (map (λ (x : MovedBlock). x.ruh) (map (moved_of owners) (copies_of_blocks owners pass.copies))) c.move_change-change.result) (c.as_slice-2.ensures.value ∙ items)
-    (subst (λ (bs : List MovedBlock). IsMoveOf c.as_slice-2.result.now (map (λ (x : MovedBlock). x.ruh) bs) c.move_change-change.result) (c.as_slice-3.ensures.value ∙ blocks) c.move_change-change.ensures.change) in
+    let change : Change = change_of c.move_change-change.result in
+    let ruhs : List ℕ = map (λ (x : MovedBlock). x.ruh) (map (moved_of owners) (copies_of_blocks owners pass.copies)) in
+    let move : IsMoveOf (copies_of_blocks owners pass.copies) ruhs change =
+    subst (λ (xs : List Copied). IsMoveOf xs ruhs change) (c.as_slice-3.ensures.value ∙ items)
+    (subst (λ (rs : List ℕ). IsMoveOf c.as_slice-3.result.now rs change) (c.as_slice-4.ensures.value ∙ c.list_ruhs.ensures.ruhs ∙ ap (map (λ (x : MovedBlock). x.ruh)) (c.as_slice-2.ensures.value ∙ blocks)) c.move_change-change.ensures.change) in
     let e : Entry = entries.Moved (record { rg = rg; blocks = moved_blocks p rg }) in
-    let saves : Saves b.config p c.move_change-change.result e = move-saved b.config p _ _ t rg pass c.move_change-change.result c.known.ensures.orderly c.known.ensures.standing c.known.ensures.led.led c.requires.group c.known.ensures.units.cut c.known.ensures.joined group is some can move in
-    let fits : FitsDrawn b.config p c.move_change-change.result e = move-named-fits b.config p t rg pass _ c.move_change-change.result e c.known.ensures.orderly c.known.ensures.units.cut c.known.ensures.joined group is move in
+    let saves : Saves b.config p change e = move-saved b.config p _ _ t rg pass change c.known.ensures.orderly c.known.ensures.standing c.known.ensures.led.led c.requires.group c.known.ensures.units.cut c.known.ensures.joined group is some can move in
+    let fits : FitsDrawn b.config p change e = move-named-fits b.config p t rg pass _ change e c.known.ensures.orderly c.known.ensures.units.cut c.known.ensures.joined group is move in
     let before : c.totals-totals.result ≡ p.totals = c.totals-totals.ensures.totals in
     let after : record c.totals-totals.result { position = c.totals-totals.result.position + 1 } ≡ totals_with p.totals e = totals-moved c.totals-totals.result rg (moved_blocks p rg) ∙ ap (λ (x : Totals). totals_with x e) before in
     let position : p.state.position + 1 ≡ c.totals-totals.result.position + 1 = ap (λ n. n + 1) (sym c.known.ensures.orderly.positions ∙ sym (ap (λ (x : Totals). x.position) before)) in
@@ -106,11 +109,11 @@ returns-clause-some g c =
     let count : c.handle_count-count.result ≡ handles_in_force b.config p.state =
     c.handle_count-count.ensures.value ∙ ap (λ (x : DriveConfig). handle_count x c.summary-summary.result.now.enabled c.summary-summary.result.now.index) c.config.ensures.config ∙ ap (λ (x : Summary). handle_count b.config x.enabled x.index) c.summary-summary.ensures.summary ∙ handles-said b.config p c.set_totals.new.self was in
     let kept : c.keep_moved.new.self ≡ with_events c.set_totals.new.self (events_of_entry b.config p.state e) =
-    c.keep_moved.ensures p.state position ∙ ap (with_events c.set_totals.new.self) (events-moved b.config p _ _ t rg c.handle_count-count.result pass c.as_slice-4.result.now c.known.ensures.standing c.known.ensures.led.led names (c.as_slice-4.ensures.value ∙ blocks) count) in (
+    c.keep_moved.ensures p.state position ∙ ap (with_events c.set_totals.new.self) (events-moved b.config p _ _ t rg c.handle_count-count.result pass c.as_slice-5.result.now c.known.ensures.standing c.known.ensures.led.led names (c.as_slice-5.ensures.value ∙ blocks) count) in (
       λ none. some-moved owners pass.copies found (sym names ∙ none),
       record {
         saves = c.save-saved.ensures.saves e saves fits after;
-        outline = subst (λ (x : Summary). IsOutlineOf b.config (drawn b.config (next b.config p e)) x) (sym kept) (outline-more b.config (drawn b.config p) (drawn b.config (next b.config p e)) (events_of_entry b.config p.state e) c.set_totals.new.self was (adds b.config p c.move_change-change.result e (λ r at. ap (λ (x : Change). changed b.config r at x) move.change_is) saves));
+        outline = subst (λ (x : Summary). IsOutlineOf b.config (drawn b.config (next b.config p e)) x) (sym kept) (outline-more b.config (drawn b.config p) (drawn b.config (next b.config p e)) (events_of_entry b.config p.state e) c.set_totals.new.self was (adds b.config p change e (λ r at. ap (λ (x : Change). changed b.config r at x) move.change_is) saves));
         geometry = c.save-saved.ensures.geometry;
       },
     )

@@ -9,6 +9,7 @@ use Rattle.fdp_base.specs.declared.entry.Totals.{Totals}
 use Rattle.fdp_durability.specs.Durable.{SaysDrawn}
 use Rattle.fdp_durability.specs.fdp_checkpoint.Writing.{with_pages}
 use Rattle.fdp_durability.proofs.Said.{base-fits}
+use Rattle.fdp_records.specs.Borrowed.{change_of}
 use Rattle.fdp_image.specs.Fits.{fits}
 use Rattle.fdp_image.specs.Reading.{Reading}
 use Rattle.fdp_flash.specs.Runs.{Holds}
@@ -50,19 +51,19 @@ returns-clause-saves g c e saves fit same =
     let pages = drawn-pages b.config (point_in b) lists c.known.ensures.config c.page_lists.ensures.rows c.page_lists.ensures.sizes c.page_lists.ensures.blocks c.page_lists.ensures.places in
     let g_ : IsGiven b.config (point_in b) s lists = given b.config (point_in b) s lists c.known.ensures.config c.known.ensures.orderly c.known.ensures.listed outline totals c.summary.ensures.writable pages in
     let is_of : IsOfDrive b.config c.args.saver.now (with_pages s lists) = record { geometry = sym c.requires.given.of_drive; saved = g_.saved } in
-    let fits-then : (own : Reading) → SaysDrawn b.config (point_in b) c.args.saver.now own → IsTrue (fits b.config (base_of (needs_checkpoint c.args.saver.now) own (with_pages s lists)) (c.args.change.now, c.args.totals.now)) =
-    λ own sure. subst (λ (t : Totals). IsTrue (fits b.config (base_of (needs_checkpoint c.args.saver.now) own (with_pages s lists)) (c.args.change.now, t))) (sym same)
-    (base-fits b.config (point_in b) c.args.saver.now own (with_pages s lists) (c.args.change.now, totals_with (point_in b).totals e) g_.drive sure fit) in
+    let fits-then : (own : Reading) → SaysDrawn b.config (point_in b) c.args.saver.now own → IsTrue (fits b.config (base_of (needs_checkpoint c.args.saver.now) own (with_pages s lists)) ((change_of c.args.change), c.args.totals.now)) =
+    λ own sure. subst (λ (t : Totals). IsTrue (fits b.config (base_of (needs_checkpoint c.args.saver.now) own (with_pages s lists)) ((change_of c.args.change), t))) (sym same)
+    (base-fits b.config (point_in b) c.args.saver.now own (with_pages s lists) ((change_of c.args.change), totals_with (point_in b).totals e) g_.drive sure fit) in
     record {
       given = with_pages s lists;
-      change = c.args.change.now;
+      change = (change_of c.args.change);
       drive = g_.drive;
       is_of = is_of;
       saves = saves;
       saver_is = c.save.ensures.saver;
       stands = c.save.ensures.stands;
-      stops = λ own tried say sure. subst (λ (t : Totals). Holds (ReadsAsOneOf b.config (g.F.Flash.state c.args.flash.now).cells (within_saved b.config (needs_checkpoint c.args.saver.now) own tried (with_pages s lists) (c.args.change.now, t) c.save.result)) (g.F.Flash.state c.args.flash.now) (g.F.Flash.state c.save.new.flash)) same (c.save.ensures.stops b.config own tried is_of say (λ told. fits-then own (sure told)));
-      said = λ own tried told say sure. subst (λ (t : Totals). SayAfterSaving b.config c.save.new.self (g.F.Flash.state c.save.new.flash).cells own tried (with_pages s lists) (base_of (needs_checkpoint c.args.saver.now) own (with_pages s lists)) (c.args.change.now, t) c.save.result) same (c.save.ensures.said b.config own tried is_of told say (fits-then own sure));
+      stops = λ own tried say sure. subst (λ (t : Totals). Holds (ReadsAsOneOf b.config (g.F.Flash.state c.args.flash.now).cells (within_saved b.config (needs_checkpoint c.args.saver.now) own tried (with_pages s lists) ((change_of c.args.change), t) c.save.result)) (g.F.Flash.state c.args.flash.now) (g.F.Flash.state c.save.new.flash)) same (c.save.ensures.stops b.config own tried is_of say (λ told. fits-then own (sure told)));
+      said = λ own tried told say sure. subst (λ (t : Totals). SayAfterSaving b.config c.save.new.self (g.F.Flash.state c.save.new.flash).cells own tried (with_pages s lists) (base_of (needs_checkpoint c.args.saver.now) own (with_pages s lists)) ((change_of c.args.change), t) c.save.result) same (c.save.ensures.said b.config own tried is_of told say (fits-then own sure));
       calls = c.save.ensures.calls;
       ends = c.save.ensures.ends;
     }

@@ -1,8 +1,7 @@
-use Rattle.std.proofs.Common.{◌≡◌, ◌∙◌, ℕ, ◌^◌, ◌<◌, ◌≤◌, Bool, List, ap, length, subst, sym}
+use Rattle.std.proofs.Common.{◌≡◌, ◌∙◌, ℕ, ◌^◌, ◌≤◌, Bool, List, ap, length, subst, sym}
 use Rattle.std.specs.Prelude.{◌&&◌, nat_lt}
 use Rattle.std.proofs.lemmas.Bool.{lt-ltb}
 use Rattle.fdp_book.specs.Book.{point_in}
-use Rattle.fdp_keeper.specs.Commands.{LendsPids}
 use Rattle.fdp_keeper.proofs.Accepted.{few-pids}
 use Rattle.fdp_keeper.proofs.Marking.{unmarked}
 use Rattle.fdp_keeper.proofs.Writing.{within-most}
@@ -14,12 +13,7 @@ use Rattle.fdp_keeper.proofs.updated.updated_change.Goals as goal
 pub closed_by-closed-requires : goal.closed_by-closed-requires
 closed_by-closed-requires c =
     let b = c.args.book.now in
-    subst (λ (xs : List ℕ). length xs ≤ 64) (sym c.as_slice-pids.ensures) (few-pids b.config (point_in b) c.args.update.now c.requires.can.accepted)
-
-pub take_pids-list-requires-clause-few : goal.take_pids-list-requires-clause-few
-take_pids-list-requires-clause-few c =
-    let b = c.args.book.now in
-    subst (λ (xs : List ℕ). length xs ≤ 64) (sym c.as_slice-pids.ensures) (few-pids b.config (point_in b) c.args.update.now c.requires.can.accepted)
+    subst (λ (xs : List ℕ). length xs ≤ 64) (sym c.as_slice-pids.ensures) (few-pids b.config (point_in b) c.args.update.now c.requires.accepted)
 
 pub returns-clause-change : goal.returns-clause-change
 returns-clause-change c =
@@ -30,7 +24,7 @@ returns-clause-change c =
     record {
       closed = closed;
       tells = subst (λ (xs : List ℕ). TellsClosed b.config s u.nsid closed 0 s.references xs) c.as_slice-pids.ensures (c.closed_by-closed.ensures.tells s.references (unmarked b.config s 256));
-      change_is = ap (changes.Update u.nsid closed) (c.from_vec.ensures ∙ c.take_pids-list.ensures.list ∙ c.as_slice-pids.ensures);
+      change_is = ap (changes.Update u.nsid closed) c.as_slice-pids.ensures;
     }
 
 pub returns-clause-limits : goal.returns-clause-limits
@@ -38,11 +32,8 @@ unfolding is_within_limits
 returns-clause-limits c =
     let b = c.args.book.now in
     let u = c.args.update.now in
-    let all : length c.from_vec.result ≡ length u.pids = ap length (c.from_vec.ensures ∙ c.take_pids-list.ensures.list ∙ c.as_slice-pids.ensures) in
-    let few : length u.pids ≤ 64 = few-pids b.config (point_in b) u c.requires.can.accepted in
-    let bound : c.closed_by-closed.result < 2 ^ length c.from_vec.result = subst (λ (xs : List ℕ). c.closed_by-closed.result < 2 ^ length xs) (sym (c.from_vec.ensures ∙ c.take_pids-list.ensures.list)) c.closed_by-closed.ensures.bound in
-    ap (λ (t : Bool). t && nat_lt c.closed_by-closed.result (2 ^ length c.from_vec.result)) (ap (is_within 1 64) all ∙ within-most 64 (length u.pids) c.requires.can.formed.0 few)
-    ∙ lt-ltb c.closed_by-closed.result (2 ^ length c.from_vec.result) bound
-
-pub returns-clause-lent : goal.returns-clause-lent
-returns-clause-lent c = subst (λ (xs : List ℕ). LendsPids c.take_pids-list.new.lists (length xs)) (sym (c.from_vec.ensures ∙ c.take_pids-list.ensures.list)) c.take_pids-list.ensures.lent
+    let pids = c.as_slice-pids.result.now in
+    let all : length pids ≡ length u.pids = ap length c.as_slice-pids.ensures in
+    let few : length u.pids ≤ 64 = few-pids b.config (point_in b) u c.requires.accepted in
+    ap (λ (t : Bool). t && nat_lt c.closed_by-closed.result (2 ^ length pids)) (ap (is_within 1 64) all ∙ within-most 64 (length u.pids) c.requires.formed.0 few)
+    ∙ lt-ltb c.closed_by-closed.result (2 ^ length pids) c.closed_by-closed.ensures.bound

@@ -1,11 +1,12 @@
 use Rattle.std.proofs.Common.{arith}
+use Rattle.fdp_records.specs.Borrowed.{change_of}
 use Rattle.fdp_journal.proofs.Appending.{at_hand, order, writes}
 use Rattle.fdp_journal.proofs.Limits.{record_room}
 use Rattle.fdp_journal.proofs.journal.Journal.write.Goals as goal
 
 pub encode-requires-clause-room : goal.encode-requires-clause-room
 encode-requires-clause-room g c =
-    omega (arith, record_room c.args.change.now c.self.inside.geometry.block c.requires.limits c.self.invariant.geometry.block, c.as_mut_slice-page.ensures.len, c.self.invariant.page)
+    omega (arith, record_room (change_of c.args.change) c.self.inside.geometry.block c.requires.limits c.self.invariant.geometry.block, c.as_mut_slice-page.ensures.len, c.self.invariant.page)
 
 pub program-requires-clause-order : goal.program-requires-clause-order
 program-requires-clause-order g c =

@@ -8,4 +8,4 @@ save_command-saved-requires-clause-can g c = can-keep c.args.book.now c.args.sel
 pub returns : goal.returns
 returns g c queue number reply moment applied =
     kept-entry c.args.book.now (completed queue number c.args.command.now reply moment) c.args.self.now c.self.inside.saver c.save_command-saved.new.saver c.self.inside.outline c.save_command-saved.new.outline c.self.inside.firm c.firm_saved-self-inside.result (g.F.Flash.state c.args.flash.now) (g.F.Flash.state c.save_command-saved.new.flash) c.save_command-saved.result c.self.view_is
-    (c.save_command-saved.ensures.saves queue number reply moment applied) (c.firm_saved-self-inside.ensures (completed queue number c.args.command.now reply moment))
+    (c.save_command-saved.ensures queue number reply moment applied) (c.firm_saved-self-inside.ensures (completed queue number c.args.command.now reply moment))

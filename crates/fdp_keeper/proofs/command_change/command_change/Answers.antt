@@ -1,4 +1,4 @@
-use Rattle.std.proofs.Common.{◌+◌, ◌∙◌, ℕ, List, ap, length, refl, subst, sym, false, true}
+use Rattle.std.proofs.Common.{◌+◌, ◌∙◌, ℕ, List, ap, length, refl, subst, sym, false, true, arith}
 use Rattle.std.specs.Prelude.{IsFalse, IsTrue}
 use Rattle.fdp_base.specs.declared.command.Range.{Range}
 use Rattle.fdp_base.specs.Geometry.{IsWithin}
@@ -6,7 +6,7 @@ use Rattle.fdp_book.specs.Book.{point_in}
 use Rattle.fdp_keeper.proofs.Accepted.{few-ranges}
 use Rattle.fdp_records.specs.declared.change.Change.TheVariants as changes
 use Rattle.fdp_records.specs.Limits.{is_within_limits}
-use Rattle.fdp_keeper.proofs.command_change.change_of.Goals as goal
+use Rattle.fdp_keeper.proofs.command_change.command_change.Goals as goal
 
 not-saved : IsTrue false → ⊥
 not-saved e = cc
@@ -14,24 +14,30 @@ not-saved e = cc
 not-other : IsFalse true → ⊥
 not-other e = cc
 
-pub cleared_change-requires-clause-few : goal.cleared_change-requires-clause-few
-cleared_change-requires-clause-few c =
+pub cleared_change-requires : goal.cleared_change-requires
+cleared_change-requires c = subst (λ (xs : List Range). IsWithin 1 16 (length xs)) (sym (c.requires.lists.zeroed c.in-Zero.zero c.in-Zero.is)) (omega arith, omega arith)
+
+pub cleared_change-requires-in-Dealloc : goal.cleared_change-requires-in-Dealloc
+cleared_change-requires-in-Dealloc c =
     let b = c.args.book.now in
     let can = rw c.in-Dealloc.is at c.requires.can in
     let few = few-ranges b.config (point_in b) c.in-Dealloc.dealloc can.accepted in
     subst (λ (xs : List Range). IsWithin 1 16 (length xs)) (sym c.as_slice.ensures) (can.formed.0, few)
 
-pub updated_change-requires-clause-can : goal.updated_change-requires-clause-can
-updated_change-requires-clause-can c = rw c.in-Update.is at c.requires.can
+pub updated_change-requires : goal.updated_change-requires
+updated_change-requires c = rw c.in-Update.is at c.requires.can
 
 pub created_change-requires-clause-can : goal.created_change-requires-clause-can
 created_change-requires-clause-can c = rw c.in-Create.is at c.requires.can
 
+pub created_change-requires-clause-handles : goal.created_change-requires-clause-handles
+created_change-requires-clause-handles c = c.as_slice-in-Create.ensures.value ∙ c.requires.lists.handles c.in-Create.create c.in-Create.is
+
 pub returns-in-Zero-clause-change : goal.returns-in-Zero-clause-change
-returns-in-Zero-clause-change c = rw c.in-Zero.is c.zeroed_change.ensures.change
+returns-in-Zero-clause-change c = rw c.in-Zero.is (c.cleared_change.ensures.change ∙ ap (changes.Clear c.in-Zero.zero.nsid) (c.requires.lists.zeroed c.in-Zero.zero c.in-Zero.is))
 
 pub returns-in-Dealloc-clause-change : goal.returns-in-Dealloc-clause-change
-returns-in-Dealloc-clause-change c = rw c.in-Dealloc.is (c.cleared_change.ensures.change ∙ ap (changes.Clear c.in-Dealloc.dealloc.nsid) c.as_slice.ensures)
+returns-in-Dealloc-clause-change c = rw c.in-Dealloc.is (c.cleared_change-in-Dealloc.ensures.change ∙ ap (changes.Clear c.in-Dealloc.dealloc.nsid) c.as_slice.ensures)
 
 pub returns-in-Update-clause-change : goal.returns-in-Update-clause-change
 returns-in-Update-clause-change c = rw c.in-Update.is c.updated_change.ensures.change
@@ -52,12 +58,6 @@ returns-in-Delete-clause-change c = rw c.in-Delete.is refl
 pub returns-in-Delete-clause-limits : goal.returns-in-Delete-clause-limits
 unfolding is_within_limits
 returns-in-Delete-clause-limits c = refl
-
-pub returns-in-SetFdp-clause-lent : goal.returns-in-SetFdp-clause-lent
-returns-in-SetFdp-clause-lent c = rw c.set_change.ensures.change c.requires.lists
-
-pub returns-in-SetEvents-clause-lent : goal.returns-in-SetEvents-clause-lent
-returns-in-SetEvents-clause-lent c = rw c.events_change.ensures.change.change_is c.requires.lists
 
 pub unreachable-requires : goal.unreachable-requires
 unreachable-requires c = not-other (rw c.in-Write.is at c.requires.can.other)
