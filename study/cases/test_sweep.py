@@ -64,6 +64,19 @@ class Sweep(Case):
         for it, when in there.items():
             self.assertEqual(os.stat(self.path(f"it/cells/{it}/table.csv")).st_mtime_ns, when, "a cell that was there was served again")
 
+    def test_ended_behind_the_table(self):
+        """Ended when a table was whole and its load and image were not yet removed, a cell is not served again, and they go."""
+        self.sweep("it", configs=["small.toml"])
+        cell, joined = self.path("it/cells/small.cold.1"), self.read("it/table.csv")
+        when = os.stat(f"{cell}/table.csv").st_mtime_ns
+        self.passes("load", "uniform", f"{cell}/load", "--blocks", 100, "--commands", 300, "--seed", 1)
+        for it in ("drive.toml", "image", "lock"):
+            self.write(f"it/cells/small.cold.1/{it}", "left")
+        self.sweep("it", configs=["small.toml"])
+        self.assertEqual(os.listdir(cell), ["table.csv"])
+        self.assertEqual(os.stat(f"{cell}/table.csv").st_mtime_ns, when)
+        self.assertEqual(self.read("it/table.csv"), joined)
+
     def tables(self):
         folder = self.path("it/cells")
         return sorted(it for it in (os.listdir(folder) if os.path.isdir(folder) else []) if os.path.exists(f"{folder}/{it}/table.csv"))
