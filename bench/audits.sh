@@ -1,7 +1,8 @@
 #!/bin/sh
-# Audits records: each example of examples/ has to be judged right as it is recorded on a new image; of the record of a load with relocation, of some 2,000 lines, each text with a line taken away,
-# doubled, changed over with the next, or with one digit changed is to be refused, with status 13 or 14. Then it shows what records of about 1, 4 and 16 megabytes take. It takes the program that
-# ./fdpdrive runs.
+# Audits records: each example of examples/ has to be judged right as it is recorded on a new image, and so have the records of all of them over one image; those with one left out, with two changed
+# over, or with one twice are to be refused. Of the record of a load with relocation, of some 2,000 lines, each text with a line taken away, doubled, changed over with the next, or with one digit changed
+# is to be refused, with status 13 or 14; and so is each such text of a second load over the same image, behind the record of the first. Then it shows what records of about 1, 4 and 16 megabytes
+# take. It takes the program that ./fdpdrive runs.
 # Usage: bench/audits.sh [STEP]: of the wrong texts each STEP-th, all of them if not given. The last line counts the texts; where one was judged otherwise, the status is 1.
 #
 # A digit may be changed so that the record is right all the same, as where a moment is changed that nothing fixes: such texts are counted as let through, and shown.
@@ -40,6 +41,31 @@ for trace in "$top"/examples/*.trace; do
 done
 echo "examples: $passed judged right, $failed refused"
 
+# whether these records are judged as they are to be
+judged() {
+    wanted=$1
+    shift
+    status=0
+    "$program" audit "$top/examples/drive-t.toml" "$@" > said 2> /dev/null || status=$?
+    if [ "$status" = "$wanted" ]; then passed=$((passed + 1)); else failed=$((failed + 1)); echo "status $status in place of $wanted: $*: $(cat said)"; fi
+}
+
+rm -f image
+count=0
+for trace in "$top"/examples/*.trace; do
+    case $trace in
+    */large.trace) ;;
+    *) count=$((count + 1)) && "$program" record "$top/examples/drive-t.toml" image "$trace" > "$count.record" ;;
+    esac
+done
+judged 0 $(seq -f %g.record "$count")
+for one in $(seq "$count"); do
+    judged 0 $(seq -f %g.record "$one")
+    judged 13 $(seq -f %g.record "$one") "$one.record"
+    if [ "$one" -gt 1 ]; then judged 13 "$one.record"; fi
+done
+echo "examples over one image: $count records, $failed judged otherwise"
+
 cat > drive.toml << 'END'
 block = 512
 unit_pages = 8
@@ -58,29 +84,41 @@ namespaces = [{ blocks = 80, handles = [0, 1] }]
 END
 load 110 1 80 > one.trace
 load 110 2 80 > two.trace
+
+# audits each wrong text of a record, behind those before it
+wrong() {
+    through=0
+    rm -rf texts
+    mkdir texts
+    python3 "$top/bench/audits.py" record texts | awk -v step="$step" 'NR % step == 0' > list
+    while read -r name what number; do
+        status=0
+        "$program" audit drive.toml "$@" "$name" > said 2> /dev/null || status=$?
+        case $status in
+        13 | 14) passed=$((passed + 1)) ;;
+        0) through=$((through + 1)); echo "let through: line $number $what: $(sed -n "${number}p" "$name")" ;;
+        *) failed=$((failed + 1)); echo "status $status: line $number $what" ;;
+        esac
+    done < list
+    echo "wrong texts of a record of $(wc -l < record) lines: $through of $(wc -l < list) were let through"
+}
+
 rm -f image
 "$program" record drive.toml image one.trace two.trace > record
 "$program" audit drive.toml record
-mkdir texts
-through=0
-python3 "$top/bench/audits.py" record texts | awk -v step="$step" 'NR % step == 0' > list
-while read -r name what number; do
-    status=0
-    "$program" audit drive.toml "$name" > said 2> /dev/null || status=$?
-    case $status in
-    13 | 14) passed=$((passed + 1)) ;;
-    0) through=$((through + 1)); echo "let through: line $number $what: $(sed -n "${number}p" "$name")" ;;
-    *) failed=$((failed + 1)); echo "status $status: line $number $what" ;;
-    esac
-done < list
-echo "wrong texts of a record of $(wc -l < record) lines: $through of $(wc -l < list) were let through"
+wrong
+mv record before
+load 40 3 80 > one.trace
+load 40 4 80 > two.trace
+"$program" record drive.toml image one.trace two.trace > record
+"$program" audit drive.toml before record
+wrong before
 
-sed -e 's/^unit_pages.*/unit_pages = 64/' -e 's/^units.*/units = 64/' -e 's/^block = .*/block = 4096/' -e 's/^namespaces.*/namespaces = [{ blocks = 6000, handles = [0, 1] }]/' drive.toml > wide.toml
-for commands in 1500 6000 8192; do
-    load "$commands" 1 6000 > one.trace
-    load "$commands" 2 6000 > two.trace
-    rm -f image
-    "$program" record wide.toml image one.trace two.trace > record
+sed -e 's/^unit_pages.*/unit_pages = 64/' -e 's/^units.*/units = 64/' -e 's/^block = .*/block = 4096/' -e 's/^queues = .*/queues = 7/' -e 's/^namespaces.*/namespaces = [{ blocks = 6000, handles = [0, 1] }]/' drive.toml > wide.toml
+for size in "2 2200" "4 3600" "7 7250"; do
+    rm -f image ./*.trace
+    for queue in $(seq "${size% *}"); do load "${size#* }" "$queue" 6000 > "$queue.trace"; done
+    "$program" record wide.toml image ./*.trace > record
     began=$(date +%s%N)
     "$program" audit wide.toml record
     ended=$(date +%s%N)

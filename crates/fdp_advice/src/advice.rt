@@ -25,7 +25,7 @@ pub fn advise<R: Files<File = File> + Eprint>(rt: &R, alloc: Global, line: &str,
     drop(eprintln!(rt; "fdpdrive: {advice}"));
 }
 
-/// The word of this number, counted from 0: the form of a run, its configuration, its image, and then its traces.
+/// The word of this number, counted from 0: the form of a run, its configuration, its image, and then its traces; or `audit`, a configuration, and then the records.
 fn word_at(words: &[String], number: usize) -> &str {
     match words.get(number) {
         Some(word) => word.as_str(),
@@ -138,7 +138,7 @@ fn write_trace<W: fmt::Write>(
     let Some((number, kind)) = cause.split_once(' ') else {
         return f.write_str(cause);
     };
-    let name = name_of(words, number);
+    let name = name_behind(words, 2, number);
     match kind {
         "queue" => {
             let text = text_of(words);
@@ -159,10 +159,10 @@ fn write_trace<W: fmt::Write>(
     }
 }
 
-/// The name of the trace or the stream of this number, from 1.
-fn name_of<'a>(words: &'a [String], number: &str) -> &'a str {
+/// The name of the text of this number, from 1: the first stands behind the word of this place.
+fn name_behind<'a>(words: &'a [String], place: usize, number: &str) -> &'a str {
     match number.parse::<usize>() {
-        Ok(number) => word_at(words, number.saturating_add(2)),
+        Ok(number) => word_at(words, number.saturating_add(place)),
         Err(_) => "",
     }
 }
@@ -184,7 +184,7 @@ fn write_stream<W: fmt::Write>(
     let Some((number, kind)) = cause.split_once(' ') else {
         return f.write_str(cause);
     };
-    let name = name_of(words, number);
+    let name = name_behind(words, 2, number);
     match kind {
         "absent" => write!(
             f,
@@ -220,7 +220,7 @@ fn write_record<W: fmt::Write>(
     words: &[String],
     cause: &str,
 ) -> fmt::Result {
-    let name = word_at(words, 2);
+    let (name, cause) = record_told(words, cause, 1);
     match cause {
         "absent" => write!(f, "the record `{name}` is not there: name a file that is"),
         "long" => write!(
@@ -234,21 +234,53 @@ fn write_record<W: fmt::Write>(
     }
 }
 
-/// What is wrong with a record: an entry of its history, or its output.
+/// The name of the record that a fault is of, and what is told of it, in so many words: where several records are given, the number of this one stands in front.
+fn record_told<'a>(words: &'a [String], cause: &'a str, told: usize) -> (&'a str, &'a str) {
+    match cause.split_once(' ') {
+        Some((number, rest)) if cause.split(' ').count() > told => {
+            (name_behind(words, 1, number), rest)
+        }
+        _ => (word_at(words, 2), cause),
+    }
+}
+
+/// What is wrong with a record: an entry of its history, its output, or the run behind it.
 fn write_verdict<W: fmt::Write>(
     f: &mut fmt::Formatter<W>,
     words: &[String],
     cause: &str,
 ) -> fmt::Result {
-    let name = word_at(words, 2);
     match cause.split_once(' ') {
-        Some(("output", line)) => write!(
-            f,
-            "line {line} of `{name}` is not that of the output that its history gives: docs/AUDIT.md says what is compared"
-        ),
-        Some((_, entry)) => write_entry(f, name, entry),
-        None => f.write_str(cause),
+        Some(("output", line)) => {
+            let (name, line) = record_told(words, line, 1);
+            write!(
+                f,
+                "line {line} of `{name}` is not that of the output that its history gives: docs/AUDIT.md says what is compared"
+            )
+        }
+        Some(("lost", entry)) => write_lost(f, words, entry),
+        Some(("audit", entry)) => {
+            let (name, entry) = record_told(words, entry, 2);
+            write_entry(f, name, entry)
+        }
+        _ => f.write_str(cause),
     }
+}
+
+/// What is wrong between two records: a change that the first tells, by its number and the position of the entry.
+fn write_lost<W: fmt::Write>(
+    f: &mut fmt::Formatter<W>,
+    words: &[String],
+    cause: &str,
+) -> fmt::Result {
+    let Some((number, at)) = cause.split_once(' ') else {
+        return f.write_str(cause);
+    };
+    let (name, next) = (name_behind(words, 1, number), name_behind(words, 2, number));
+    write!(
+        f,
+        "`{name}` tells that the change at entry {at} was completed, and the run of `{next}` does not go on from it: docs/AUDIT.md has what may be lost"
+    )
 }
 
 /// What is wrong with an entry: the position that is due, and the rule under which the entry falls.

@@ -39,6 +39,9 @@ const HELP: &str = "./fdpdrive help tells the forms";
 /// Traces or streams of a run, and the words in front of them.
 const MOST_WORDS: usize = 18;
 
+/// Records of an audit, and the word in front of them.
+const MOST_AUDIT_WORDS: usize = 17;
+
 fn is_option(word: &String) -> bool {
     word.as_bytes().starts_with(b"-")
 }
@@ -87,8 +90,10 @@ fn write_audit<W: fmt::Write>(f: &mut fmt::Formatter<W>, words: &[String]) -> fm
     match words {
         [] => f.write_str("a configuration is wanting behind `audit`")?,
         [config] => write!(f, "a record is wanting behind `{config}`")?,
-        [_, _, word, ..] => write!(f, "the word `{word}` is one too many")?,
-        _ => f.write_str("the words have no form")?,
+        _ => match words.get(MOST_AUDIT_WORDS) {
+            Some(word) => write!(f, "the word `{word}` is one too many")?,
+            None => f.write_str("the words have no form")?,
+        },
     }
-    f.write_str("\nusage: fdpdrive audit CONFIG RECORD")
+    f.write_str("\nusage: fdpdrive audit CONFIG RECORD .. (one to sixteen records)")
 }

@@ -10,8 +10,8 @@ use Rattle.fdp_rules.specs.Legal.{IsLegal, IsLegalAfter}
 use Rattle.fdp_rules.specs.Step.{IsStep}
 use Rattle.fdp_rules.proofs.Pushes.{legal-push}
 use Rattle.fdp_audit.specs.Audit.{IsIllegal, IsWrongNext, behind, first_position, placed_from}
-use Rattle.fdp_audit.specs.declared.fault.AuditFault.{AuditFault}
-use Rattle.fdp_audit.specs.declared.fault.AuditFault.TheVariants as faults
+use Rattle.fdp_audit.specs.declared.fault.RunFault.{RunFault}
+use Rattle.fdp_audit.specs.declared.fault.RunFault.TheVariants as faults
 use Rattle.fdp_audit.specs.Steps.{IsIllegalIn, IsRefusedNext}
 
 -- one entry more
@@ -134,7 +134,7 @@ one-taken start xs n old new due position e h low is same step news =
       legal = legal-push true start.config (found_of start) old.entries e h.legal (step-behind start old e h.run_is step);
     })
 
-list-cut : {A : Type 0} (xs : List A) (n : ℕ) (d : A) → n < length xs → xs ≡ take n xs ++ get_or xs n d ∷ drop (n + 1) xs
+pub list-cut : {A : Type 0} (xs : List A) (n : ℕ) (d : A) → n < length xs → xs ≡ take n xs ++ get_or xs n d ∷ drop (n + 1) xs
 list-cut [] n d low = absurd (omega (arith, low))
 list-cut (x ∷ xs) zero d low = refl
 list-cut {A} (x ∷ xs) (suc n) d low =
@@ -153,7 +153,7 @@ wrong-here start xs n run due x why h low is wrong = record {
   wrong = wrong;
 }
 
-pub wrong-next : (start : Run) (xs : List (ℕ × Entry)) (n : ℕ) (run : Run) (due position : ℕ) (e : Entry) (fault : AuditFault) → AreTaken start xs n run due → n < length xs → ◌≡◌ {A = ℕ × Entry} (position, e) (get_or xs n (position, e))
+pub wrong-next : (start : Run) (xs : List (ℕ × Entry)) (n : ℕ) (run : Run) (due position : ℕ) (e : Entry) (fault : RunFault) → AreTaken start xs n run due → n < length xs → ◌≡◌ {A = ℕ × Entry} (position, e) (get_or xs n (position, e))
     → IsRefusedNext run due position e fault → IsIllegalIn start xs fault
 wrong-next start xs n run due position e (faults.Line line) h low is bad = absurd bad
 wrong-next start xs n run due position e (faults.Illegal at why) h low is (inl other) =
@@ -165,6 +165,7 @@ wrong-next start xs n run due position e (faults.Illegal at why) h low is (inr s
     subst (λ (k : ℕ). IsIllegal start xs k why) (sym place)
     (wrong-here start xs n run due (position, e) why h low is (inr (omega (arith, step.0, h.due_is, h.count), subst (λ (k : ℕ). IsNoStep (behind start run.entries) e k why) bad.position bad)))
 wrong-next start xs n run due position e (faults.Output line) h low is bad = absurd bad
+wrong-next start xs n run due position e (faults.Lost at) h low is bad = absurd bad
 wrong-next start xs n run due position e faults.NoMemory h low is bad = tt
 
 pub all-taken : (start : Run) (xs : List (ℕ × Entry)) (n : ℕ) (run : Run) (due : ℕ) → start.entries ≡ [] → length xs ≤ n → AreTaken start xs n run due → xs ≡ placed_from (next_position start) run.entries

@@ -1,4 +1,4 @@
--- What an audit says of a text.
+-- What an audit says of one text.
 use Rattle.std.proofs.Common.{◌≡◌, ℕ, suc, ◌+◌, ◌^◌, ◌<◌, ◌≤◌, List, [], ◌∷◌, ◌++◌, length, refl, sym, ap, ap₂, subst, ◌∙◌, arith, take, Bool, true, false, ◌&&◌, nat_lt, if◌then◌else◌, Option, None, Some, Result, Ok, Err}
 use Rattle.std.specs.List.{All}
 use Rattle.std.specs.Option.{option_map_or}
@@ -22,11 +22,11 @@ use Rattle.fdp_reader.specs.declared.record.Printed.{Printed}
 use Rattle.fdp_reader.specs.Record.{GivesRecord, IsPrinted, IsRecord, IsRecordCause}
 use Rattle.fdp_plain.specs.Run.{Run, found_of, next_position}
 use Rattle.fdp_reader.proofs.Walking.{some-one}
-use Rattle.fdp_rules.specs.History.{Found, fresh}
+use Rattle.fdp_rules.specs.History.{Found}
 use Rattle.fdp_rules.specs.Legal.{IsLegal}
-use Rattle.fdp_audit.specs.declared.fault.AuditFault.{AuditFault}
-use Rattle.fdp_audit.specs.declared.fault.AuditFault.TheVariants as faults
-use Rattle.fdp_audit.specs.Audit.{IsAudited, IsFirstOther, IsIllegal, IsRecordFrom, behind, first_position, first_run, placed_from}
+use Rattle.fdp_audit.specs.declared.fault.RunFault.{RunFault}
+use Rattle.fdp_audit.specs.declared.fault.RunFault.TheVariants as faults
+use Rattle.fdp_audit.specs.Audit.{IsFirstOther, IsIllegal, IsRecordFrom, behind, first_position, placed_from}
 use Rattle.fdp_audit.specs.Steps.{IsIllegalIn, IsOtherOutput, IsRecordOfRun, IsVerdict, of_record}
 use Rattle.fdp_audit.proofs.Judging.{legal-not-wrong, placed-one, some-head}
 use Rattle.fdp_audit.proofs.Outputs.{output-form}
@@ -71,6 +71,28 @@ from-record start text es small room a =
       told = told-placed c first es few a.told;
       text_is = is ∙ ap (λ (t : List ℕ). out ++ t) (sym (history-is c.block first es));
     }
+
+-- it has no more entries than bytes
+pub record-few : (start : Run) (text : List ℕ) (es : List Entry) → IsRecordFrom start text es → length es ≤ length text
+unfolding record_of
+record-few start text es a =
+    let c = start.config in
+    let position = (found_of start).totals.position + 1 in
+    let out = output_of c (found_of start) a.traces es in
+    omega (arith, few-entries c.block position es, ap (λ (t : List ℕ). length t) a.text_is, length-append out (history_text c.block position es))
+
+-- the same of any entries that are printed
+few-printed : (block : ℕ) (xs : List (ℕ × Entry)) → length xs ≤ length (printed block xs)
+few-printed block [] = omega arith
+few-printed block (x ∷ xs) =
+    let rest = few-printed block xs in
+    let some = long-line (spaced (decimal x.0 ∷ entry_words x.1)) (entry_data block x.1) in
+    omega (arith, rest, some, length-append (entry_lines block x.0 x.1) (printed block xs))
+
+pub few-read : (c : DriveConfig) (text : List ℕ) (p : Printed) → IsPrinted c text p → length p.entries.items ≤ length text
+few-read c text p read =
+    let is = ap (λ (t : List ℕ). length t) read.record_is.text_is in
+    omega (arith, is, few-printed c.block p.entries.items, length-append read.output (printed c.block p.entries.items))
 
 -- ---- how many queues an output has
 
@@ -182,13 +204,14 @@ module _ (start : Run) (text : List ℕ) (small : length text < 2 ^ 64) (room : 
   read-yes : (p : Printed) → IsReadAs (Ok p) → (es : List Entry) → (a : IsRecordFrom start text es) → GivesRecord a.traces (output_of c f a.traces es) (placed_from first es) (Ok p)
   read-yes p only es a = only a.traces (output_of c f a.traces es) (placed_from first es) (from-record start text es small room a)
 
-  pub judged-no : (run : Run) (p : Printed) → IsPrinted c text p → IsReadAs (Ok p) → (fault : AuditFault) → IsIllegalIn start p.entries.items fault → IsVerdict start text run (Err fault)
+  pub judged-no : (run : Run) (p : Printed) → IsPrinted c text p → IsReadAs (Ok p) → (fault : RunFault) → IsIllegalIn start p.entries.items fault → IsVerdict start text run (Err fault)
   judged-no run p read only (faults.Line line) bad = absurd bad
   judged-no run p read only (faults.Illegal at why) bad = (
     record { traces = p.traces; output = read.output; entries = p.entries.items; record_is = read.record_is; illegal = bad },
     λ es a. legal-not-wrong start es at why a.legal (subst (λ (xs : List (ℕ × Entry)). IsIllegal start xs at why) (read-yes p only es a).2 bad),
   )
   judged-no run p read only (faults.Output line) bad = absurd bad
+  judged-no run p read only (faults.Lost at) bad = absurd bad
   judged-no run p read only faults.NoMemory bad = (tt, λ es a. tt)
 
   module _ (p : Printed) (read : IsPrinted c text p) (only : IsReadAs (Ok p)) (run : Run) (is : run ≡ behind start run.entries) (whole : p.entries.items ≡ placed_from first run.entries) (legal : IsLegal true c f run.entries) where
@@ -203,7 +226,7 @@ module _ (start : Run) (text : List ℕ) (small : length text < 2 ^ 64) (room : 
     own-output = ap (λ (r : Run). output_of r.config (found_of r) p.traces run.entries) is
 
     -- it has the output that was cut off
-    pub compared-no : (fault : AuditFault) → IsOtherOutput run p.traces read.output fault → IsVerdict start text run (Err fault)
+    pub compared-no : (fault : RunFault) → IsOtherOutput run p.traces read.output fault → IsVerdict start text run (Err fault)
     compared-no (faults.Line line) bad = absurd bad
     compared-no (faults.Illegal at why) bad = absurd bad
     compared-no (faults.Output line) bad =
@@ -216,6 +239,7 @@ module _ (start : Run) (text : List ℕ) (small : length text < 2 ^ 64) (room : 
               (sym read.count ∙ given.1) (sym read.record_is.text_is ∙ (from-record start text es small room a).text_is) in
               other.differ (front ∙ ap₂ (λ (n : ℕ) (ds : List Entry). output_of c f n ds) (sym given.0) (sym same)),
         )
+    compared-no (faults.Lost at) bad = absurd bad
     compared-no faults.NoMemory bad = (tt, λ es a. tt)
 
     pub compared-yes : 1 ≤ c.queues → read.output ≡ output_of run.config (found_of run) p.traces run.entries → IsRecordOfRun start text run
@@ -226,23 +250,9 @@ module _ (start : Run) (text : List ℕ) (small : length text < 2 ^ 64) (room : 
     }
 
     -- so the comparison ends the audit
-    pub compared : 1 ≤ c.queues → (result : Result (Unit {0}) AuditFault) → OnOk result (read.output ≡ output_of run.config (found_of run) p.traces run.entries) → IfErr result (IsOtherOutput run p.traces read.output) → IsVerdict start text run result
+    pub compared : 1 ≤ c.queues → (result : Result (Unit {0}) RunFault) → OnOk result (read.output ≡ output_of run.config (found_of run) p.traces run.entries) → IfErr result (IsOtherOutput run p.traces read.output) → IsVerdict start text run result
     compared some (Ok done) same other = compared-yes some same
     compared some (Err fault) same other = compared-no fault other
-
--- ---- the first run
-
--- the verdict on the first run is that of the audit
-pub first-yes : (c : DriveConfig) (text : List ℕ) (run : Run) → IsRecordOfRun (first_run c) text run → IsAudited c text (length run.entries)
-first-yes c text run v = record { es = run.entries; record_is = v.record_is; count_is = refl }
-
-pub first-one : (c : DriveConfig) (text : List ℕ) (run : Run) (count : ℕ) → IsRecordOfRun (first_run c) text run → IsAudited c text count → length run.entries ≡ count
-first-one c text run count v a = ap (λ (es : List Entry). length es) (v.one a.es a.record_is) ∙ sym a.count_is
-
--- its entries have the positions from 1 on
-pub first-place : (c : DriveConfig) → next_position (first_run c) ≡ 1
-unfolding fresh
-first-place c = refl
 
 -- a run that has no entry yet begins with the next position
 pub begins-next : (start : Run) → start.entries ≡ [] → first_position start ≡ next_position start

@@ -1,64 +1,47 @@
-//! The audit of a record.
+//! The audit of one record.
 
-ghost use Rattle.std.specs.Prelude.{◌≡◌, ◌≢◌, ℕ, [], IfErr, IfOk, List, Ok, OnOk, bytes_eq};
+ghost use Rattle.std.specs.Prelude.{◌≡◌, ◌≢◌, ℕ, ◌+◌, ◌<◌, ◌^◌, [], IfErr, IfOk, List, Ok, OnOk, bytes_eq, length};
 ghost use Rattle.fdp_base.specs.declared.entry.Entry.{Entry};
 ghost use Rattle.fdp_base.specs.Config.{IsValidConfig};
 ghost use Rattle.fdp_output.specs.RunOutput.{output_of};
 ghost use Rattle.fdp_plain.specs.Run.{found_of, next_position};
 ghost use Rattle.fdp_reader.specs.Record.{GivesRecord, IsPrinted, IsRecord};
-ghost use Rattle.fdp_audit.specs.Audit.{GivesYes, IsAuditCause, IsAudited, IsFirstOther};
+ghost use Rattle.fdp_audit.specs.Audit.{IsFirstOther};
 ghost use Rattle.fdp_audit.specs.Steps.{IsOtherOutput, IsVerdict};
 
 use crate::due::Due;
-use crate::fault::AuditFault;
+use crate::fault::RunFault;
 use crate::history::judge;
 use crate::told::Told;
-use fdp_base::DriveConfig;
 use fdp_plain::Plain;
 use fdp_printing::{closing_of, print_output};
 use fdp_reader::{Printed, line_at, read_record, same_lines};
 use std::alloc::Global;
 
-/// How many entries the history has of the record of a run on a new image; or why a text is none: it is no record, or its history is no legal
-/// one of a fresh drive of this configuration, or its output is not that of the history. The first of these is told.
+/// Has a plain drive that has no entry of its run yet take the history of a text, if the text is the record of such a run; or tells what is wrong with it: it is no record,
+/// or its history is no legal one, or its output is not that of the history. The first of these is told.
 ///
 /// It prints each entry once, has the plain drive take it, and prints the output once. It takes memory for the entries and for the output.
-pub fn audit(alloc: Global, text: &[u8], config: &DriveConfig) -> Result<u64, AuditFault>
-    requires { IsValidConfig config.now }
-    ensures yes { IfOk result (IsAudited config.now text.now) }
-    ensures cause { IfErr result (IsAuditCause config.now text.now) }
-
-    // No such record is refused, unless memory runs out.
-    ensures only { (count : ℕ) → IsAudited config.now text.now count → GivesYes count result }
-{
-    let mut plain = Plain::new(alloc, config)?;
-    match audit_run(alloc, text, &mut plain) {
-        Ok(()) => Ok(plain.entries().len() as u64),
-        Err(fault) => Err(fault),
-    }
-}
-
-/// Has a plain drive on a new image take the history of a text, if the text is the record of such a run.
-fn audit_run(alloc: Global, text: &[u8], plain: &mut Plain) -> Result<(), AuditFault>
+pub(crate) fn judge_run(alloc: Global, text: &[u8], plain: &mut Plain) -> Result<(), RunFault>
     requires begins { plain.old.entries ≡ [] }
-    requires first { next_position plain.old ≡ 1 }
+    requires room { next_position plain.old + length text.now < 2 ^ 64 }
     ensures { IsVerdict plain.old text.now plain.new result }
 {
     match read_record(alloc, text, plain.config()) {
         Ok(read) => judge_read(alloc, text, plain, read),
-        Err(cause) => Err(AuditFault::from(cause)),
+        Err(cause) => Err(RunFault::from(cause)),
     }
 }
 
 /// What a text comes to that was read as this.
-fn judge_read(
+pub(crate) fn judge_read(
     alloc: Global,
     text: &[u8],
     plain: &mut Plain,
     read: Printed,
-) -> Result<(), AuditFault>
+) -> Result<(), RunFault>
     requires begins { plain.old.entries ≡ [] }
-    requires first { next_position plain.old ≡ 1 }
+    requires room { next_position plain.old + length text.now < 2 ^ 64 }
     requires valid { IsValidConfig plain.old.config }
     requires printed { IsPrinted plain.old.config text.now read }
     requires only { (traces : ℕ) (output : List ℕ) (entries : List (ℕ × Entry)) → IsRecord plain.old.config text.now traces output entries → GivesRecord traces output entries (Ok read) }
@@ -76,7 +59,7 @@ fn judge_read(
 }
 
 /// Whether this is the output of so many queues that the history of a drive gives, or the first line that differs.
-fn compare(alloc: Global, plain: &Plain, traces: u8, output: &[u8]) -> Result<(), AuditFault>
+fn compare(alloc: Global, plain: &Plain, traces: u8, output: &[u8]) -> Result<(), RunFault>
     ensures same { OnOk result (output.now ≡ output_of plain.now.config (found_of plain.now) traces plain.now.entries) }
     ensures other { IfErr result (IsOtherOutput plain.now traces output.now) }
 {
@@ -84,15 +67,15 @@ fn compare(alloc: Global, plain: &Plain, traces: u8, output: &[u8]) -> Result<()
     if is_same(output, &due) {
         return Ok(());
     }
-    Err(AuditFault::Output {
+    Err(RunFault::Output {
         line: first_other(output, &due),
     })
 }
 
 /// The output of so many queues that the history of a drive gives.
-fn output_due(alloc: Global, plain: &Plain, traces: u8) -> Result<Vec<u8>, AuditFault>
+fn output_due(alloc: Global, plain: &Plain, traces: u8) -> Result<Vec<u8>, RunFault>
     ensures due { IfOk result (λ text. text.items ≡ output_of plain.now.config (found_of plain.now) traces plain.now.entries) }
-    ensures memory { IfErr result (λ fault. fault ≡ AuditFault.NoMemory) }
+    ensures memory { IfErr result (λ fault. fault ≡ RunFault.NoMemory) }
 {
     let closing = closing_of(alloc, &Told { plain })?;
     let mut due = Due::new(alloc);
@@ -105,7 +88,7 @@ fn output_due(alloc: Global, plain: &Plain, traces: u8) -> Result<Vec<u8>, Audit
         &mut due,
     ) {
         Ok(()) => Ok(due.text),
-        Err(_) => Err(AuditFault::NoMemory),
+        Err(_) => Err(RunFault::NoMemory),
     }
 }
 

@@ -1,5 +1,5 @@
 -- What is printed of a run on a new image is audited yes.
-use Rattle.std.proofs.Common.{◌≡◌, ◌⊎◌, ◌∙◌, ℕ, ◌-◌, ◌<◌, ◌≤◌, All, Bool, true, false, IsTrue, List, [], ◌∷◌, Option, Some, None, get_or, length, refl, sym, ap, subst, arith, ⊎_elim}
+use Rattle.std.proofs.Common.{◌≡◌, ◌∙◌, ℕ, ◌-◌, ◌<◌, ◌≤◌, All, Bool, true, false, IsTrue, List, [], ◌∷◌, Option, Some, None, length, refl, sym, ap, subst, arith, ⊎_elim}
 use Rattle.std.specs.Prelude.{String, ⊤, IfSome, if◌then◌else◌, bytes_eq, codes, map, nat_le, option_map, string_bytes}
 use Rattle.std.specs.List.{AllByRecursion, AllZip, list_any}
 use Rattle.std.specs.declared.alloc.Global.{Global}
@@ -7,10 +7,10 @@ use Rattle.std.proofs.lemmas.Bool.{cases_lt}
 use Rattle.std.proofs.lemmas.List.{get_or_past}
 use Rattle.std.proofs.lemmas.List.Elements.{All-from_recursion, All-nil}
 use Rattle.std.proofs.lemmas.Slice.Zip.{AllZip-long}
-use Rattle.fdp_audit.specs.Audit.{IsAudited}
+use Rattle.fdp_audit.specs.Audit.{IsAudited, behind, first_run}
+use Rattle.fdp_audit.proofs.Following.{first-count}
 use Rattle.fdp_base.specs.declared.command.Command.{Command}
 use Rattle.fdp_base.specs.declared.config.DriveConfig.{DriveConfig}
-use Rattle.fdp_base.specs.declared.config.Geometry.{Geometry}
 use Rattle.fdp_base.specs.declared.entry.Entry.{Entry}
 use Rattle.fdp_base.specs.Geometry.{IsValidGeometry, all_pages}
 use Rattle.fdp_base.specs.Placement.{geometry_of}
@@ -20,9 +20,8 @@ use Rattle.fdp_drive.specs.fdp_crews.Crews.{trace_of}
 use Rattle.fdp_drive.specs.Session.{StartsTheirs}
 use Rattle.fdp_finding.specs.declared.asked.Form.TheVariants as forms
 use Rattle.fdp_finding.specs.declared.asked.Texts.TheVariants as texts
-use Rattle.fdp_finding.specs.Asked.{Asked, Load, Names, asked_by, asked_of, audit_of, auditing, begins_with_dash, chosen_by, load_of, making, names_of, recording, recording_streams, running, streaming}
-use Rattle.fdp_finding.specs.Traced.{ReadsTrace}
-use Rattle.fdp_finding.specs.Wanted.{Finds, HasTexts, ReadsCommands, session}
+use Rattle.fdp_finding.specs.Asked.{Asked, Names, asked_by, asked_of, audit_of, auditing, begins_with_dash, chosen_by, load_of, making, names_of, recording, recording_streams, running, streaming}
+use Rattle.fdp_finding.specs.Wanted.{Finds, ReadsCommands, session}
 use Rattle.fdp_finding.specs.declared.asked.TheConstants.{MOST_TRACES}
 use Rattle.fdp_flash.specs.FlashState.{FlashState, IsWellFormed}
 use Rattle.fdp_image.specs.Areas.{current_area}
@@ -35,7 +34,7 @@ use Rattle.fdp_saving.proofs.Beginning.{blank_current}
 use Rattle.fdp_told.specs.Spelled.{ServesSpelled}
 use Rattle.fdp_told.proofs.Commands.{given-legal, traces-spelled}
 use Rattle.fdp_told.proofs.Entries.{told-legal}
-use Rattle.fdp_cli.specs.Session.{HasOwnMoments, IsRecordOf, IsRun}
+use Rattle.fdp_cli.specs.Session.{HasOwnMoments, IsRecordOf}
 
 -- ---- the traces
 
@@ -118,7 +117,7 @@ begins-fresh state c handed old formed made loaded = ⊎_elim
 
 pub audited-yes : (F : Type 0) (state : F → FlashState) (bench : BenchState) (words : List (String Global)) (c : DriveConfig) (image : List ℕ) (traces : List (List Command)) (handed given : F) (f : Found) (es : List Entry)
     → IsTrue bench.told → Finds bench words (session forms.Record c image traces) → IsWellFormed (state handed) → IsMadeFlash (geometry_of c) (state handed)
-    → IsRecordOf state c traces handed given f es → HasOwnMoments (state given) es → IsAudited c (record_of c f (length traces) es) (length es)
+    → IsRecordOf state c traces handed given f es → HasOwnMoments (state given) es → IsAudited c (record_of c f (length traces) es ∷ []) (length es)
 audited-yes F state bench words c image traces handed given f es told finds formed made recorded moments =
     let run = recorded.run in
     let found = finds.found in
@@ -137,14 +136,20 @@ audited-yes F state bench words c image traces handed given f es told finds form
     subst (λ (d : DriveConfig). StartsTheirs d traces es) config (subst (λ (xs : List Entry). StartsTheirs run.new.book.config traces xs) run.entries_are run.served.starts) in
     let spelled = all-spelled c.block bench finds.names.traces traces told found.commands in
     let serves : ServesSpelled c (trace_of traces) es = record { orders = run.orders; starts = starts; spelled = spelled-trace traces spelled } in
+    let first = behind (first_run c) es in
     record {
-      es = es;
-      record_is = record {
-        traces = length traces;
-        queues = (omega (arith, one, same-many), omega (arith, found.queued, same-many));
-        told = told-legal c es found.valid legal run.ranged (given-legal true c (fresh c) (trace_of traces) es legal run.ranged serves);
-        legal = legal;
-        text_is = ap (λ (g : Found). record_of c g (length traces) es) fresh-is;
+      first = first;
+      first_is = record {
+        first_is = refl;
+        record_is = record {
+          traces = length traces;
+          queues = (omega (arith, one, same-many), omega (arith, found.queued, same-many));
+          told = told-legal c es found.valid legal run.ranged (given-legal true c (fresh c) (trace_of traces) es legal run.ranged serves);
+          legal = legal;
+          text_is = ap (λ (g : Found). record_of c g (length traces) es) fresh-is;
+        };
       };
-      count_is = refl;
+      last = first;
+      follow = refl;
+      count_is = first-count c es;
     }

@@ -100,29 +100,30 @@ OnImage state bench bench' c image Ends old new status =
     ⊎ (KeepsFlash bench bench' refusals.Failed × Refuses old new faults.Flash status)
     ⊎ (KeepsFlash bench bench' refusals.NoMemory × (status ≡ 7) × (new ≡ old))
 
--- ---- over a record
+-- ---- over records
 
 -- that a history of so many entries is right was printed (0); or a write of the sink failed (8)
 abbrev pub SaysYes : ℕ → SinkState → SinkState → ℕ → Type 0
 SaysYes count old new status = ((status ≡ 0) × Holds old new (yes_text count)) ⊎ ((status ≡ 8) × HoldsFront old new (yes_text count))
 
--- a text is not such a record, and the line of the first cause was printed (13, 14 or 8); or memory was wanting (7), and only then may it be one
-pub record SaysNo (c : DriveConfig) (text : List ℕ) (old new : SinkState) (status : ℕ) : Type 0 where
+-- texts are not such records, and the line of the first cause was printed (13, 14 or 8); or memory was wanting (7), and only then may they be
+pub record SaysNo (c : DriveConfig) (texts : List (List ℕ)) (old new : SinkState) (status : ℕ) : Type 0 where
   pub fault : AuditFault
-  pub cause : IsAuditCause c text fault
-  pub none : (count : ℕ) → IsAudited c text count → GivesYes count (Err fault)
-  pub refused : Refuses old new (of_audit fault) status
+  pub cause : IsAuditCause c texts fault
+  pub none : (count : ℕ) → IsAudited c texts count → GivesYes count (Err fault)
+  pub refused : Refuses old new (of_audit (length texts) fault) status
 
--- a text is the record of a legal history of a fresh drive of this configuration, and its number of entries was printed; or it is none
-abbrev pub Audits : DriveConfig → List ℕ → SinkState → SinkState → ℕ → Type 0
-Audits c text old new status = ((count : ℕ) × IsAudited c text count × SaysYes count old new status) ⊎ SaysNo c text old new status
+-- texts are the records of runs that followed one another on one image, the first of them on a new one, of a drive of this configuration, and the number of entries of
+-- the history behind them was printed; or they are not
+abbrev pub Audits : DriveConfig → List (List ℕ) → SinkState → SinkState → ℕ → Type 0
+Audits c texts old new status = ((count : ℕ) × IsAudited c texts count × SaysYes count old new status) ⊎ SaysNo c texts old new status
 
 -- ---- the whole run
 
--- what is done with what was found: the traces of a session are served on its image, and shown in its form; a record is audited, and nothing else is touched
+-- what is done with what was found: the traces of a session are served on its image, and shown in its form; records are audited, and nothing else is touched
 abbrev pub Does : {F : Type 0} → (F → FlashState) → BenchState → BenchState → Sought → SinkState → SinkState → ℕ → Type 0
 Does state bench bench' (session form c image traces) old new status = OnImage state bench bench' c image (EndsRun state form c traces) old new status
-Does state bench bench' (audited c text) old new status = SameFlashes bench bench' × (bench'.faults ≡ bench.faults) × Audits c text old new status
+Does state bench bench' (audited c texts) old new status = SameFlashes bench bench' × (bench'.faults ≡ bench.faults) × Audits c texts old new status
 
 -- what the words ask for was found, and that was done
 abbrev pub FindsAndDoes : {F : Type 0} → (F → FlashState) → BenchState → BenchState → List (String Global) → SinkState → SinkState → ℕ → Type 0

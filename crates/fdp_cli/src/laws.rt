@@ -1,4 +1,4 @@
-ghost use Rattle.std.specs.Prelude.{String, ◌≡◌, ℕ, IsTrue, List, [], length};
+ghost use Rattle.std.specs.Prelude.{String, ◌≡◌, ℕ, IsTrue, List, [], ◌∷◌, length};
 ghost use Rattle.std.specs.declared.alloc.Global.{Global};
 ghost use Rattle.fdp_audit.specs.Audit.{IsAudited};
 ghost use Rattle.fdp_base.specs.declared.command.Command.{Command};
@@ -41,5 +41,5 @@ pub fn a_second_run_opens()
 pub fn a_record_is_audited_yes<F: Flash>()
     ensures { (bench : BenchState) (words : List (String Global)) (c : DriveConfig) (image : List ℕ) (traces : List (List Command)) (handed given : F) (f : Found) (es : List Entry)
         → IsTrue bench.told → Finds bench words (session forms.Record c image traces) → IsWellFormed (F.state handed) → IsMadeFlash (geometry_of c) (F.state handed)
-        → IsRecordOf F.state c traces handed given f es → HasOwnMoments (F.state given) es → IsAudited c (text_of forms.Record c f (length traces) es) (length es) }
+        → IsRecordOf F.state c traces handed given f es → HasOwnMoments (F.state given) es → IsAudited c (text_of forms.Record c f (length traces) es ∷ []) (length es) }
 {}

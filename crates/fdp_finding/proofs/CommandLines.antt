@@ -18,8 +18,9 @@ use Rattle.clap.specs.declared.parser.matches.ArgMatches.{ArgMatches}
 use Rattle.clap.specs.declared.error.kind.ErrorKind.{ErrorKind}
 use Rattle.clap.specs.declared.error.kind.ErrorKind.TheVariants as kinds
 use Rattle.clap.specs.declared.parser.matches.ValueSource.TheVariants.{CommandLine}
-use Rattle.fdp_finding.specs.Asked.{Names, Pair, begins_with_dash, names_of, pair_of}
-use Rattle.fdp_finding.specs.CommandLine.{AreNames, ArePair, bare, one, one_to_sixteen}
+use Rattle.fdp_finding.specs.Asked.{Names, begins_with_dash, names_of}
+use Rattle.fdp_finding.specs.declared.asked.TheConstants.{MOST_TRACES}
+use Rattle.fdp_finding.specs.CommandLine.{AreNames, bare, one, one_to}
 use Rattle.clap.proofs.FaultLemmas.{leaf_fault}
 use Rattle.clap.proofs.WalkLemmas.{both, first_value-rows, raw_values-rows}
 use Rattle.clap.proofs.OnLiterals.{clap_on_literals}
@@ -39,12 +40,12 @@ no_short [] plain = refl
 no_short (x ∷ xs) plain = rw plain refl
 
 -- what waits for a next word: nothing, or a positional that takes several values
-abbrev waits : Bool → Waiting
+abbrev pub waits : Bool → Waiting
 waits false = idle
 waits true = positional
 
 -- between two words
-abbrev between : Held → Bool → ℕ → Walk
+abbrev pub between : Held → Bool → ℕ → Walk
 between h several position = record { held = h; waiting = waits several; position = position; is_trailing = false; stopped = None }
 
 -- such a word is a value of a positional
@@ -68,31 +69,53 @@ no_fault s true word h plain =
     ∙ ap flags (no_long word plain) ∙ ap (λ (o : Option Text). option_map_or (λ f. bundle_fault s.rules s.args_override_self f h) o []) (no_short word plain)
 
 -- so it goes to the positional whose turn it is
-goes_on : (c : List Rule) (several : Bool) (position : ℕ) (word : Text) (h : Held) → begins_with_dash word ≡ false
+pub goes_on : (c : List Rule) (several : Bool) (position : ℕ) (word : Text) (h : Held) → begins_with_dash word ≡ false
     → walked c [] (between h several position) word ≡ to_positional c (arg_by_index c position) word (between h several position) h
 unfolding walked
 goes_on c several position word h plain = ap (λ (met : Held × Step). after_step c word (between h several position) met.0 met.1) (is_value c several position word h plain)
 
-fails_as : (s : Shape) (several : Bool) (position : ℕ) (word : Text) (h : Held) → begins_with_dash word ≡ false
+pub fails_as : (s : Shape) (several : Bool) (position : ℕ) (word : Text) (h : Held) → begins_with_dash word ≡ false
     → turn_fault s [] (between h several position) word ≡ step_fault s position h value
 fails_as s several position word h plain =
     ap₂ (λ (k : Kinds) (met : Held × Step). or_else k (step_fault s position met.0 met.1)) (no_fault s several word h plain) (is_value s.rules several position word h plain)
 
--- ---- the two commands
+abbrev pub Plain : List Text → Type 0
+Plain words = list_any begins_with_dash words ≡ false
+
+pub first_plain : (a b : Bool) → (a || b) ≡ false → a ≡ false
+first_plain true b none = none
+first_plain false b none = refl
+
+pub rest_plain : (a b : Bool) → (a || b) ≡ false → b ≡ false
+rest_plain true b none = absurd (cc)
+rest_plain false b none = none
+
+-- ---- an argument that takes several words, at the end: each is taken behind those before it
+
+module _ (s : Shape) (taken : List Text → Walk) (takes : (t : Text) (ts : List Text) → begins_with_dash t ≡ false → walked s.rules [] (taken ts) t ≡ taken (ts ++ t ∷ [])) where
+  pub walk_several : (ts more : List Text) → Plain more → fold (walked s.rules []) (taken ts) more ≡ taken (ts ++ more)
+  walk_several ts [] none = ap taken (sym (append-nil ts))
+  walk_several ts (t ∷ more) none =
+      ap (λ (w : Walk). fold (walked s.rules []) w more) (takes t ts (first_plain (begins_with_dash t) (list_any begins_with_dash more) none))
+      ∙ walk_several (ts ++ t ∷ []) more (rest_plain (begins_with_dash t) (list_any begins_with_dash more) none) ∙ ap taken (append_assoc ts (t ∷ []) more)
+
+  -- nothing is wrong with one of them
+  pub several_pass : ((t : Text) (ts : List Text) → begins_with_dash t ≡ false → turn_fault s [] (taken ts) t ≡ []) → (ts more : List Text) → Plain more → walk_fault s [] (taken ts) more ≡ []
+  unfolding walk_fault
+  several_pass passes ts [] none = refl
+  several_pass passes ts (t ∷ more) none =
+      let here = first_plain (begins_with_dash t) (list_any begins_with_dash more) none in
+      ap₂ or_else (passes t ts here) (ap (λ (w : Walk). walk_fault s [] w more) (takes t ts here))
+      ∙ several_pass passes (ts ++ t ∷ []) more (rest_plain (begins_with_dash t) (list_any begins_with_dash more) none)
+
+-- ---- the command that has names
 
 abbrev pub names_app : App
-names_app = with_rule (with_rule (with_rule bare (one (codes "CONFIG"))) (one (codes "IMAGE"))) (one_to_sixteen (codes "TRACE"))
-
-abbrev pub pair_app : App
-pair_app = with_rule (with_rule bare (one (codes "FIRST"))) (one (codes "SECOND"))
+names_app = with_rule (with_rule (with_rule bare (one (codes "CONFIG"))) (one (codes "IMAGE"))) (one_to MOST_TRACES (codes "TRACE"))
 
 pub names_simple : is_simple_and_free names_app ≡ true
 unfolding clap_on_literals
 names_simple = refl
-
-pub pair_simple : is_simple_and_free pair_app ≡ true
-unfolding clap_on_literals
-pair_simple = refl
 
 -- ---- names
 
@@ -100,11 +123,11 @@ abbrev shape : Shape
 shape = (built names_app).top
 
 -- what was found for an argument
-abbrev row : Text → List Text → Row
+abbrev pub row : Text → List Text → Row
 row id values = record { id = id; values = values; count = None; source = Some CommandLine; reading = AsWritten }
 
 -- values of an argument that are not used yet, behind what was found
-abbrev pending : List Row → Text → List Text → Held
+abbrev pub pending : List Row → Text → List Text → Held
 pending rows id values = record { rows = rows; pending = Some (id, values); skip = 0 }
 
 walked_config : (c : Text) → begins_with_dash c ≡ false → walked shape.rules [] (walk_from nothing_held) c ≡ between (pending [] (codes "CONFIG") (c ∷ [])) false 2
@@ -127,41 +150,22 @@ walked_trace c i t plain = goes_on shape.rules false 3 t (pending (row (codes "C
 walked_more : (c i t : Text) (ts : List Text) → begins_with_dash t ≡ false → walked shape.rules [] (several c i ts) t ≡ several c i (ts ++ t ∷ [])
 walked_more c i t ts plain = goes_on shape.rules true 3 t (pending (two c i) (codes "TRACE") ts) plain
 
-abbrev Plain : List Text → Type 0
-Plain words = list_any begins_with_dash words ≡ false
-
-first_plain : (a b : Bool) → (a || b) ≡ false → a ≡ false
-first_plain true b none = none
-first_plain false b none = refl
-
-rest_plain : (a b : Bool) → (a || b) ≡ false → b ≡ false
-rest_plain true b none = absurd (cc)
-rest_plain false b none = none
-
--- the walk over traces
+-- the walk over traces, and nothing is wrong with one of them
 walk_traces : (c i : Text) (ts more : List Text) → Plain more → fold (walked shape.rules []) (several c i ts) more ≡ several c i (ts ++ more)
-walk_traces c i ts [] none = ap (several c i) (sym (append-nil ts))
-walk_traces c i ts (t ∷ more) none =
-    ap (λ (w : Walk). fold (walked shape.rules []) w more) (walked_more c i t ts (first_plain (begins_with_dash t) (list_any begins_with_dash more) none))
-    ∙ walk_traces c i (ts ++ t ∷ []) more (rest_plain (begins_with_dash t) (list_any begins_with_dash more) none) ∙ ap (several c i) (append_assoc ts (t ∷ []) more)
+walk_traces c i ts more none = walk_several shape (several c i) (walked_more c i) ts more none
 
--- nothing is wrong with one of them
 traces_pass : (c i : Text) (ts more : List Text) → Plain more → walk_fault shape [] (several c i ts) more ≡ []
-unfolding walk_fault
-traces_pass c i ts [] none = refl
-traces_pass c i ts (t ∷ more) none =
-    let here = first_plain (begins_with_dash t) (list_any begins_with_dash more) none in
-    ap₂ or_else (fails_as shape true 3 t (pending (two c i) (codes "TRACE") ts) here) (ap (λ (w : Walk). walk_fault shape [] w more) (walked_more c i t ts here))
-    ∙ traces_pass c i (ts ++ t ∷ []) more (rest_plain (begins_with_dash t) (list_any begins_with_dash more) none)
+traces_pass c i ts more none =
+    several_pass shape (several c i) (walked_more c i) (λ t ts plain. fails_as shape true 3 t (pending (two c i) (codes "TRACE") ts) plain) ts more none
 
 -- what is wrong behind the walk
-abbrev ends : Shape → Held → Kinds
+abbrev pub ends : Shape → Held → Kinds
 ends s h =
     or_else (settle_fault s.rules s.args_override_self h)
     (or_else (defaults_fault (settled s.rules h).rows s.rules) (check_fault s (finished s.rules h) false))
 
 -- a command whose walk passes fails as it ends
-fails_at_end : (a : App) (words : List Text) (w : Walk) → (built a).subs ≡ [] → a.top.no_binary_name ≡ true → walk (built a).top.rules [] nothing_held words ≡ w
+pub fails_at_end : (a : App) (words : List Text) (w : Walk) → (built a).subs ≡ [] → a.top.no_binary_name ≡ true → walk (built a).top.rules [] nothing_held words ≡ w
     → walk_fault (built a).top [] (walk_from nothing_held) words ≡ [] → fault_of a words ≡ ends (built a).top w.held
 fails_at_end a words w none bare walks passes =
     ap (λ (b : Bool). built_fault (built a) nothing_held (if b then words else drop 1 words)) bare
@@ -169,7 +173,7 @@ fails_at_end a words w none bare walks passes =
     ∙ ap₂ (λ (k : Kinds) (v : Walk). or_else k (ends (built a).top v.held)) passes walks
 
 -- any text is taken as a value
-texts_pass : (ts : List Text) → values_kinds false parsers.String ts ≡ []
+pub texts_pass : (ts : List Text) → values_kinds false parsers.String ts ≡ []
 texts_pass [] = refl
 texts_pass (t ∷ ts) = texts_pass ts
 
@@ -232,7 +236,7 @@ two_names c i first second = inr (record {
       (walk_two c i [] first second) (two_pass c i [] first second);
 })
 
--- ---- how many traces
+-- ---- how many values, where they are one to sixteen
 
 by_tests : Bool → Bool → Bool → Kinds
 by_tests none few many =
@@ -245,6 +249,20 @@ in_range n many is =
     let some : (suc n == 0) ≡ false = grind (arith, nat_tests) in
     let enough : nat_lt (suc n) 1 ≡ false = grind (arith, nat_tests) in
     (λ j. by_tests (some j) (enough j) (is j))
+
+not_more : (n : ℕ) → nat_le (suc n) 16 ≡ true → nat_lt 16 (suc n) ≡ false
+not_more n low = grind (arith, nat_tests, low)
+
+more_than : (n : ℕ) → nat_le (suc n) 16 ≡ false → nat_lt 16 (suc n) ≡ true
+more_than n high = grind (arith, nat_tests, high)
+
+pub few_pass : (n : ℕ) → nat_le (suc n) 16 ≡ true → range_kinds 1 16 (suc n) ≡ []
+unfolding by_tests
+few_pass n low = in_range n false (not_more n low)
+
+pub many_fail : (n : ℕ) → nat_le (suc n) 16 ≡ false → range_kinds 1 16 (suc n) ≡ kinds.TooManyValues ∷ []
+unfolding by_tests
+many_fail n high = in_range n true (more_than n high)
 
 walk_all : (c i t : Text) (ts : List Text) → begins_with_dash c ≡ false → begins_with_dash i ≡ false → begins_with_dash t ≡ false → Plain ts
     → walk shape.rules [] nothing_held (c ∷ i ∷ t ∷ ts) ≡ several c i (t ∷ ts)
@@ -268,18 +286,11 @@ ends_by_range c i t ts = ap (λ k. or_else (or_else (range_kinds 1 16 (suc (leng
 abbrev with_trace : Text → Text → Text → List Text → Names
 with_trace c i t ts = record { config = c; image = i; traces = t ∷ ts }
 
-not_more : (n : ℕ) → nat_le (suc n) 16 ≡ true → nat_lt 16 (suc n) ≡ false
-not_more n low = grind (arith, nat_tests, low)
-
-more_than : (n : ℕ) → nat_le (suc n) 16 ≡ false → nat_lt 16 (suc n) ≡ true
-more_than n high = grind (arith, nat_tests, high)
-
 rows_at_end : (c i t : Text) (ts : List Text) → finished shape.rules (pending (two c i) (codes "TRACE") (t ∷ ts)) ≡ names_rows (with_trace c i t ts)
 rows_at_end c i t ts = refl
 
 traced : (c i t : Text) (ts : List Text) → begins_with_dash c ≡ false → begins_with_dash i ≡ false → begins_with_dash t ≡ false → Plain ts
     → (few : Bool) → nat_le (suc (length ts)) 16 ≡ few → DecidesNames (c ∷ i ∷ t ∷ ts)
-unfolding by_tests
 traced c i t ts first second third rest few is =
     let ended = fails_at_end names_app (c ∷ i ∷ t ∷ ts) (several c i (t ∷ ts)) refl refl (walk_all c i t ts first second third rest) (all_pass c i t ts first second third rest)
     ∙ ends_by_range c i t ts in
@@ -287,14 +298,14 @@ traced c i t ts first second third rest few is =
       | true ↦ λ low. inl (record {
         value = with_trace c i t ts;
         is = ap (λ (b : Bool). if b then Some (with_trace c i t ts) else None) low;
-        passes = ended ∙ ap (λ k. or_else (or_else k []) []) (in_range (length ts) false (not_more (length ts) low));
+        passes = ended ∙ ap (λ k. or_else (or_else k []) []) (few_pass (length ts) low);
         rows = ap (λ (w : Walk). finished shape.rules w.held) (walk_all c i t ts first second third rest) ∙ rows_at_end c i t ts;
       })
       | false ↦ λ high. inr (record {
         none = ap (λ (b : Bool). if b then Some (with_trace c i t ts) else None) high;
         kind = kinds.TooManyValues;
         more = [];
-        fails = ended ∙ ap (λ k. or_else (or_else k []) []) (in_range (length ts) true (more_than (length ts) high));
+        fails = ended ∙ ap (λ k. or_else (or_else k []) []) (many_fail (length ts) high);
       })
     ] is
 
@@ -311,90 +322,6 @@ decides_names (c ∷ i ∷ t ∷ ts) none =
     traced c i t ts (first_plain (begins_with_dash c) (begins_with_dash i || (begins_with_dash t || list_any begins_with_dash ts)) none)
     (first_plain (begins_with_dash i) (begins_with_dash t || list_any begins_with_dash ts) second) (first_plain (begins_with_dash t) (list_any begins_with_dash ts) third)
     (rest_plain (begins_with_dash t) (list_any begins_with_dash ts) third) (nat_le (suc (length ts)) 16) refl
-
--- ---- a pair
-
-abbrev pair_shape : Shape
-pair_shape = (built pair_app).top
-
--- what is found of a pair
-abbrev pub pair_rows : Pair → List Row
-pair_rows pair = row (codes "FIRST") (pair.first ∷ []) ∷ row (codes "SECOND") (pair.second ∷ []) ∷ []
-
-abbrev pub DecidesPair : List Text → Type 0
-DecidesPair words = Reads pair_app pair_rows (pair_of words) words ⊎ Refuses pair_app (pair_of words) words
-
-no_pair : DecidesPair []
-unfolding clap_on_literals
-no_pair = inr (record { none = refl; kind = kinds.MissingRequiredArgument; more = []; fails = refl })
-
-numbered_walk : (n : Text) → begins_with_dash n ≡ false → walked pair_shape.rules [] (walk_from nothing_held) n ≡ between (pending [] (codes "FIRST") (n ∷ [])) false 2
-numbered_walk n plain = goes_on pair_shape.rules false 1 n nothing_held plain
-
-abbrev paired : Text → Text → Held
-paired n i = pending (row (codes "FIRST") (n ∷ []) ∷ []) (codes "SECOND") (i ∷ [])
-
-paired_walk : (n i : Text) → begins_with_dash i ≡ false → walked pair_shape.rules [] (between (pending [] (codes "FIRST") (n ∷ [])) false 2) i ≡ between (paired n i) false 3
-paired_walk n i plain = goes_on pair_shape.rules false 2 i (pending [] (codes "FIRST") (n ∷ [])) plain
-
-one_of_pair : (n : Text) → begins_with_dash n ≡ false → DecidesPair (n ∷ [])
-unfolding clap_on_literals
-one_of_pair n first = inr (record {
-  none = refl;
-  kind = kinds.MissingRequiredArgument;
-  more = [];
-  fails = fails_at_end pair_app (n ∷ []) (between (pending [] (codes "FIRST") (n ∷ [])) false 2) refl refl (numbered_walk n first)
-      (ap (λ k. or_else k []) (fails_as pair_shape false 1 n nothing_held first));
-})
-
-pair_walks : (n i : Text) → begins_with_dash n ≡ false → begins_with_dash i ≡ false → walk pair_shape.rules [] nothing_held (n ∷ i ∷ []) ≡ between (paired n i) false 3
-pair_walks n i first second = ap (λ (w : Walk). walked pair_shape.rules [] w i) (numbered_walk n first) ∙ paired_walk n i second
-
-pair_passes : (n i : Text) (more : List Text) → begins_with_dash n ≡ false → begins_with_dash i ≡ false
-    → walk_fault pair_shape [] (walk_from nothing_held) (n ∷ i ∷ more) ≡ walk_fault pair_shape [] (between (paired n i) false 3) more
-unfolding walk_fault
-pair_passes n i more first second =
-    ap₂ or_else (fails_as pair_shape false 1 n nothing_held first) (ap (λ (w : Walk). walk_fault pair_shape [] w (i ∷ more)) (numbered_walk n first))
-    ∙ ap₂ or_else (fails_as pair_shape false 2 i (pending [] (codes "FIRST") (n ∷ [])) second) (ap (λ (w : Walk). walk_fault pair_shape [] w more) (paired_walk n i second))
-
-a_pair : (n i : Text) → begins_with_dash n ≡ false → begins_with_dash i ≡ false → DecidesPair (n ∷ i ∷ [])
-unfolding clap_on_literals
-a_pair n i first second = inl (record {
-  value = record { first = n; second = i };
-  is = refl;
-  passes = fails_at_end pair_app (n ∷ i ∷ []) (between (paired n i) false 3) refl refl (pair_walks n i first second) (pair_passes n i [] first second);
-  rows = ap (λ (w : Walk). finished pair_shape.rules w.held) (pair_walks n i first second);
-})
-
--- a third word is one too many
-three_fail : (n i t : Text) (more : List Text) → begins_with_dash n ≡ false → begins_with_dash i ≡ false → begins_with_dash t ≡ false
-    → walk_fault pair_shape [] (walk_from nothing_held) (n ∷ i ∷ t ∷ more) ≡ kinds.UnknownArgument ∷ []
-unfolding walk_fault
-three_fail n i t more first second third =
-    pair_passes n i (t ∷ more) first second
-    ∙ ap (λ k. or_else k (walk_fault pair_shape [] (walked pair_shape.rules [] (between (paired n i) false 3) t) more)) (fails_as pair_shape false 3 t (paired n i) third)
-
-too_many : (n i t : Text) (more : List Text) → begins_with_dash n ≡ false → begins_with_dash i ≡ false → begins_with_dash t ≡ false → DecidesPair (n ∷ i ∷ t ∷ more)
-too_many n i t more first second third = inr (record {
-  none = refl;
-  kind = kinds.UnknownArgument;
-  more = [];
-  fails = leaf_fault (built pair_app) nothing_held (n ∷ i ∷ t ∷ more) refl
-      ∙ ap (λ k. or_else k (ends pair_shape (walk pair_shape.rules [] nothing_held (n ∷ i ∷ t ∷ more)).held)) (three_fail n i t more first second third);
-})
-
--- clap reads a pair exactly where the words are two
-pub decides_pair : (words : List Text) → Plain words → DecidesPair words
-decides_pair [] none = no_pair
-decides_pair (n ∷ []) none = one_of_pair n (first_plain (begins_with_dash n) false none)
-decides_pair (n ∷ i ∷ []) none =
-    a_pair n i (first_plain (begins_with_dash n) (begins_with_dash i || false) none)
-    (first_plain (begins_with_dash i) false (rest_plain (begins_with_dash n) (begins_with_dash i || false) none))
-decides_pair (n ∷ i ∷ t ∷ ts) none =
-    let second = rest_plain (begins_with_dash n) (begins_with_dash i || (begins_with_dash t || list_any begins_with_dash ts)) none in
-    let third = rest_plain (begins_with_dash i) (begins_with_dash t || list_any begins_with_dash ts) second in
-    too_many n i t ts (first_plain (begins_with_dash n) (begins_with_dash i || (begins_with_dash t || list_any begins_with_dash ts)) none)
-    (first_plain (begins_with_dash i) (begins_with_dash t || list_any begins_with_dash ts) second) (first_plain (begins_with_dash t) (list_any begins_with_dash ts) third)
 
 -- ---- what a parse gives
 
@@ -418,16 +345,10 @@ module _ {X : Type 0} (a : App) (rows : X → List Row) (found : Option X) (word
   refuses (Err e) (inl read) (inr among) = λ other. absurd (subst (IsAmong (kind_of e)) read.passes among)
   refuses (Err e) (inr refused) fails = λ other. refused.none
 
--- the rows of names and of a pair, as the getters give them
+-- the rows of names, as the getters give them
 pub are_names : (m : ArgMatches) (names : Names) → rows_of (found_of m) ≡ names_rows names → AreNames m names
 are_names m names is = record {
   config = first_value-rows (found_of m) (codes "CONFIG") ∙ ap (first_of (codes "CONFIG")) is;
   image = first_value-rows (found_of m) (codes "IMAGE") ∙ ap (first_of (codes "IMAGE")) is;
   traces = raw_values-rows (found_of m) (codes "TRACE") ∙ ap (all_of (codes "TRACE")) is;
-}
-
-pub are_pair : (m : ArgMatches) (pair : Pair) → rows_of (found_of m) ≡ pair_rows pair → ArePair m pair
-are_pair m pair is = record {
-  first_is = first_value-rows (found_of m) (codes "FIRST") ∙ ap (first_of (codes "FIRST")) is;
-  second_is = first_value-rows (found_of m) (codes "SECOND") ∙ ap (first_of (codes "SECOND")) is;
 }

@@ -1,8 +1,11 @@
+pub mod Audits
+pub mod AuditLines
 pub mod Choosing
 pub mod CommandLines
 pub mod Configuring
 pub mod Formed
 pub mod Loads
+pub mod PairLines
 pub mod Parts
+pub mod RecordTexts
 pub mod Texts
-pub mod Records

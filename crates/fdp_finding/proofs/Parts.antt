@@ -1,11 +1,14 @@
 -- Texts that are written one behind another.
 use Rattle.std.proofs.Common.{◌≡◌, ℕ, zero, suc, ◌+◌, ◌<◌, ◌≤◌, IsTrue, List, [], ◌∷◌, ◌++◌, length, take, drop, get_or, refl, ap, sym, subst, ◌∙◌, append_assoc, length-append, arith}
+use Rattle.std.specs.Prelude.{Result, ⊤}
 use Rattle.std.specs.Borrow.{Bor}
 use Rattle.std.specs.List.{flat_map}
 use Rattle.std.proofs.Math.Seq.{take-append-add}
 use Rattle.std.proofs.lemmas.List.{append-nil, flat_map_more, take-append-le, take_all, take_more}
 use Rattle.fdp_base.specs.Counts.{Rose}
+use Rattle.fdp_io.specs.declared.sink.SinkFailed.{SinkFailed}
 use Rattle.fdp_io.specs.Sink.{Holds, HoldsFront, SinkState}
+use Rattle.fdp_finding.specs.Line.{Writes}
 
 abbrev pub Part : Type 0
 Part = Bor (List ℕ)
@@ -67,3 +70,8 @@ part_failed old mid new parts index d text before low is h =
 -- all were written
 pub all_written : (old new : SinkState) (parts : List Part) (index : ℕ) → AreWritten old new parts index → length parts ≤ index → Holds old new (text_of parts)
 all_written old new parts index before high = subst (λ ps. Holds old new (text_of ps)) (take_all index parts high) before.held
+
+-- two parts that are the number of a record in its line
+pub numbered_parts : (old new : SinkState) (head digits space rest words : List ℕ) (result : Result ⊤ SinkFailed) → digits ++ space ≡ words → Writes old new (head ++ (digits ++ (space ++ rest))) result → Writes old new (head ++ (words ++ rest)) result
+numbered_parts old new head digits space rest words result is writes =
+    subst (λ t. Writes old new (head ++ t) result) (sym (append_assoc digits space rest) ∙ ap (λ t. t ++ rest) is) writes

@@ -44,22 +44,22 @@ pub record AreRead (kind : Texts) (c : DriveConfig) (old new : BenchState) (name
   pub servable : All (λ trace. IsServable c trace.items) traces
 
 -- one more pair
-zip_more : {A B : Type 0} (R : A → B → Type 0) (xs : List A) (ys : List B) (x : A) (y : B) → AllZip R xs ys → R x y → AllZip R (xs ++ x ∷ []) (ys ++ y ∷ [])
+pub zip_more : {A B : Type 0} (R : A → B → Type 0) (xs : List A) (ys : List B) (x : A) (y : B) → AllZip R xs ys → R x y → AllZip R (xs ++ x ∷ []) (ys ++ y ∷ [])
 zip_more R [] [] x y all one = (one, tt)
 zip_more R [] (b ∷ ys) x y all one = absurd all
 zip_more R (a ∷ xs) [] x y all one = absurd all
 zip_more R (a ∷ xs) (b ∷ ys) x y all one = (all.0, zip_more R xs ys x y all.1 one)
 
-map_push : {A B : Type 0} (f : A → B) (xs : List A) (x : A) → map f (xs ++ x ∷ []) ≡ map f xs ++ f x ∷ []
+pub map_push : {A B : Type 0} (f : A → B) (xs : List A) (x : A) → map f (xs ++ x ∷ []) ≡ map f xs ++ f x ∷ []
 map_push f [] x = refl
 map_push f (y ∷ xs) x = ap (λ ys. f y ∷ ys) (map_push f xs x)
 
-get_map : {A B : Type 0} (f : A → B) (xs : List A) (i : ℕ) (d : A) (e : B) → i < length xs → get_or (map f xs) i e ≡ f (get_or xs i d)
+pub get_map : {A B : Type 0} (f : A → B) (xs : List A) (i : ℕ) (d : A) (e : B) → i < length xs → get_or (map f xs) i e ≡ f (get_or xs i d)
 get_map f [] i d e low = absurd (omega arith)
 get_map f (x ∷ xs) zero d e low = refl
 get_map f (x ∷ xs) (suc i) d e low = get_map f xs i d e (omega arith)
 
-named_as_many : (names : List Name) → length (map spelling names) ≡ length names
+pub named_as_many : (names : List Name) → length (map spelling names) ≡ length names
 named_as_many [] = refl
 named_as_many (name ∷ names) = ap suc (named_as_many names)
 
@@ -149,13 +149,14 @@ none_next kind c old mid new names index traces d faults.Flash before low few la
 none_next kind c old mid new names index traces d faults.Source before low few lacks = subst (λ n. Rose n new.faults) before.faults lacks
 none_next kind c old mid new names index traces d faults.NoMemory before low few lacks = tt
 none_next kind c old mid new names index traces d faults.Turns before low few lacks = absurd lacks
-none_next kind c old mid new names index traces d (faults.Record cause) before low few lacks = absurd lacks
-none_next kind c old mid new names index traces d (faults.Audit at why) before low few lacks = absurd lacks
-none_next kind c old mid new names index traces d (faults.Output line) before low few lacks = absurd lacks
+none_next kind c old mid new names index traces d (faults.Record number cause) before low few lacks = absurd lacks
+none_next kind c old mid new names index traces d (faults.Audit number at why) before low few lacks = absurd lacks
+none_next kind c old mid new names index traces d (faults.Output number line) before low few lacks = absurd lacks
+none_next kind c old mid new names index traces d (faults.Lost number at) before low few lacks = absurd lacks
 
 -- ---- the whole search
 
-zip_weaker : {A B : Type 0} (R S : A → B → Type 0) (xs : List A) (ys : List B) → ((x : A) (y : B) → R x y → S x y) → AllZip R xs ys → AllZip S xs ys
+pub zip_weaker : {A B : Type 0} (R S : A → B → Type 0) (xs : List A) (ys : List B) → ((x : A) (y : B) → R x y → S x y) → AllZip R xs ys → AllZip S xs ys
 zip_weaker R S [] [] weaker all = tt
 zip_weaker R S [] (y ∷ ys) weaker all = absurd all
 zip_weaker R S (x ∷ xs) [] weaker all = absurd all
@@ -186,9 +187,10 @@ config_lacking kind old new names faults.Flash lacks = absurd lacks
 config_lacking kind old new names faults.Source lacks = lacks
 config_lacking kind old new names faults.NoMemory lacks = tt
 config_lacking kind old new names faults.Turns lacks = absurd lacks
-config_lacking kind old new names (faults.Record cause) lacks = absurd lacks
-config_lacking kind old new names (faults.Audit at why) lacks = absurd lacks
-config_lacking kind old new names (faults.Output line) lacks = absurd lacks
+config_lacking kind old new names (faults.Record number cause) lacks = absurd lacks
+config_lacking kind old new names (faults.Audit number at why) lacks = absurd lacks
+config_lacking kind old new names (faults.Output number line) lacks = absurd lacks
+config_lacking kind old new names (faults.Lost number at) lacks = absurd lacks
 
 -- what the traces lack is what the texts lack
 pub traces_lacking : (kind : Texts) (old mid new : BenchState) (names : Names) (c : DriveConfig) (fault : Fault) → SameTexts old mid → mid.faults ≡ old.faults → ReadsConfig old names.config c →
@@ -219,9 +221,10 @@ traces_lacking kind old mid new names c faults.Flash same still read lacks = abs
 traces_lacking kind old mid new names c faults.Source same still read lacks = subst (λ n. Rose n new.faults) still lacks
 traces_lacking kind old mid new names c faults.NoMemory same still read lacks = tt
 traces_lacking kind old mid new names c faults.Turns same still read lacks = absurd lacks
-traces_lacking kind old mid new names c (faults.Record cause) same still read lacks = absurd lacks
-traces_lacking kind old mid new names c (faults.Audit at why) same still read lacks = absurd lacks
-traces_lacking kind old mid new names c (faults.Output line) same still read lacks = absurd lacks
+traces_lacking kind old mid new names c (faults.Record number cause) same still read lacks = absurd lacks
+traces_lacking kind old mid new names c (faults.Audit number at why) same still read lacks = absurd lacks
+traces_lacking kind old mid new names c (faults.Output number line) same still read lacks = absurd lacks
+traces_lacking kind old mid new names c (faults.Lost number at) same still read lacks = absurd lacks
 
 -- the texts of the names were found
 pub texts_found : (kind : Texts) (old mid : BenchState) (names : List Name) (name image : List ℕ) (c : DriveConfig) (traces : List (List Command)) → SameTexts old mid → ReadsConfig old name c → IsValidConfig c →
@@ -246,9 +249,10 @@ run_lacks kind old new words names faults.Flash asked lacks = absurd lacks
 run_lacks kind old new words names faults.Source asked lacks = inl (record { kind = kind; names = names; asked = asked; lacks = lacks })
 run_lacks kind old new words names faults.NoMemory asked lacks = tt
 run_lacks kind old new words names faults.Turns asked lacks = absurd lacks
-run_lacks kind old new words names (faults.Record cause) asked lacks = absurd lacks
-run_lacks kind old new words names (faults.Audit at why) asked lacks = absurd lacks
-run_lacks kind old new words names (faults.Output line) asked lacks = absurd lacks
+run_lacks kind old new words names (faults.Record number cause) asked lacks = absurd lacks
+run_lacks kind old new words names (faults.Audit number at why) asked lacks = absurd lacks
+run_lacks kind old new words names (faults.Output number line) asked lacks = absurd lacks
+run_lacks kind old new words names (faults.Lost number at) asked lacks = absurd lacks
 
 -- what was found is what the words ask for, in a form that asks so for such texts
 pub form_answers : (kind : Texts) (form : Form) (asks : Names → Asked) (old new : BenchState) (words : List (String Global)) (names : Names) (r : Result Task Fault)

@@ -6,7 +6,7 @@ use Rattle.std.specs.declared.alloc.Global.{Global}
 use Rattle.fdp_trace.specs.Numbers.{value_of}
 use Rattle.fdp_finding.specs.declared.asked.Texts.{Texts}
 use Rattle.fdp_finding.specs.declared.asked.Texts.TheVariants as texts
-use Rattle.fdp_finding.specs.declared.asked.TheConstants.{LONGEST_NUMBER, MOST_NUMBER, MOST_TRACES}
+use Rattle.fdp_finding.specs.declared.asked.TheConstants.{LONGEST_NUMBER, MOST_NUMBER, MOST_RECORDS, MOST_TRACES}
 
 -- the names of the texts that a run reads, and of the image that holds its drive
 pub record Names : Type 0 where
@@ -24,12 +24,12 @@ pub record Pair : Type 0 where
   pub first : List ℕ
   pub second : List ℕ
 
--- the names of a configuration and of a record
+-- the names of a configuration and of the records of runs that followed one another on one image
 pub record AuditNames : Type 0 where
   pub config : List ℕ
-  pub text : List ℕ
+  pub texts : List (List ℕ)
 
--- what is asked for: to serve the traces of these names and print the output, or that and the history; the same of streams; to serve a generated load; or to judge a record
+-- what is asked for: to serve the traces of these names and print the output, or that and the history; the same of streams; to serve a generated load; or to judge records
 pub data Asked : Type 0 where
   running : Names → Asked
   recording : Names → Asked
@@ -70,9 +70,12 @@ numbered pair = if is_number pair.first then Some (record { number = pair.first;
 abbrev pub load_of : List (List ℕ) → Option Load
 load_of words = option_and_then numbered (pair_of words)
 
--- behind `audit`: a configuration, and a record
+-- behind `audit`: a configuration, and 1 to 16 records
 abbrev pub audit_of : List (List ℕ) → Option AuditNames
-audit_of words = option_map (λ (pair : Pair). record { config = pair.first; text = pair.second }) (pair_of words)
+audit_of [] = None
+audit_of (config ∷ []) = None
+audit_of (config ∷ text ∷ more) =
+    if nat_le (length (text ∷ more)) MOST_RECORDS then Some (record { config = config; texts = text ∷ more }) else None
 
 -- what the words ask for behind the first, which chooses
 abbrev pub chosen_by : List ℕ → List (List ℕ) → Option Asked

@@ -1,5 +1,5 @@
 -- The statuses and the lines of the faults.
-use Rattle.std.specs.Prelude.{ℕ, List, [], ◌∷◌, ◌++◌, codes, decimal}
+use Rattle.std.specs.Prelude.{ℕ, List, [], ◌∷◌, ◌++◌, Option, Some, None, codes, decimal}
 use Rattle.fdp_binary.specs.FaultWord.{kind_word as frame_word}
 use Rattle.fdp_config.specs.declared.fault.ConfigFault.{ConfigFault}
 use Rattle.fdp_config.specs.declared.fault.ConfigFault.TheVariants as configs
@@ -40,9 +40,10 @@ status_of faults.Source = 6
 status_of faults.NoMemory = 7
 status_of faults.Turns = 9
 status_of (faults.Stream stream cause) = 12
-status_of (faults.Audit at why) = 13
-status_of (faults.Output line) = 13
-status_of (faults.Record cause) = 14
+status_of (faults.Audit number at why) = 13
+status_of (faults.Output number line) = 13
+status_of (faults.Lost number at) = 13
+status_of (faults.Record number cause) = 14
 
 -- the line where there is no configuration
 abbrev pub config_fault : NoConfig → List ℕ
@@ -85,17 +86,26 @@ no_record_words records.Absent = codes "absent"
 no_record_words records.TooLong = codes "long"
 no_record_words (records.Line line) = decimal line
 
+-- the words for the number of a record, where several are given
+abbrev pub number_words : Option ℕ → List ℕ
+number_words None = []
+number_words (Some number) = decimal number ++ 32 ∷ []
+
 -- the line of such a text
-abbrev pub record_fault : NoRecord → List ℕ
-record_fault cause = codes "fault 14 record " ++ (no_record_words cause ++ 10 ∷ [])
+abbrev pub record_fault : Option ℕ → NoRecord → List ℕ
+record_fault number cause = codes "fault 14 record " ++ (number_words number ++ (no_record_words cause ++ 10 ∷ []))
 
 -- the line of an entry that a history does not go on with: the position that is due, and its cause
-abbrev pub audit_fault : ℕ → ℕ → List ℕ
-audit_fault at why = codes "fault 13 audit " ++ (decimal at ++ (32 ∷ (decimal why ++ 10 ∷ [])))
+abbrev pub audit_fault : Option ℕ → ℕ → ℕ → List ℕ
+audit_fault number at why = codes "fault 13 audit " ++ (number_words number ++ (decimal at ++ (32 ∷ (decimal why ++ 10 ∷ []))))
 
 -- the line of an output that is not the one due
-abbrev pub output_fault : ℕ → List ℕ
-output_fault line = codes "fault 13 output " ++ (decimal line ++ 10 ∷ [])
+abbrev pub output_fault : Option ℕ → ℕ → List ℕ
+output_fault number line = codes "fault 13 output " ++ (number_words number ++ (decimal line ++ 10 ∷ []))
+
+-- the line of a change that the next run does not go on from: its record and its position
+abbrev pub lost_fault : ℕ → ℕ → List ℕ
+lost_fault number at = codes "fault 13 lost " ++ (number_words (Some number) ++ (decimal at ++ 10 ∷ []))
 
 -- the line that a run prints; want of memory has none
 abbrev pub fault_text : Fault → List ℕ
@@ -109,6 +119,7 @@ fault_text faults.Source = codes "fault 6 source\n"
 fault_text faults.NoMemory = []
 fault_text faults.Turns = codes "fault 9 turns\n"
 fault_text (faults.Stream stream cause) = stream_fault stream (no_stream_words cause)
-fault_text (faults.Record cause) = record_fault cause
-fault_text (faults.Audit at why) = audit_fault at why
-fault_text (faults.Output line) = output_fault line
+fault_text (faults.Record number cause) = record_fault number cause
+fault_text (faults.Audit number at why) = audit_fault number at why
+fault_text (faults.Output number line) = output_fault number line
+fault_text (faults.Lost number at) = lost_fault number at

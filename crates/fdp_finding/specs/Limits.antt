@@ -43,6 +43,7 @@ pub record AreTheRunLimits : Type 0 where
   pub commands : limits.MOST_TRACE_COMMANDS ≡ 8192
   pub blocks_read : limits.MOST_TRACE_BLOCKS ≡ 8192
   pub traces : words.MOST_TRACES ≡ 16
+  pub records : words.MOST_RECORDS ≡ 16
   pub number_digits : words.LONGEST_NUMBER ≡ 4
   pub number : words.MOST_NUMBER ≡ 8192
   pub steps : limits.MOST_STEPS ≡ 2 ^ 30

@@ -1,5 +1,5 @@
--- The record that an audit finds, or why it finds none.
-use Rattle.std.specs.Prelude.{◌≡◌, ◌≤◌, ℕ, IsTrue, List, length, Some, None}
+-- The records that an audit finds, or why it finds none.
+use Rattle.std.specs.Prelude.{◌≡◌, ◌≤◌, ◌==◌, ℕ, if◌then◌else◌, IsTrue, List, length, Option, Some, None}
 use Rattle.fdp_base.specs.declared.limits.TheConstants.{LONGEST_TRACE}
 use Rattle.fdp_io.specs.Bench.{BenchState}
 use Rattle.fdp_finding.specs.declared.no_record.NoRecord.{NoRecord}
@@ -16,3 +16,7 @@ abbrev pub ReadsNoRecord : BenchState → List ℕ → NoRecord → Type 0
 ReadsNoRecord bench name Absent = IsTrue bench.told → bench.text name ≡ None
 ReadsNoRecord bench name TooLong = IsTrue bench.told → IsTooLong (bench.text name)
 ReadsNoRecord bench name (Line line) = ⊥
+
+-- the number of a record among so many, from 1; the only one has none
+abbrev pub number_among : ℕ → ℕ → Option ℕ
+number_among count number = if count == 1 then None else Some number

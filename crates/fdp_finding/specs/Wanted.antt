@@ -1,5 +1,5 @@
--- What a run finds to serve: a configuration, an image and traces, which may come as streams; or to judge: a configuration and a record; or what it lacks.
-use Rattle.std.specs.Prelude.{String, ◌≡◌, ◌⊎◌, ℕ, ◌+◌, ◌<◌, ◌≤◌, List, [], length, take, map, slice_index_or, Some, None}
+-- What a run finds to serve: a configuration, an image and traces, which may come as streams; or to judge: a configuration and records; or what it lacks.
+use Rattle.std.specs.Prelude.{String, ◌≡◌, ◌⊎◌, ℕ, ◌+◌, ◌<◌, ◌≤◌, List, [], length, take, map, slice_index_or, Option, Some, None}
 use Rattle.std.specs.Global.{Vec}
 use Rattle.std.specs.List.{AllZip}
 use Rattle.std.specs.declared.alloc.Global.{Global}
@@ -21,13 +21,17 @@ use Rattle.fdp_finding.specs.declared.no_stream.NoStream.{NoStream}
 use Rattle.fdp_finding.specs.declared.no_trace.NoTrace.{NoTrace}
 use Rattle.fdp_finding.specs.Asked.{Asked, AsksForTexts, AuditNames, Names, asked_of, auditing, making, recording, recording_streams, running, streaming}
 use Rattle.fdp_finding.specs.Configured.{ReadsConfig, ReadsNoConfig}
-use Rattle.fdp_finding.specs.Recorded.{ReadsNoRecord, ReadsRecord}
+use Rattle.fdp_finding.specs.Recorded.{ReadsNoRecord, ReadsRecord, number_among}
 use Rattle.fdp_finding.specs.Streamed.{ReadsNoStream, ReadsStream}
 use Rattle.fdp_finding.specs.Traced.{ReadsNoTrace, ReadsTrace}
 
 -- the commands of each trace
 abbrev pub commands_of : List (Vec Command) → List (List Command)
 commands_of traces = map (λ trace. trace.items) traces
+
+-- the bytes of each text
+abbrev pub texts_in : List (Vec ℕ) → List (List ℕ)
+texts_in texts = map (λ text. text.items) texts
 
 -- the text of this name says these commands: as a trace, or as a stream for blocks of this size
 abbrev pub ReadsCommands : Texts → ℕ → BenchState → List ℕ → List Command → Type 0
@@ -55,23 +59,23 @@ pub record FindsLoad (words : List (String Global)) (number : List ℕ) (c : Dri
   pub valid : IsValidConfig c
   pub commands : traces ≡ make_traces (value_of 10 number)
 
--- the texts of these names are that of a configuration, with which a drive can be made, and one that is to be a record
-pub record HasRecord (bench : BenchState) (names : AuditNames) (c : DriveConfig) (text : List ℕ) : Type 0 where
+-- the texts of these names are that of a configuration, with which a drive can be made, and those that are to be records, in the order of the names
+pub record HasRecords (bench : BenchState) (names : AuditNames) (c : DriveConfig) (texts : List (List ℕ)) : Type 0 where
   pub config : ReadsConfig bench names.config c
   pub valid : IsValidConfig c
-  pub text_is : ReadsRecord bench names.text text
+  pub texts_are : AllZip (ReadsRecord bench) names.texts texts
 
 -- the words ask for an audit of these names, and these are their texts
-pub record FindsRecord (bench : BenchState) (words : List (String Global)) (c : DriveConfig) (text : List ℕ) : Type 0 where
+pub record FindsRecords (bench : BenchState) (words : List (String Global)) (c : DriveConfig) (texts : List (List ℕ)) : Type 0 where
   pub names : AuditNames
   pub asked : asked_of words ≡ Some (auditing names)
-  pub found : HasRecord bench names c text
+  pub found : HasRecords bench names c texts
 
 -- What was found of what the words ask for, a case for each kind of run: a session on the drive of one image, in a form, with this configuration, image and traces;
--- or a text to be audited, as the record of a run on a new image of a drive of this configuration.
+-- or texts to be audited, as the records of runs that followed one another on an image of a drive of this configuration, which was new before the first.
 pub data Sought : Type 0 where
   session : Form → DriveConfig → (image : List ℕ) → (traces : List (List Command)) → Sought
-  audited : DriveConfig → (text : List ℕ) → Sought
+  audited : DriveConfig → (texts : List (List ℕ)) → Sought
 
 -- what the words ask for, in each form
 abbrev pub Finds : BenchState → List (String Global) → Sought → Type 0
@@ -80,7 +84,7 @@ Finds bench words (session forms.Record c image traces) = FindsTexts texts.Trace
 Finds bench words (session forms.Stream c image traces) = FindsTexts texts.Streams bench words streaming c image traces
 Finds bench words (session forms.StreamRecord c image traces) = FindsTexts texts.Streams bench words recording_streams c image traces
 Finds bench words (session (forms.Make number) c image traces) = FindsLoad words number.now c image traces
-Finds bench words (audited c text) = FindsRecord bench words c text
+Finds bench words (audited c texts) = FindsRecords bench words c texts
 
 -- ---- what is lacking
 
@@ -126,9 +130,10 @@ TextsLack kind old new names faults.Flash = ⊥
 TextsLack kind old new names faults.Source = Rose old.faults new.faults
 TextsLack kind old new names faults.NoMemory = Unit {0}
 TextsLack kind old new names faults.Turns = ⊥
-TextsLack kind old new names (faults.Record cause) = ⊥
-TextsLack kind old new names (faults.Audit at why) = ⊥
-TextsLack kind old new names (faults.Output line) = ⊥
+TextsLack kind old new names (faults.Record number cause) = ⊥
+TextsLack kind old new names (faults.Audit number at why) = ⊥
+TextsLack kind old new names (faults.Output number line) = ⊥
+TextsLack kind old new names (faults.Lost number at) = ⊥
 
 -- the words ask for texts, which are not found, for this cause
 pub record LacksTexts (old new : BenchState) (words : List (String Global)) (fault : Fault) : Type 0 where
@@ -137,11 +142,20 @@ pub record LacksTexts (old new : BenchState) (words : List (String Global)) (fau
   pub asked : AsksForTexts words kind names
   pub lacks : TextsLack kind old new names fault
 
--- the text of the configuration is one, and that of the record is none, for this cause
-pub record LacksRecord (bench : BenchState) (names : AuditNames) (cause : NoRecord) : Type 0 where
+-- the texts in front of the one with this index may be records, and this one is none, for this cause; where several are named, it has its number, from 1
+pub record IsFirstNoRecord (bench : BenchState) (names : List (List ℕ)) (number : Option ℕ) (cause : NoRecord) : Type 0 where
+  pub index : ℕ
+  pub numbered : number ≡ number_among (length names) (index + 1)
+  pub within : index < length names
+  pub front : List (List ℕ)
+  pub read : AllZip (ReadsRecord bench) (take index names) front
+  pub none : ReadsNoRecord bench (slice_index_or names index []) cause
+
+-- the text of the configuration is one, and of the records this one is the first that is none, for this cause
+pub record LacksRecord (bench : BenchState) (names : AuditNames) (number : Option ℕ) (cause : NoRecord) : Type 0 where
   pub config : DriveConfig
   pub configured : ReadsConfig bench names.config config
-  pub none : ReadsNoRecord bench names.text cause
+  pub first : IsFirstNoRecord bench names.texts number cause
 
 -- why an audit does not find the texts of these names
 abbrev pub AuditLacks : BenchState → BenchState → AuditNames → Fault → Type 0
@@ -155,9 +169,10 @@ AuditLacks old new names faults.Flash = ⊥
 AuditLacks old new names faults.Source = Rose old.faults new.faults
 AuditLacks old new names faults.NoMemory = Unit {0}
 AuditLacks old new names faults.Turns = ⊥
-AuditLacks old new names (faults.Record cause) = LacksRecord old names cause
-AuditLacks old new names (faults.Audit at why) = ⊥
-AuditLacks old new names (faults.Output line) = ⊥
+AuditLacks old new names (faults.Record number cause) = LacksRecord old names number cause
+AuditLacks old new names (faults.Audit number at why) = ⊥
+AuditLacks old new names (faults.Output number line) = ⊥
+AuditLacks old new names (faults.Lost number at) = ⊥
 
 -- the words ask for an audit, and its texts are not found, for this cause
 pub record LacksAudit (old new : BenchState) (words : List (String Global)) (fault : Fault) : Type 0 where
@@ -165,21 +180,39 @@ pub record LacksAudit (old new : BenchState) (words : List (String Global)) (fau
   pub asked : asked_of words ≡ Some (auditing names)
   pub lacks : AuditLacks old new names fault
 
--- why it finds no text of a record
-abbrev pub RecordLacks : BenchState → BenchState → List ℕ → Fault → Type 0
-RecordLacks old new name faults.Usage = ⊥
-RecordLacks old new name (faults.Config cause) = ⊥
-RecordLacks old new name (faults.NoQueue trace) = ⊥
-RecordLacks old new name (faults.Trace trace cause) = ⊥
-RecordLacks old new name (faults.Stream stream cause) = ⊥
-RecordLacks old new name (faults.Image cause) = ⊥
-RecordLacks old new name faults.Flash = ⊥
-RecordLacks old new name faults.Source = Rose old.faults new.faults
-RecordLacks old new name faults.NoMemory = Unit {0}
-RecordLacks old new name faults.Turns = ⊥
-RecordLacks old new name (faults.Record cause) = ReadsNoRecord old name cause
-RecordLacks old new name (faults.Audit at why) = ⊥
-RecordLacks old new name (faults.Output line) = ⊥
+-- why it finds no texts of records with these names
+abbrev pub RecordsLack : BenchState → BenchState → List (List ℕ) → Fault → Type 0
+RecordsLack old new names faults.Usage = ⊥
+RecordsLack old new names (faults.Config cause) = ⊥
+RecordsLack old new names (faults.NoQueue trace) = ⊥
+RecordsLack old new names (faults.Trace trace cause) = ⊥
+RecordsLack old new names (faults.Stream stream cause) = ⊥
+RecordsLack old new names (faults.Image cause) = ⊥
+RecordsLack old new names faults.Flash = ⊥
+RecordsLack old new names faults.Source = Rose old.faults new.faults
+RecordsLack old new names faults.NoMemory = Unit {0}
+RecordsLack old new names faults.Turns = ⊥
+RecordsLack old new names (faults.Record number cause) = IsFirstNoRecord old names number cause
+RecordsLack old new names (faults.Audit number at why) = ⊥
+RecordsLack old new names (faults.Output number line) = ⊥
+RecordsLack old new names (faults.Lost number at) = ⊥
+
+-- why it finds no text of the record with this name, which has this number where several are named
+abbrev pub RecordLacks : BenchState → BenchState → Option ℕ → List ℕ → Fault → Type 0
+RecordLacks old new number name faults.Usage = ⊥
+RecordLacks old new number name (faults.Config cause) = ⊥
+RecordLacks old new number name (faults.NoQueue trace) = ⊥
+RecordLacks old new number name (faults.Trace trace cause) = ⊥
+RecordLacks old new number name (faults.Stream stream cause) = ⊥
+RecordLacks old new number name (faults.Image cause) = ⊥
+RecordLacks old new number name faults.Flash = ⊥
+RecordLacks old new number name faults.Source = Rose old.faults new.faults
+RecordLacks old new number name faults.NoMemory = Unit {0}
+RecordLacks old new number name faults.Turns = ⊥
+RecordLacks old new number name (faults.Record which cause) = (which ≡ number) × ReadsNoRecord old name cause
+RecordLacks old new number name (faults.Audit which at why) = ⊥
+RecordLacks old new number name (faults.Output which line) = ⊥
+RecordLacks old new number name (faults.Lost which at) = ⊥
 
 -- the cause of each fault
 abbrev pub Lacks : BenchState → BenchState → List (String Global) → Fault → Type 0
@@ -193,9 +226,10 @@ Lacks old new words faults.Flash = ⊥
 Lacks old new words faults.Source = LacksTexts old new words faults.Source ⊎ LacksAudit old new words faults.Source
 Lacks old new words faults.NoMemory = Unit {0}
 Lacks old new words faults.Turns = ⊥
-Lacks old new words (faults.Record cause) = LacksAudit old new words (faults.Record cause)
-Lacks old new words (faults.Audit at why) = ⊥
-Lacks old new words (faults.Output line) = ⊥
+Lacks old new words (faults.Record number cause) = LacksAudit old new words (faults.Record number cause)
+Lacks old new words (faults.Audit number at why) = ⊥
+Lacks old new words (faults.Output number line) = ⊥
+Lacks old new words (faults.Lost number at) = ⊥
 
 -- why a run finds no configuration of this name
 abbrev pub ConfigLacks : BenchState → BenchState → List ℕ → Fault → Type 0
@@ -209,9 +243,10 @@ ConfigLacks old new name faults.Flash = ⊥
 ConfigLacks old new name faults.Source = Rose old.faults new.faults
 ConfigLacks old new name faults.NoMemory = Unit {0}
 ConfigLacks old new name faults.Turns = ⊥
-ConfigLacks old new name (faults.Record cause) = ⊥
-ConfigLacks old new name (faults.Audit at why) = ⊥
-ConfigLacks old new name (faults.Output line) = ⊥
+ConfigLacks old new name (faults.Record number cause) = ⊥
+ConfigLacks old new name (faults.Audit number at why) = ⊥
+ConfigLacks old new name (faults.Output number line) = ⊥
+ConfigLacks old new name (faults.Lost number at) = ⊥
 
 -- why it finds no commands of these names, with this configuration
 abbrev pub TracesLack : Texts → DriveConfig → BenchState → BenchState → List (List ℕ) → Fault → Type 0
@@ -225,9 +260,10 @@ TracesLack kind c old new names faults.Flash = ⊥
 TracesLack kind c old new names faults.Source = Rose old.faults new.faults
 TracesLack kind c old new names faults.NoMemory = Unit {0}
 TracesLack kind c old new names faults.Turns = ⊥
-TracesLack kind c old new names (faults.Record cause) = ⊥
-TracesLack kind c old new names (faults.Audit at why) = ⊥
-TracesLack kind c old new names (faults.Output line) = ⊥
+TracesLack kind c old new names (faults.Record number cause) = ⊥
+TracesLack kind c old new names (faults.Audit number at why) = ⊥
+TracesLack kind c old new names (faults.Output number line) = ⊥
+TracesLack kind c old new names (faults.Lost number at) = ⊥
 
 -- why it finds no commands of the name with this number, for blocks of this size
 abbrev pub CommandsLack : Texts → ℕ → BenchState → BenchState → ℕ → List ℕ → Fault → Type 0
@@ -241,9 +277,10 @@ CommandsLack kind block old new number name faults.Flash = ⊥
 CommandsLack kind block old new number name faults.Source = Rose old.faults new.faults
 CommandsLack kind block old new number name faults.NoMemory = Unit {0}
 CommandsLack kind block old new number name faults.Turns = ⊥
-CommandsLack kind block old new number name (faults.Record cause) = ⊥
-CommandsLack kind block old new number name (faults.Audit at why) = ⊥
-CommandsLack kind block old new number name (faults.Output line) = ⊥
+CommandsLack kind block old new number name (faults.Record which cause) = ⊥
+CommandsLack kind block old new number name (faults.Audit which at why) = ⊥
+CommandsLack kind block old new number name (faults.Output which line) = ⊥
+CommandsLack kind block old new number name (faults.Lost which at) = ⊥
 
 -- a call of the bench that failed was counted where that is the fault, and nothing was where it is another
 abbrev pub CountsSource : ℕ → ℕ → Fault → Type 0
@@ -257,6 +294,7 @@ CountsSource old new faults.Flash = new ≡ old
 CountsSource old new faults.Source = Rose old new
 CountsSource old new faults.NoMemory = new ≡ old
 CountsSource old new faults.Turns = new ≡ old
-CountsSource old new (faults.Record cause) = new ≡ old
-CountsSource old new (faults.Audit at why) = new ≡ old
-CountsSource old new (faults.Output line) = new ≡ old
+CountsSource old new (faults.Record number cause) = new ≡ old
+CountsSource old new (faults.Audit number at why) = new ≡ old
+CountsSource old new (faults.Output number line) = new ≡ old
+CountsSource old new (faults.Lost number at) = new ≡ old

@@ -9,6 +9,9 @@ use std::alloc::Global;
 /// Traces of a run.
 pub const MOST_TRACES: usize = 16;
 
+/// Records of an audit.
+pub const MOST_RECORDS: usize = 16;
+
 /// Digits of the number of a generated load.
 pub const LONGEST_NUMBER: usize = 4;
 
@@ -52,7 +55,7 @@ pub enum Request<'a> {
     StreamRecord(NamesAsked<'a>),
     /// To serve a generated load.
     Make(LoadAsked<'a>),
-    /// To judge the record of a run.
+    /// To judge the records of runs.
     Audit(AuditAsked<'a>),
 }
 
@@ -74,12 +77,12 @@ pub struct LoadAsked<'a> {
     pub image: &'a str,
 }
 
-/// The names of a configuration and of the record of a run on a new image.
-#[derive(Clone, Copy, Debug)]
+/// The names of a configuration and of the records of runs that followed one another on one image.
+#[derive(Debug, Drop)]
 pub struct AuditAsked<'a> {
     pub config: &'a str,
-    /// The record.
-    pub text: &'a str,
+    /// The records, that of the first run first.
+    pub texts: Vec<&'a str>,
 }
 
 /// Why the words ask for nothing.

@@ -1,15 +1,16 @@
 //! The words behind the first, as `clap` reads them: those of a simple command that has positional arguments alone. No word that begins with `-`
 //! comes here, so that `clap` meets no option, no `--` and no call for help, and each word is a value as it stands.
 
-ghost use Rattle.std.specs.Prelude.{◌≡◌, ◌≢◌, IfErr, IfOk, MatchResult, None, Some, false};
+ghost use Rattle.std.specs.Prelude.{◌≡◌, ◌≢◌, ◌≤◌, IfErr, IfOk, MatchResult, None, Some, false};
 ghost use Rattle.std.specs.List.{list_all, list_any};
 ghost use Rattle.std.specs.Char.{is_ascii_digit};
 ghost use Rattle.clap.specs.Words.{app_of, kind_of, rule_of};
-ghost use Rattle.fdp_finding.specs.Asked.{Names, Pair, audit_of, begins_with_dash, is_number, load_of, names_of, pair_of};
-ghost use Rattle.fdp_finding.specs.CommandLine.{AreNames, ArePair, Counts, Misses, as_audit, as_load, as_names, as_pair, bare, one, one_to_sixteen, spelled};
+ghost use Rattle.fdp_finding.specs.Asked.{AuditNames, Names, Pair, audit_of, begins_with_dash, is_number, load_of, names_of, pair_of};
+ghost use Rattle.fdp_finding.specs.CommandLine.{AreAuditNames, AreFew, AreNames, ArePair, Counts, Misses, as_audit, as_load, as_names, as_pair, bare, one, one_to, spelled};
 
 use crate::asked::{
-    AuditAsked, LONGEST_NUMBER, LoadAsked, MOST_NUMBER, MOST_TRACES, NamesAsked, NotAsked,
+    AuditAsked, LONGEST_NUMBER, LoadAsked, MOST_NUMBER, MOST_RECORDS, MOST_TRACES, NamesAsked,
+    NotAsked,
 };
 use clap::error::ErrorKind;
 use clap::{Arg, ArgMatches, Command, Error};
@@ -60,17 +61,27 @@ pub fn load_in(alloc: Global, words: &[String]) -> Result<LoadAsked<'_>, NotAske
     })
 }
 
-/// The configuration and the record behind `audit`.
+/// The names behind `audit`.
 pub fn audit_in(alloc: Global, words: &[String]) -> Result<AuditAsked<'_>, NotAsked>
     requires { list_any begins_with_dash (spelled words.now) ≡ false }
     ensures { MatchResult result
-        (λ audit. audit_of (spelled words.now) ≡ Some (as_audit audit))
+        (λ audit. (audit_of (spelled words.now) ≡ Some (as_audit audit)) × AreFew audit)
         (Misses (audit_of (spelled words.now))) }
 {
-    let pair = pair_in(alloc, words)?;
+    let matches = match matches_of_audit(alloc, words) {
+        Ok(matches) => matches,
+        Err(error) => return Err(cause_of(&error)),
+    };
+    let mut texts = Vec::new(alloc);
+    if texts
+        .extend_from_slice(matches.get_strs("RECORD").unwrap())
+        .is_err()
+    {
+        return Err(NotAsked::NoMemory);
+    }
     Ok(AuditAsked {
-        config: pair.first,
-        text: pair.second,
+        config: matches.get_str("CONFIG").unwrap(),
+        texts,
     })
 }
 
@@ -106,7 +117,19 @@ fn matches_of_names<'a>(alloc: Global, words: &'a [String]) -> Result<ArgMatches
     let command = simple(alloc)
         .arg(one(alloc, "CONFIG"))?
         .arg(one(alloc, "IMAGE"))?
-        .arg(one_to_sixteen(alloc, "TRACE"))?;
+        .arg(one_to(alloc, MOST_TRACES, "TRACE"))?;
+    command.try_get_matches_from(words)
+}
+
+/// Reads `CONFIG RECORD..`.
+fn matches_of_audit<'a>(alloc: Global, words: &'a [String]) -> Result<ArgMatches<'a>, Error>
+    requires { list_any begins_with_dash (spelled words.now) ≡ false }
+    ensures ok { IfOk result (λ m. (names : AuditNames) × (audit_of (spelled words.now) ≡ Some names) × AreAuditNames m names) }
+    ensures err { IfErr result (λ e. kind_of e ≢ ErrorKind.OutOfMemory → audit_of (spelled words.now) ≡ None) }
+{
+    let command = simple(alloc)
+        .arg(one(alloc, "CONFIG"))?
+        .arg(one_to(alloc, MOST_RECORDS, "RECORD"))?;
     command.try_get_matches_from(words)
 }
 
@@ -139,12 +162,13 @@ fn one<'a>(alloc: Global, id: &'a str) -> Arg<'a>
     Arg::new(alloc, id).required(true)
 }
 
-/// As many words as a run may have traces, at the end.
-fn one_to_sixteen<'a>(alloc: Global, id: &'a str) -> Arg<'a>
-    ensures rule { rule_of result ≡ one_to_sixteen id.entry.now }
+/// One word or more, up to so many, at the end.
+fn one_to<'a>(alloc: Global, most: usize, id: &'a str) -> Arg<'a>
+    requires { 1 ≤ most }
+    ensures rule { rule_of result ≡ one_to most id.entry.now }
     ensures local { result.global ≡ false }
 {
-    one(alloc, id).num_args(1..=MOST_TRACES)
+    one(alloc, id).num_args(1..=most)
 }
 
 /// Whether a word has one to four digits, and spells a number of at most 8,192.

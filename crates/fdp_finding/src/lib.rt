@@ -1,4 +1,4 @@
-//! What a run is asked for: its words, its configuration and its traces or streams, or a record, and the faults of a run with their lines.
+//! What a run is asked for: its words, its configuration and its traces or streams, or records, and the faults of a run with their lines.
 #![tactic(auto)]
 
 mod asked;
@@ -11,9 +11,10 @@ mod no_record;
 mod no_stream;
 mod no_trace;
 mod reading;
+mod records;
 mod traces;
 
-pub use asked::{Form, MOST_TRACES};
+pub use asked::{Form, MOST_RECORDS, MOST_TRACES};
 pub use fault::Fault;
 pub use image::ImageFault;
 pub use laws::limits_are_those_of_the_documents;
@@ -22,3 +23,4 @@ pub use no_record::NoRecord;
 pub use no_stream::NoStream;
 pub use no_trace::NoTrace;
 pub use reading::{Audited, Task, Wanted, find};
+pub use records::number_among;

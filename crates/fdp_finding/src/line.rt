@@ -1,9 +1,9 @@
 //! The line of a fault. It is written part by part, so that it takes no memory, however long a key is that it names.
 
-ghost use Rattle.std.specs.Prelude.{codes};
+ghost use Rattle.std.specs.Prelude.{◌≡◌, ◌++◌, codes};
 ghost use Rattle.std.specs.List.{flat_map};
 ghost use Rattle.fdp_config.specs.declared.fault.NoConfig.TheVariants.{Faulty};
-ghost use Rattle.fdp_finding.specs.Faults.{audit_fault, config_fault, fault_text, image_fault, no_stream_words, no_trace_words, output_fault, record_fault, stream_fault, trace_fault};
+ghost use Rattle.fdp_finding.specs.Faults.{audit_fault, config_fault, fault_text, image_fault, lost_fault, no_stream_words, no_trace_words, number_words, output_fault, record_fault, stream_fault, trace_fault};
 ghost use Rattle.fdp_finding.specs.Line.{Writes};
 
 use crate::fault::Fault;
@@ -30,9 +30,10 @@ pub fn write_fault<K: Sink>(sink: &mut K, fault: &Fault) -> Result<(), SinkFaile
         Fault::Source => write_parts(sink, &["fault 6 source\n"]),
         Fault::Turns => write_parts(sink, &["fault 9 turns\n"]),
         Fault::Stream { stream, cause } => write_no_stream(sink, *stream, *cause),
-        Fault::Record(cause) => write_no_record(sink, *cause),
-        Fault::Audit { at, why } => write_no_audit(sink, *at, *why),
-        Fault::Output { line } => write_no_output(sink, *line),
+        Fault::Record { number, cause } => write_no_record(sink, *number, *cause),
+        Fault::Audit { number, at, why } => write_no_audit(sink, *number, *at, *why),
+        Fault::Output { number, line } => write_no_output(sink, *number, *line),
+        Fault::Lost { number, at } => write_lost(sink, *number, *at),
         Fault::NoMemory => Ok(()),
     }
 }
@@ -137,42 +138,88 @@ fn write_image_fault<K: Sink>(sink: &mut K, cause: ImageFault) -> Result<(), Sin
 }
 
 /// Writes the line for a text that is no record.
-fn write_no_record<K: Sink>(sink: &mut K, cause: NoRecord) -> Result<(), SinkFailed>
-    ensures { Writes (K.state sink.old) (K.state sink.new) (record_fault cause) result }
+fn write_no_record<K: Sink>(
+    sink: &mut K,
+    number: Option<usize>,
+    cause: NoRecord,
+) -> Result<(), SinkFailed>
+    ensures { Writes (K.state sink.old) (K.state sink.new) (record_fault number cause) result }
 {
+    let mut digits = Buffer::new();
+    let NumberWords { number, space } = numbered(&mut digits, number);
     match cause {
-        NoRecord::Absent => write_parts(sink, &["fault 14 record absent\n"]),
-        NoRecord::TooLong => write_parts(sink, &["fault 14 record long\n"]),
+        NoRecord::Absent => write_parts(sink, &["fault 14 record ", number, space, "absent\n"]),
+        NoRecord::TooLong => write_parts(sink, &["fault 14 record ", number, space, "long\n"]),
         NoRecord::Line(line) => {
-            let mut number = Buffer::new();
-            write_parts(sink, &["fault 14 record ", number.format(line), "\n"])
+            let mut place = Buffer::new();
+            let line = place.format(line);
+            write_parts(sink, &["fault 14 record ", number, space, line, "\n"])
         }
     }
 }
 
 /// Writes the line for an entry that a history does not go on with.
-fn write_no_audit<K: Sink>(sink: &mut K, at: u64, why: u8) -> Result<(), SinkFailed>
-    ensures { Writes (K.state sink.old) (K.state sink.new) (audit_fault at why) result }
+fn write_no_audit<K: Sink>(
+    sink: &mut K,
+    number: Option<usize>,
+    at: u64,
+    why: u8,
+) -> Result<(), SinkFailed>
+    ensures { Writes (K.state sink.old) (K.state sink.new) (audit_fault number at why) result }
 {
-    let (mut place, mut number) = (Buffer::new(), Buffer::new());
+    let (mut digits, mut place, mut rule) = (Buffer::new(), Buffer::new(), Buffer::new());
+    let NumberWords { number, space } = numbered(&mut digits, number);
+    let (at, why) = (place.format(at), rule.format(why));
     write_parts(
         sink,
-        &[
-            "fault 13 audit ",
-            place.format(at),
-            " ",
-            number.format(why),
-            "\n",
-        ],
+        &["fault 13 audit ", number, space, at, " ", why, "\n"],
     )
 }
 
 /// Writes the line for an output that is not the one due.
-fn write_no_output<K: Sink>(sink: &mut K, line: usize) -> Result<(), SinkFailed>
-    ensures { Writes (K.state sink.old) (K.state sink.new) (output_fault line) result }
+fn write_no_output<K: Sink>(
+    sink: &mut K,
+    number: Option<usize>,
+    line: usize,
+) -> Result<(), SinkFailed>
+    ensures { Writes (K.state sink.old) (K.state sink.new) (output_fault number line) result }
 {
-    let mut number = Buffer::new();
-    write_parts(sink, &["fault 13 output ", number.format(line), "\n"])
+    let (mut digits, mut place) = (Buffer::new(), Buffer::new());
+    let NumberWords { number, space } = numbered(&mut digits, number);
+    let line = place.format(line);
+    write_parts(sink, &["fault 13 output ", number, space, line, "\n"])
+}
+
+/// Writes the line for a change that the next run does not go on from.
+fn write_lost<K: Sink>(sink: &mut K, number: usize, at: u64) -> Result<(), SinkFailed>
+    ensures { Writes (K.state sink.old) (K.state sink.new) (lost_fault number at) result }
+{
+    let (mut digits, mut place) = (Buffer::new(), Buffer::new());
+    let NumberWords { number, space } = numbered(&mut digits, Some(number));
+    let at = place.format(at);
+    write_parts(sink, &["fault 13 lost ", number, space, at, "\n"])
+}
+
+/// The digits of the number of a record and the space behind them, or two empty texts.
+struct NumberWords<'a> {
+    number: &'a str,
+    space: &'a str,
+}
+
+/// The number of a record as it stands in a line, where it has one.
+fn numbered<'a>(digits: &'a mut Buffer, number: Option<usize>) -> NumberWords<'a>
+    ensures { result.number.now ++ result.space.now ≡ number_words number }
+{
+    match number {
+        Some(number) => NumberWords {
+            number: digits.format(number),
+            space: " ",
+        },
+        None => NumberWords {
+            number: "",
+            space: "",
+        },
+    }
 }
 
 /// Writes texts one behind another.

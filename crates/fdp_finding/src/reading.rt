@@ -4,17 +4,16 @@ ghost use Rattle.fdp_io.specs.Bench.{SameFlashes, SameTexts};
 ghost use Rattle.fdp_make.specs.Load.{make_config, make_traces};
 ghost use Rattle.fdp_trace.specs.Numbers.{value_of};
 ghost use Rattle.fdp_finding.specs.Configured.{ReadsConfig};
-ghost use Rattle.fdp_finding.specs.CommandLine.{Counts, as_audit, as_names};
+ghost use Rattle.fdp_finding.specs.CommandLine.{AreFew, Counts, as_audit, as_names};
 ghost use Rattle.fdp_finding.specs.Traced.{IsServable};
-ghost use Rattle.fdp_finding.specs.Recorded.{ReadsRecord};
-ghost use Rattle.fdp_finding.specs.Wanted.{AuditLacks, ConfigLacks, CountsSource, Finds, HasRecord, HasTexts, Lacks, RecordLacks, TextsLack, commands_of};
+ghost use Rattle.fdp_finding.specs.Wanted.{AuditLacks, ConfigLacks, CountsSource, Finds, HasRecords, HasTexts, Lacks, TextsLack, commands_of, texts_in};
 ghost use Rattle.fdp_finding.specs.Task.{AuditsIf, CanBegin, IsLoad, ServesIf, sought_of};
 
 use crate::asked::{AuditAsked, Form, LoadAsked, NamesAsked, NotAsked, Request, Texts, asked};
 use crate::fault::Fault;
-use crate::no_record::NoRecord;
+use crate::records::find_records;
 use crate::traces::find_traces;
-use fdp_base::{Command, DriveConfig, LONGEST_CONFIG, LONGEST_TRACE};
+use fdp_base::{Command, DriveConfig, LONGEST_CONFIG};
 use fdp_config::{NoConfig, read_config};
 use fdp_io::{Bench, TextRead};
 use std::alloc::Global;
@@ -28,11 +27,11 @@ pub struct Wanted<'a> {
     pub traces: Vec<Vec<Command>>,
 }
 
-/// A configuration, and the text that is to be the record of a run on a new image of its drive.
+/// A configuration, and the texts that are to be the records of runs that followed one another on an image of its drive, which was new before the first.
 #[derive(Debug, Drop)]
 pub struct Audited {
     pub config: DriveConfig,
-    pub text: Vec<u8>,
+    pub texts: Vec<Vec<u8>>,
 }
 
 /// What is to be done, with all that was found for it.
@@ -40,7 +39,7 @@ pub struct Audited {
 pub enum Task<'a> {
     /// To serve traces or streams.
     Serve(Wanted<'a>),
-    /// To judge a record.
+    /// To judge records.
     Audit(Audited),
 }
 
@@ -73,7 +72,7 @@ pub fn find<'a, B: Bench>(
             find_texts(alloc, Form::StreamRecord, Texts::Streams, names, bench)
         }
         Ok(Request::Make(load)) => find_load(alloc, load),
-        Ok(Request::Audit(audit)) => find_record(alloc, audit, bench),
+        Ok(Request::Audit(audit)) => find_audit(alloc, audit, bench),
         Err(NotAsked::Usage) => Err(Fault::Usage),
         Err(NotAsked::NoMemory) => Err(Fault::NoMemory),
     }
@@ -131,12 +130,13 @@ fn find_load<'a>(alloc: Global, load: LoadAsked<'a>) -> Result<Task<'a>, Fault>
     }))
 }
 
-/// A configuration, and the text of a record.
-fn find_record<'a, B: Bench>(
+/// A configuration, and the texts of records.
+fn find_audit<'a, B: Bench>(
     alloc: Global,
     audit: AuditAsked<'a>,
     bench: &mut B,
 ) -> Result<Task<'a>, Fault>
+    requires { AreFew audit }
     ensures texts { SameTexts (B.state bench.old) (B.state bench.new) }
     ensures flashes { SameFlashes (B.state bench.old) (B.state bench.new) }
     ensures faults { (B.state bench.old).faults ≤ (B.state bench.new).faults }
@@ -144,36 +144,14 @@ fn find_record<'a, B: Bench>(
         (λ _. (B.state bench.new).faults ≡ (B.state bench.old).faults)
         (λ fault. CountsSource (B.state bench.old).faults (B.state bench.new).faults fault) }
     ensures answer { MatchResult result
-        (AuditsIf (λ found. HasRecord (B.state bench.old) (as_audit audit.entry) found.config found.text.items))
+        (AuditsIf (λ found. HasRecords (B.state bench.old) (as_audit audit.entry) found.config (texts_in found.texts.items)))
         (λ fault. AuditLacks (B.state bench.old) (B.state bench.new) (as_audit audit.entry) fault) }
     ensures begins { IfOk result CanBegin }
 {
     let config = find_config(alloc, audit.config, bench)?;
-    match find_text(alloc, audit.text, bench) {
-        Ok(text) => Ok(Task::Audit(Audited { config, text })),
+    match find_records(alloc, &audit.texts, bench) {
+        Ok(texts) => Ok(Task::Audit(Audited { config, texts })),
         Err(fault) => Err(fault),
-    }
-}
-
-/// The text of this name that is to be a record.
-fn find_text<B: Bench>(alloc: Global, name: &str, bench: &mut B) -> Result<Vec<u8>, Fault>
-    ensures texts { SameTexts (B.state bench.old) (B.state bench.new) }
-    ensures flashes { SameFlashes (B.state bench.old) (B.state bench.new) }
-    ensures faults { (B.state bench.old).faults ≤ (B.state bench.new).faults }
-    ensures counts { MatchResult result
-        (λ _. (B.state bench.new).faults ≡ (B.state bench.old).faults)
-        (λ fault. CountsSource (B.state bench.old).faults (B.state bench.new).faults fault) }
-    ensures answer { MatchResult result
-        (λ text. ReadsRecord (B.state bench.old) name.now text.items)
-        (λ fault. RecordLacks (B.state bench.old) (B.state bench.new) name.now fault) }
-{
-    let mut text = Vec::new(alloc);
-    match bench.read_text(name, &mut text, LONGEST_TRACE) {
-        TextRead::Done => Ok(text),
-        TextRead::Missing => Err(Fault::Record(NoRecord::Absent)),
-        TextRead::TooLong => Err(Fault::Record(NoRecord::TooLong)),
-        TextRead::Failed => Err(Fault::Source),
-        TextRead::NoMemory => Err(Fault::NoMemory),
     }
 }
 

@@ -1,5 +1,5 @@
 -- The blocks of a found drive: those of the point that it goes on from, each on the page where it stands.
-use Rattle.std.proofs.Common.{◌≡◌, ◌≢◌, ℕ, ◌≤◌, ◌<◌, Bool, true, false, find, List, Option, Some, None, refl, sym, ◌∙◌, ap, arith, eq-eqb, ne_eqb, ⊎_elim}
+use Rattle.std.proofs.Common.{◌≡◌, ◌≢◌, ℕ, ◌≤◌, ◌<◌, Bool, true, false, find, Option, Some, None, refl, sym, ◌∙◌, ap, arith, eq-eqb, ne_eqb, ⊎_elim}
 use Rattle.std.specs.Prelude.{◌==◌, ◌&&◌, option_and_then, option_map}
 use Rattle.std.proofs.lemmas.Bool.{cases_eq}
 use Rattle.fdp_base.specs.declared.entry.Spot.{Spot}

@@ -13,7 +13,7 @@ use Rattle.fdp_tables.specs.Fresh.{IsFresh}
 use Rattle.fdp_tables.specs.State.{plain_of}
 use Rattle.fdp_plain.specs.Found.{BeginsInOrder}
 use Rattle.fdp_plain.proofs.Ordering.{in_order_fresh}
-use Rattle.fdp_plain.specs.Run.{Run, found_of, point_in}
+use Rattle.fdp_plain.specs.Run.{AreLegalBehind, Run, found_of, point_in}
 use Rattle.fdp_plain.specs.Telling.{TellsHistory, run_of}
 
 none_of_none : (es : List Entry) → length es ≡ 0 → es ≡ []
@@ -47,6 +47,7 @@ first_history c k valid h =
     let config = sym h.config in
     let run : first_run c ≡ run_of k = sym (run_is c k h) in
     let legal : IsLegal true c (found_of (first_run c)) [] = tt in
+    let none : AreLegalBehind c [] [] = tt in
     record {
       config = subst IsValidConfig config valid;
       rows = record {
@@ -64,5 +65,6 @@ first_history c k valid h =
       begins = subst (λ (r : Run). BeginsInOrder r.config (found_of r)) run (in_order_fresh c valid);
       known = h.sound.found_pages;
       point = h.point ∙ ap point_in run;
+      earlier = subst (λ (r : Run). AreLegalBehind r.config [] r.earlier) run none;
       legal = subst (λ (r : Run). IsLegal true r.config (found_of r) r.entries) run legal;
     }

@@ -1,7 +1,6 @@
 -- A run that goes on where another stood begins in order, with what lasts of it.
 use Rattle.std.proofs.Common.{◌≡◌, ℕ, ◌+◌, ◌≤◌, ◌<◌, true, false, List, [], Option, Some, None, refl, sym, ◌∙◌, ap, arith, subst}
-use Rattle.std.specs.Prelude.{◌++◌, filter, not, option_and_then, option_map, slice_index}
-use Rattle.std.specs.Option.{option_map_or}
+use Rattle.std.specs.Prelude.{◌++◌, filter, not, option_and_then, option_map}
 use Rattle.std.proofs.lemmas.List.{append-nil}
 use Rattle.std.proofs.lemmas.List.Elements.{All-nil}
 use Rattle.fdp_base.specs.declared.config.DriveConfig.{DriveConfig}
@@ -11,10 +10,9 @@ use Rattle.fdp_base.specs.declared.event.Event.{Event}
 use Rattle.fdp_base.specs.Config.{IsValidConfig}
 use Rattle.fdp_rules.specs.Effect.{no_reference}
 use Rattle.fdp_rules.specs.Events.{is_host_event, kept_from, latest}
-use Rattle.fdp_rules.specs.History.{Found, FoundBlock, controller_events_of, events_of, first_state, found_block, host_events_of, point_of, state_of, totals_of}
-use Rattle.fdp_rules.specs.PlainState.{Block, Content, Going, Namespace, PageName, PageName.found, PageName.written, PlainState, content_of, lasting}
-use Rattle.fdp_rules.specs.Point.{Copy, Point, Trail}
-use Rattle.fdp_rules.specs.Room.{size_of}
+use Rattle.fdp_rules.specs.History.{Found, controller_events_of, events_of, first_state, found_block, host_events_of, point_of, state_of, totals_of}
+use Rattle.fdp_rules.specs.PlainState.{Block, Namespace, PageName, PageName.found, PageName.written, PlainState, content_of, lasting}
+use Rattle.fdp_rules.specs.Point.{Point}
 use Rattle.fdp_rules.specs.Legal.{IsLegal}
 use Rattle.fdp_rules.specs.Sites.{first_trail, group_of, trail_of}
 use Rattle.fdp_rules.specs.Step.{IsPage}

@@ -7,7 +7,6 @@ use Rattle.fdp_base.specs.declared.command.Command.{Command}
 use Rattle.fdp_base.specs.declared.config.DriveConfig.{DriveConfig}
 use Rattle.fdp_base.specs.declared.entry.Entry.{Entry}
 use Rattle.fdp_base.specs.declared.entry.Entry.TheVariants as entries
-use Rattle.fdp_base.specs.declared.event.EventKind.{EventKind}
 use Rattle.fdp_base.specs.Config.{IsValidConfig}
 use Rattle.fdp_base.specs.EventCodes.{kind_code}
 use Rattle.fdp_rules.specs.Change.{after, changed_by}
@@ -17,7 +16,7 @@ use Rattle.fdp_rules.specs.Legal.{IsLegal}
 use Rattle.fdp_rules.specs.Next.{next}
 use Rattle.fdp_rules.specs.PlainState.{PlainState}
 use Rattle.fdp_rules.specs.Point.{Point}
-use Rattle.fdp_rules.specs.Room.{handles_in_force, handles_of}
+use Rattle.fdp_rules.specs.Room.{handles_of}
 use Rattle.fdp_rules.specs.Step.{Follows}
 use Rattle.fdp_rules.proofs.Effects.{by-effect}
 use Rattle.fdp_history.specs.OrderlyState.{IsOrderlyState}

@@ -1,5 +1,5 @@
 -- Namespaces whose blocks are named by where they stand, one after another.
-use Rattle.std.proofs.Common.{◌≡◌, ◌≢◌, ℕ, ◌+◌, ◌<◌, ◌≤◌, List, length, get_or, set, map, slice_get, Option, Some, None, refl, ap, sym, ◌∙◌, arith, subst, cond, eq-eqb, ne_eqb, ⊎_elim}
+use Rattle.std.proofs.Common.{◌≡◌, ◌≢◌, ℕ, ◌+◌, ◌<◌, ◌≤◌, List, length, get_or, set, map, Option, None, refl, ap, sym, ◌∙◌, arith, subst, cond, eq-eqb, ne_eqb, ⊎_elim}
 use Rattle.std.specs.Prelude.{option_map}
 use Rattle.std.specs.Option.{option_flatten}
 use Rattle.std.proofs.lemmas.Bool.{cases_eq, cases_lt}
@@ -13,7 +13,7 @@ use Rattle.fdp_tables.specs.declared.state.Space.{Space}
 use Rattle.fdp_tables.specs.State.{row, table_site}
 use Rattle.fdp_tables.proofs.Tables.{read-set}
 use Rattle.fdp_tables.proofs.Walks.{row-map}
-use Rattle.fdp_plain.specs.Reopening.{IsNamed, SiteTables, kept_in, named_block, site_by, tables_of}
+use Rattle.fdp_plain.specs.Reopening.{IsNamed, SiteTables, named_block, site_by, tables_of}
 
 -- the first namespaces are named, and the others are as they were
 pub record IsNaming (t : SiteTables) (old : List (Option Space)) (i : ℕ) (new : List (Option Space)) : Type 0 where

@@ -1,43 +1,40 @@
 -- The tables of a run that goes on from another tell what stands as it begins.
-use Rattle.std.proofs.Common.{◌≡◌, ℕ, zero, suc, ◌+◌, ◌-◌, ◌*◌, ◌<◌, ◌≤◌, ◌++◌, Bool, true, false, not, List, [], ◌∷◌, length, take, drop, map, Option, Some, None, refl, sym, ◌∙◌, ap, subst, arith, replicate, length-append, slice_get, reverse}
-use Rattle.std.specs.Prelude.{◌==◌, ◌&&◌, IsTrue, filter, fold, nat_lt, option_map}
-use Rattle.std.specs.Option.{option_flatten, option_map_or}
+use Rattle.std.proofs.Common.{◌≡◌, ℕ, zero, suc, ◌+◌, ◌-◌, ◌*◌, ◌<◌, ◌++◌, Bool, true, not, List, [], ◌∷◌, length, take, drop, map, Option, Some, None, refl, sym, ◌∙◌, ap, subst, arith, replicate, length-append, slice_get, reverse}
+use Rattle.std.specs.Prelude.{◌==◌, ◌&&◌, filter, nat_lt, option_map}
+use Rattle.std.specs.Option.{option_map_or}
 use Rattle.std.specs.Vec.{vec_items}
 use Rattle.std.proofs.lemmas.List.{drop_all, length-drop, length-map, length-replicate, take_all}
 use Rattle.std.proofs.lemmas.List.Sums.{fold-append}
 use Rattle.std.proofs.lemmas.Bool.Decides.{nat_tests}
-use Rattle.std.proofs.lemmas.Option.{none-some, slice_get_within}
+use Rattle.std.proofs.lemmas.Option.{none-some}
 use Rattle.fdp_base.specs.declared.config.DriveConfig.{DriveConfig}
 use Rattle.fdp_base.specs.declared.entry.Entry.{Entry}
 use Rattle.fdp_base.specs.declared.entry.Spot.{Spot}
 use Rattle.fdp_base.specs.declared.event.Event.{Event}
-use Rattle.fdp_base.specs.declared.event.EventKind.{EventKind}
 use Rattle.fdp_base.specs.Config.{IsValidConfig}
-use Rattle.fdp_rules.specs.Effect.{no_reference}
 use Rattle.fdp_rules.specs.Events.{is_host_event, latest}
 use Rattle.fdp_rules.specs.History.{Found, found_block, fresh, point_of}
 use Rattle.fdp_rules.specs.Legal.{IsLegal, IsLegalAfter}
-use Rattle.fdp_rules.specs.PlainState.{Block, Going, PageName, PageName.found, PageName.written, PlainState}
-use Rattle.fdp_rules.specs.Point.{Copy, Point, Trail}
-use Rattle.fdp_rules.specs.Sites.{first_site, first_trail, trail_of}
+use Rattle.fdp_rules.specs.PlainState.{Block, Going, PageName, PageName.found, PageName.written}
+use Rattle.fdp_rules.specs.Point.{Point}
+use Rattle.fdp_rules.specs.Sites.{first_site, trail_of}
 use Rattle.fdp_tables.specs.declared.state.Kept.{Kept}
 use Rattle.fdp_tables.specs.declared.state.KeptBlock.{KeptBlock}
-use Rattle.fdp_tables.specs.declared.state.KeptPage.{KeptPage}
 use Rattle.fdp_tables.specs.declared.state.KeptPage.TheVariants as pages
-use Rattle.fdp_tables.specs.declared.state.KeptReports.{KeptReports}
 use Rattle.fdp_tables.specs.PageSites.{site_in}
 use Rattle.fdp_tables.specs.Sound.{KnowsFound}
-use Rattle.fdp_tables.specs.Starts.{AreStarts, cut, last_from, start_of}
-use Rattle.fdp_tables.specs.State.{block_at, block_of, copies_at, is_opening, keeps, own_entries, page_of, plain_of, point_kept, row, site_at, table_site}
+use Rattle.fdp_tables.specs.Starts.{AreStarts, cut, start_of}
+use Rattle.fdp_tables.specs.State.{block_at, block_of, copies_at, is_opening, own_entries, page_of, plain_of, point_kept, row, site_at, table_site}
 use Rattle.fdp_tables.specs.Copies.{copy_of}
 use Rattle.fdp_tables.proofs.Sited.{page_sited}
 use Rattle.fdp_plain_effects.specs.Rows.{KeepsRows}
 use Rattle.fdp_plain.specs.declared.reopen.Next.{Next}
-use Rattle.fdp_plain.specs.Found.{BeginsInOrder, StandsInOrder, block_found, found_after, found_at, found_in}
+use Rattle.fdp_plain.specs.Found.{BeginsInOrder, StandsInOrder, block_found, found_after, found_at}
 use Rattle.fdp_plain.specs.Reopening.{Forgets, IsNamed, IsNext, named_block, site_by, tables_of}
 use Rattle.fdp_plain.specs.Rows.{HasRows}
-use Rattle.fdp_plain.specs.Run.{Run, found_of, point_in}
+use Rattle.fdp_plain.specs.Run.{AreLegalBehind, Run, found_of, point_in}
 use Rattle.fdp_plain.specs.Telling.{TellsHistory, run_of}
+use Rattle.fdp_plain.proofs.LegalRuns.{legal-more}
 use Rattle.fdp_plain.proofs.GoingOn.{begins, events_again, found_absent, found_from, found_standing, opened, opened_is, opened_point}
 use Rattle.fdp_plain.proofs.Renaming.{by_tables}
 use Rattle.fdp_plain.proofs.Runs.{cut_more, last_more, starts_more}
@@ -255,5 +252,6 @@ module _ (k m : Kept) (next : Next)
             (subst (BeginsInOrder c) (sym found_is) (begins c p h.config order));
         known = known_is;
         point = point_begins ∙ ap point_in run;
+        earlier = subst (λ (r : Run). AreLegalBehind r.config [] r.earlier) run (legal-more c [] (run_of k).earlier (own_entries k) h.earlier h.legal);
         legal = subst (λ (r : Run). IsLegal true r.config (found_of r) r.entries) run legal;
       }

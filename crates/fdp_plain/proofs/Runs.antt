@@ -1,10 +1,10 @@
 -- The entries of the runs on one image, cut from all entries.
-use Rattle.std.proofs.Common.{◌≡◌, ℕ, ◌+◌, ◌-◌, ◌≤◌, List, [], ◌∷◌, ◌++◌, length, take, drop, refl, ap, sym, ◌∙◌, arith}
+use Rattle.std.proofs.Common.{◌≡◌, ℕ, ◌-◌, ◌≤◌, List, [], ◌∷◌, ◌++◌, length, take, drop, refl, ap, ◌∙◌, arith}
 use Rattle.std.proofs.lemmas.List.{drop-append-le, length-drop, take-append-le}
 use Rattle.fdp_tables.specs.Starts.{AreStarts, cut, last_from}
 
 -- a run begins behind no more entries than there are
-starts_from : (from : ℕ) (starts : List ℕ) (n : ℕ) → AreStarts from starts n → from ≤ n
+pub starts_from : (from : ℕ) (starts : List ℕ) (n : ℕ) → AreStarts from starts n → from ≤ n
 starts_from from [] n h = h
 starts_from from (to ∷ starts) n h = omega (arith, h.0, starts_from to starts n h.1)
 

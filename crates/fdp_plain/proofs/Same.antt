@@ -1,5 +1,5 @@
 -- Lists that have other spare room say the same.
-use Rattle.std.proofs.Common.{◌≡◌, ℕ, true, false, not, List, [], length, None, Some, refl, sym, ◌∙◌, ap, subst, map, reverse, drop}
+use Rattle.std.proofs.Common.{◌≡◌, ℕ, true, not, List, [], length, None, Some, refl, sym, ◌∙◌, ap, subst, map, reverse, drop}
 use Rattle.std.specs.Prelude.{◌==◌, ◌&&◌, filter, nat_lt, option_map, slice_get}
 use Rattle.std.specs.Option.{option_map_or}
 use Rattle.std.specs.Vec.{vec_items}
@@ -25,7 +25,7 @@ use Rattle.fdp_tables.specs.State.{copies_at, is_opening, own_entries, plain_of,
 use Rattle.fdp_plain.specs.Reserved.{IsSame}
 use Rattle.fdp_plain.specs.Rows.{HasRows}
 use Rattle.fdp_plain.specs.Found.{BeginsInOrder}
-use Rattle.fdp_plain.specs.Run.{Run, found_of, point_in}
+use Rattle.fdp_plain.specs.Run.{AreLegalBehind, Run, found_of, point_in}
 use Rattle.fdp_plain.specs.Telling.{TellsHistory, run_of}
 
 -- a page stands where it stood by the same rows, configuration and entries
@@ -138,5 +138,6 @@ module _ (k m : Kept) (h : IsSame k m) where
         begins = subst (λ (r : Run). BeginsInOrder r.config (found_of r)) run history.begins;
         known = same_known history.known;
         point = same_point ∙ history.point ∙ ap point_in run;
+        earlier = subst (λ (r : Run). AreLegalBehind r.config [] r.earlier) run history.earlier;
         legal = subst (λ (r : Run). IsLegal true r.config (found_of r) r.entries) run history.legal;
       }

@@ -30,7 +30,7 @@ use Rattle.fdp_plain.specs.Longer.{IsLonger, IsTraced, TracesFound}
 use Rattle.fdp_plain.specs.Prepared.{pages_of}
 use Rattle.fdp_plain.specs.Rows.{HasRows}
 use Rattle.fdp_plain.specs.Found.{BeginsInOrder}
-use Rattle.fdp_plain.specs.Run.{Run, found_of, point_in}
+use Rattle.fdp_plain.specs.Run.{AreLegalBehind, Run, found_of, point_in}
 use Rattle.fdp_plain.specs.Telling.{TellsHistory, run_of}
 use Rattle.fdp_plain.proofs.Fitting.{with_change}
 use Rattle.fdp_plain.proofs.Rows.{places_from}
@@ -286,5 +286,6 @@ module _ (k a b m : Kept) (e : Entry) (events : List Event)
         begins = subst (λ (r : Run). BeginsInOrder r.config (found_of r)) run history.begins;
         known = known_is;
         point = longer_is ∙ ap point_in run;
+        earlier = subst (λ (r : Run). AreLegalBehind r.config [] r.earlier) run history.earlier;
         legal = subst (λ (r : Run). IsLegal true r.config (found_of r) r.entries) run legal;
       }

@@ -1,8 +1,9 @@
 -- What contracts see of a plain drive.
-use Rattle.std.specs.Prelude.{ℕ, ◌+◌, List, length}
+use Rattle.std.specs.Prelude.{ℕ, ◌+◌, true, List, [], ◌∷◌, ◌++◌, length}
 use Rattle.fdp_base.specs.declared.config.DriveConfig.{DriveConfig}
 use Rattle.fdp_base.specs.declared.entry.Entry.{Entry}
 use Rattle.fdp_rules.specs.History.{Found, point_of}
+use Rattle.fdp_rules.specs.Legal.{IsLegal}
 use Rattle.fdp_rules.specs.PlainState.{PlainState}
 use Rattle.fdp_rules.specs.Point.{Point}
 use Rattle.fdp_plain.specs.Found.{found_in}
@@ -29,3 +30,8 @@ point_in r = point_of r.config (found_of r) r.entries
 -- the state of the drive then
 abbrev pub state_in : Run → PlainState
 state_in r = (point_in r).state
+
+-- runs that followed others on one image, each with a legal history of what those before it left
+abbrev pub AreLegalBehind : DriveConfig → List (List Entry) → List (List Entry) → Type 0
+AreLegalBehind c before [] = Unit {0}
+AreLegalBehind c before (es ∷ runs) = IsLegal true c (found_in c before) es × AreLegalBehind c (before ++ es ∷ []) runs

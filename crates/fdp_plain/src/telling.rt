@@ -3,7 +3,7 @@ ghost use Rattle.std.specs.Prelude.{◌≡◌, None, Some, nat_lt, if◌then◌e
 ghost use Rattle.fdp_rules.specs.History.{totals_of};
 ghost use Rattle.fdp_rules.specs.LogPages.{usage_of};
 ghost use Rattle.fdp_rules.specs.Room.{handles_in_force};
-ghost use Rattle.fdp_plain.specs.Run.{found_of, point_in, state_in};
+ghost use Rattle.fdp_plain.specs.Run.{found_of, next_position, point_in, state_in};
 
 use crate::plain::Plain;
 use fdp_base::{Event, Totals};
@@ -16,6 +16,13 @@ impl Plain {
         ensures { result ≡ totals_of (found_of self.now) self.now.entries }
     {
         totals(&Standing::new(&self.kept))
+    }
+
+    /// The position of the entry that comes next.
+    pub fn next_position(&self) -> u64
+        ensures { result ≡ next_position self.now }
+    {
+        self.kept.next_position()
     }
 
     /// Whether placement is enabled, and the index of its configuration.

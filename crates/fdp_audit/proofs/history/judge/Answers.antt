@@ -30,4 +30,4 @@ returns-clause-whole c =
     all-taken c.args.plain.now xs (length l.yielded) l.plain l.due c.requires.begins (omega (arith, end.1)) l.invariant
 
 pub loop-position-init : goal.loop-position-init
-loop-position-init c = none-taken c.args.plain.now c.args.entries.items 1 c.requires.begins (sym c.requires.first)
+loop-position-init c = none-taken c.args.plain.now c.args.entries.items c.next_position-due.result c.requires.begins c.next_position-due.ensures

@@ -1,5 +1,5 @@
 use Rattle.std.proofs.Common.{inl, subst}
-use Rattle.fdp_finding.specs.Wanted.{audited, commands_of, session}
+use Rattle.fdp_finding.specs.Wanted.{audited, commands_of, session, texts_in}
 use Rattle.fdp_io.specs.Bench.{BenchState}
 use Rattle.fdp_cli.specs.Top.{EndsRun, OnImage}
 use Rattle.fdp_cli.proofs.Benches.{same_bench}
@@ -21,4 +21,4 @@ pub returns-in-Ok-Audit-clause-answers : goal.returns-in-Ok-Audit-clause-answers
 returns-in-Ok-Audit-clause-answers g c =
     let kept = c.in-Ok-Audit.found in
     let found = rw c.in-Ok-Audit.field-0-is at c.in-Ok-Audit.ensures in
-    inl (audited kept.config kept.text.items, found.answer, (c.in-Ok-Audit.ensures.flashes, c.in-Ok-Audit.ensures.counts, c.judge.ensures.audits))
+    inl (audited kept.config (texts_in kept.texts.items), found.answer, (c.in-Ok-Audit.ensures.flashes, c.in-Ok-Audit.ensures.counts, c.judge.ensures.audits))

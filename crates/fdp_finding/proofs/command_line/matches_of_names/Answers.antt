@@ -8,9 +8,9 @@ use Rattle.fdp_finding.proofs.command_line.matches_of_names.Goals as goal
 
 same : (c : goal.After-try_get_matches_from) → app_of c.in_ok-command.command ≡ names_app
 same c =
-    c.in_ok-command.ensures.shape c.one_to_sixteen.ensures.local
+    c.in_ok-command.ensures.shape c.one_to.ensures.local
     ∙ ap₂ with_rule (c.in_ok-arg-2.ensures.shape c.one-2.ensures.local ∙ ap₂ with_rule (c.in_ok-arg.ensures.shape c.one.ensures.local ∙ ap₂ with_rule c.simple.ensures c.one.ensures.rule) c.one-2.ensures.rule)
-    c.one_to_sixteen.ensures.rule
+    c.one_to.ensures.rule
 
 fails : (c : goal.After-try_get_matches_from) → FailsBy (fault_of names_app (spelled c.args.words.now)) c.try_get_matches_from.result
 fails c =

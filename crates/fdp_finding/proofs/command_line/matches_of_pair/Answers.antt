@@ -3,7 +3,8 @@ use Rattle.std.proofs.lemmas.Result.{IfOk-weaker}
 use Rattle.clap.specs.Words.{App, FailsBy, HasMatchesOf, app_of, fault_of, is_simple_and_free, with_rule}
 use Rattle.fdp_finding.specs.Asked.{pair_of}
 use Rattle.fdp_finding.specs.CommandLine.{spelled}
-use Rattle.fdp_finding.proofs.CommandLines.{are_pair, decides_pair, pair_app, pair_rows, pair_simple, reads, refuses}
+use Rattle.fdp_finding.proofs.CommandLines.{reads, refuses}
+use Rattle.fdp_finding.proofs.PairLines.{are_pair, decides_pair, pair_app, pair_rows, pair_simple}
 use Rattle.fdp_finding.proofs.command_line.matches_of_pair.Goals as goal
 
 same : (c : goal.After-try_get_matches_from) → app_of c.in_ok-command.command ≡ pair_app

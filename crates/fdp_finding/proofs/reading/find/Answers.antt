@@ -3,7 +3,7 @@ use Rattle.fdp_finding.specs.declared.asked.Form.TheVariants as forms
 use Rattle.fdp_finding.specs.declared.asked.Texts.TheVariants as texts
 use Rattle.fdp_finding.specs.Asked.{recording, recording_streams, running, streaming}
 use Rattle.fdp_finding.specs.CommandLine.{as_audit, as_names}
-use Rattle.fdp_finding.proofs.Records.{audit_answers, load_answers}
+use Rattle.fdp_finding.proofs.Audits.{audit_answers, load_answers}
 use Rattle.fdp_finding.proofs.Texts.{form_answers}
 use Rattle.fdp_finding.proofs.reading.find.Goals as goal
 
@@ -40,5 +40,5 @@ returns-in-Ok-Make-clause-answer g c =
 pub returns-in-Ok-Audit-clause-answer : goal.returns-in-Ok-Audit-clause-answer
 returns-in-Ok-Audit-clause-answer g c =
     let asked = rw c.in-Ok-Audit.field-0-is at c.in-Ok-Audit.ensures in
-    let found = c.find_record in
-    audit_answers (g.B.Bench.state c.args.bench.now) (g.B.Bench.state found.new.bench) c.args.words.now (as_audit c.in-Ok-Audit.audit) found.result asked found.ensures.answer
+    let found = c.find_audit in
+    audit_answers (g.B.Bench.state c.args.bench.now) (g.B.Bench.state found.new.bench) c.args.words.now (as_audit c.in-Ok-Audit.audit) found.result asked.0 found.ensures.answer

@@ -1,4 +1,4 @@
-use Rattle.std.proofs.Common.{◌∙◌, ap}
+use Rattle.std.proofs.Common.{ap}
 use Rattle.fdp_rules.specs.Change.{changed_by}
 use Rattle.fdp_rules.specs.PlainState.{PlainState}
 use Rattle.fdp_plain.proofs.reopen.begin_run.Goals as goal

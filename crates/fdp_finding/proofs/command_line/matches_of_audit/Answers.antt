@@ -1,0 +1,31 @@
+use Rattle.std.proofs.Common.{ap, ap₂, ◌≡◌, ◌∙◌, IfOk, subst}
+use Rattle.std.proofs.lemmas.Result.{IfOk-weaker}
+use Rattle.clap.specs.Words.{App, FailsBy, HasMatchesOf, app_of, fault_of, is_simple_and_free, with_rule}
+use Rattle.fdp_finding.specs.Asked.{audit_of}
+use Rattle.fdp_finding.specs.CommandLine.{spelled}
+use Rattle.fdp_finding.proofs.AuditLines.{are_audit_names, audit_app, audit_rows, audit_simple, decides_audit}
+use Rattle.fdp_finding.proofs.CommandLines.{reads, refuses}
+use Rattle.fdp_finding.proofs.command_line.matches_of_audit.Goals as goal
+
+same : (c : goal.After-try_get_matches_from) → app_of c.in_ok-command.command ≡ audit_app
+same c =
+    c.in_ok-command.ensures.shape c.one_to.ensures.local
+    ∙ ap₂ with_rule (c.in_ok-arg.ensures.shape c.one.ensures.local ∙ ap₂ with_rule c.simple.ensures c.one.ensures.rule) c.one_to.ensures.rule
+
+fails : (c : goal.After-try_get_matches_from) → FailsBy (fault_of audit_app (spelled c.args.words.now)) c.try_get_matches_from.result
+fails c =
+    let parse = c.try_get_matches_from in
+    subst (λ (a : App). FailsBy (fault_of a (spelled c.args.words.now)) parse.result) (same c) (parse.ensures.kinds (ap is_simple_and_free (same c) ∙ audit_simple))
+
+pub returns-clause-ok : goal.returns-clause-ok
+returns-clause-ok c =
+    let words = spelled c.args.words.now in
+    let parse = c.try_get_matches_from in
+    IfOk-weaker parse.result _ _ (λ m h. (h.0, h.1, are_audit_names m h.0 h.2))
+    (reads audit_app audit_rows (audit_of words) words audit_simple parse.result (decides_audit words c.requires) (fails c)
+    (subst (λ (a : App). IfOk parse.result (HasMatchesOf a words)) (same c) parse.ensures.matches))
+
+pub returns-clause-err : goal.returns-clause-err
+returns-clause-err c =
+    let words = spelled c.args.words.now in
+    refuses audit_app audit_rows (audit_of words) words audit_simple c.try_get_matches_from.result (decides_audit words c.requires) (fails c)
