@@ -67,32 +67,31 @@ row_within {V} P xs i there =
     let Q : Option V → Type 0 = λ o. slice_get xs i ≡ o → IsSomeAnd o P → i < length xs in
     (elim (slice_get xs i) as Q [ None ↦ λ _ no. absurd no | Some v ↦ λ e _. slice_get_within xs i v e ]) refl there
 
--- the rows that an entry changes among sites and copies, once there is spare room for a site and for a copy
-pub places_there : (k : Kept) (e : Entry) → IsSound k → Follows true k.config (point_kept k) e → 0 < k.sites.site_room → HasCopySpare k e → HasPlaces k e
+-- the rows that an entry changes among sites and copies, once there is spare room for a copy
+pub places_there : (k : Kept) (e : Entry) → IsSound k → Follows true k.config (point_kept k) e → HasCopySpare k e → HasPlaces k e
 unfolding Follows
-places_there k (entries.Host host) h f room spare = tt
-places_there k (entries.Started s) h f room spare = tt
-places_there k (entries.Placed p) h f room spare =
+places_there k (entries.Host host) h f spare = tt
+places_there k (entries.Started s) h f spare = tt
+places_there k (entries.Placed p) h f spare =
     let pages = subst (λ (t : ℕ). IsSomeAnd (slice_get k.sites.rows t) (λ row. length row ≡ blocks_written f.going.command)) f.same (h.writes f.queue f.going f.going_is).pages in
     record {
       ticket_is = row_within _ k.sites.rows p.ticket pages;
       index_is = page_within _ _ p.index _ pages f.asked;
-      room = room;
     }
-places_there k (entries.Copied c) h f room spare = spare
-places_there k (entries.Moved m) h f room spare = rw h.copies f.group
-places_there k (entries.Erased e) h f room spare = group_there k h e.unit f.data_unit
-places_there k (entries.Retired r) h f room spare = group_there k h r.unit f.data_unit
-places_there k (entries.Aside a) h f room spare = group_there k h a.unit f.data_unit
-places_there k (entries.Shut s) h f room spare = tt
-places_there k (entries.Worn w) h f room spare = rw h.copies f
-places_there k entries.Reopened h f room spare = tt
+places_there k (entries.Copied c) h f spare = spare
+places_there k (entries.Moved m) h f spare = rw h.copies f.group
+places_there k (entries.Erased e) h f spare = group_there k h e.unit f.data_unit
+places_there k (entries.Retired r) h f spare = group_there k h r.unit f.data_unit
+places_there k (entries.Aside a) h f spare = group_there k h a.unit f.data_unit
+places_there k (entries.Shut s) h f spare = tt
+places_there k (entries.Worn w) h f spare = rw h.copies f
+places_there k entries.Reopened h f spare = tt
 
 -- the rows of sites and copies are those of before a change
 pub same_places : (k m : Kept) (e : Entry) → m ≡ with_change k m → HasPlaces k e → HasPlaces m e
 same_places k m (entries.Host host) rest h = tt
 same_places k m (entries.Started s) rest h = tt
-same_places k m (entries.Placed p) rest h = subst (λ (x : Kept). HasPage x p.ticket p.index) (sym rest) (record { ticket_is = h.ticket_is; index_is = h.index_is; room = h.room })
+same_places k m (entries.Placed p) rest h = subst (λ (x : Kept). HasPage x p.ticket p.index) (sym rest) (record { ticket_is = h.ticket_is; index_is = h.index_is })
 same_places k m (entries.Copied c) rest h = subst (λ (x : Kept). HasCopyRoom x c.from.unit) (sym rest) (record { group = record { units = h.group.units; group = h.group.group }; room = h.room })
 same_places k m (entries.Moved moved) rest h = subst (λ (x : Kept). HasGroup x moved.rg) (sym rest) h
 same_places k m (entries.Erased e) rest h = subst (λ (x : Kept). HasGroupOf x e.unit) (sym rest) (record { units = h.units; group = h.group })

@@ -39,7 +39,6 @@ pub record HasSpare (k : Kept) (e : Entry) (count : ℕ) : Type 0 where
   pub events : vec_len k.events + count ≤ vec_capacity k.events
   pub moment : HasMomentSpare k
   pub rows : 0 < k.sites.row_room
-  pub sites : 0 < k.sites.site_room
   pub copy : HasCopySpare k e
 
 -- all lists hold the same; only their spare room may be another

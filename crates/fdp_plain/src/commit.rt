@@ -36,7 +36,6 @@ pub(crate) fn commit(kept: &mut Kept, prepared: Prepared, events: &[Event])
 fn trace(kept: &mut Kept, pages: Vec<Option<Spot>>, entry: &Entry)
     requires places { HasPlaces kept.old entry.now }
     requires row_room { 0 < kept.old.sites.row_room }
-    requires site_room { 0 < kept.old.sites.site_room }
     requires blank { pages.items ≡ replicate (length pages.items) None }
     ensures traced { IsTraced kept.old kept.new entry.now (length pages.items) }
     ensures found { TracesFound kept.old kept.new entry.now }

@@ -1,3 +1,4 @@
+pub mod Clearing
 pub mod Completing
 pub mod Features
 pub mod Putting

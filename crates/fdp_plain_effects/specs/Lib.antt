@@ -1,3 +1,4 @@
+pub mod Clearing
 pub mod Rows
 pub mod Going
 pub mod Ready

@@ -1,12 +1,13 @@
 ghost use Rattle.fdp_base.specs.Numbers.{is_among, with_at};
 ghost use Rattle.fdp_base.specs.declared.command.Command.TheVariants as commands;
+ghost use Rattle.fdp_plain_effects.specs.Clearing.{IsCleared};
 ghost use Rattle.fdp_rules.specs.Effect.{effect_of, is_in_ranges, without_blocks};
 ghost use Rattle.fdp_tables.specs.Spaces.{block_in};
 ghost use Rattle.fdp_tables.specs.State.{namespace_of, plain_of, row};
 ghost use Rattle.std.specs.Prelude.{◌≡◌, ℕ, ◌-◌, ◌<◌, ◌==◌, if◌then◌else◌, None, length, option_map};
 
 use fdp_base::{Dealloc, Range};
-use fdp_tables::{Blocks, Kept, Space, is_among};
+use fdp_tables::{Blocks, Kept, Space};
 
 /// A namespace is there with its blocks, or none is.
 pub(crate) fn set_space(kept: &mut Kept, nsid: u32, space: Option<Space>)
@@ -29,7 +30,7 @@ pub(crate) fn delete_namespace(kept: &mut Kept, nsid: u32)
     set_space(kept, nsid, None);
 }
 
-/// The blocks of a namespace in these ranges become absent. It looks at each block.
+/// The blocks of a namespace in these ranges become absent. It looks at these.
 fn clear(kept: &mut Kept, nsid: u32, ranges: &[Range])
     ensures state { plain_of kept.new ≡ without_blocks (plain_of kept.old) nsid (is_in_ranges ranges.now) }
     ensures rest { kept.new ≡ record kept.old { spaces = kept.new.spaces } }
@@ -80,23 +81,33 @@ fn clear_space(space: &mut Option<Space>, ranges: &[Range])
     }
 }
 
-#[tactic(auto, using(fdp_tables::proofs::Walks::put_start, fdp_tables::proofs::Walks::put_next, fdp_tables::proofs::Walks::put_skip))]
+/// The blocks in these ranges become absent. It looks at these.
 fn clear_blocks(blocks: &mut Blocks, ranges: &[Range])
     ensures size { length blocks.new ≡ length blocks.old }
     ensures rows { (lba : ℕ) → row blocks.new lba ≡ (if is_in_ranges ranges.now lba then None else row blocks.old lba) }
 {
-    for lba in 0..blocks.len() {
-        if is_in_ranges(ranges, lba as u64) {
-            blocks.put(lba, None);
-        }
+    for range in ranges {
+        clear_range(blocks, range.slba, u64::from(range.length));
     }
 }
 
-/// Whether an address lies in a range of the list.
-fn is_in_ranges(ranges: &[Range], lba: u64) -> bool
-    ensures { result ≡ is_in_ranges ranges.now lba }
+/// So many blocks from an address on become absent, as far as there are places for them.
+fn clear_range(blocks: &mut Blocks, slba: u64, count: u64)
+    ensures size { length blocks.new ≡ length blocks.old }
+    ensures rows { (lba : ℕ) → row blocks.new lba ≡ (if is_among slba count lba then None else row blocks.old lba) }
 {
-    ranges
-        .iter()
-        .any(|range| is_among(range.slba, u64::from(range.length), lba))
+    let end = slba.saturating_add(count).min(blocks.len() as u64);
+    for lba in slba..end {
+        clear_block(blocks, lba);
+    }
+}
+
+/// A block becomes absent, if there is one at its place.
+fn clear_block(blocks: &mut Blocks, place: u64)
+    requires { place < length blocks.old }
+    ensures { IsCleared (λ lba. lba == place) blocks.old blocks.new }
+{
+    if blocks.get(place).is_some() {
+        blocks.put(place as usize, None);
+    }
 }

@@ -1,8 +1,8 @@
+pub mod AtPage
 pub mod Comparing
-pub mod Emptied
 pub mod Handles
+pub mod InUnit
 pub mod Moments
-pub mod Picking
 pub mod Referenced
 pub mod Replying
 pub mod Ruling

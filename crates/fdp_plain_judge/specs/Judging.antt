@@ -1,5 +1,5 @@
 -- What is looked for in the tables when an entry is judged.
-use Rattle.std.specs.Prelude.{◌≡◌, ◌≢◌, ◌<◌, ℕ, Bool, true, IsTrue, IsFalse, Contains, slice_index, List, Option, Some, IfSome, MatchOption, slice_get}
+use Rattle.std.specs.Prelude.{◌≡◌, ◌≢◌, ◌<◌, ℕ, Bool, true, IsTrue, IsFalse, Contains, slice_index, List, Some, IfSome, slice_get}
 use Rattle.fdp_base.specs.declared.entry.Reply.{Reply}
 use Rattle.fdp_base.specs.declared.entry.Spot.{Spot}
 use Rattle.fdp_base.specs.declared.status.TheConstants.Status as statuses
@@ -10,10 +10,8 @@ use Rattle.fdp_rules.specs.Room.{handles_of, roomiest}
 use Rattle.fdp_rules.specs.Sites.{group_of, is_there, site_of}
 use Rattle.fdp_rules.specs.Step.{IsNextPage}
 use Rattle.fdp_tables.specs.declared.state.Kept.{Kept}
-use Rattle.fdp_tables.specs.declared.state.KeptBlock.{KeptBlock}
 use Rattle.fdp_tables.specs.declared.state.KeptReference.{KeptReference}
-use Rattle.fdp_tables.specs.declared.state.Space.{Space}
-use Rattle.fdp_tables.specs.State.{page_of, plain_of, table_site}
+use Rattle.fdp_tables.specs.State.{plain_of}
 use Rattle.fdp_base.specs.CommandKinds.{blocks_written}
 
 -- it holds of each element
@@ -24,17 +22,13 @@ EachIn {X} P xs = (i : ℕ) (x : X) → slice_get xs i ≡ Some x → P x
 abbrev pub IsFreeOf : ℕ → KeptReference → Type 0
 IsFreeOf unit x = x.unit ≢ Some unit
 
--- a block that may be there does not stand in a unit, by the tables
-abbrev pub IsOutside : Kept → ℕ → Option KeptBlock → Type 0
-IsOutside k unit block = MatchOption block (Unit {0}) (λ b. IfSome (table_site k (page_of b.page)) (λ (spot : Spot). spot.unit ≢ unit))
-
--- no block of a namespace that may be there stands in a unit
-abbrev pub Leaves : Kept → ℕ → Option Space → Type 0
-Leaves k unit space = MatchOption space (Unit {0}) (λ x. EachIn (IsOutside k unit) x.blocks)
+-- a block does not stand in a unit
+abbrev pub IsOutside : Point → ℕ → ℕ → ℕ → Type 0
+IsOutside p unit nsid lba = IfSome (site_of p nsid lba) (λ (spot : Spot). spot.unit ≢ unit)
 
 -- no block stands in a unit
 abbrev pub IsEmptyUnit : Point → ℕ → Type 0
-IsEmptyUnit p unit = (nsid lba : ℕ) → IfSome (site_of p nsid lba) (λ (spot : Spot). spot.unit ≢ unit)
+IsEmptyUnit p unit = (nsid lba : ℕ) → IsOutside p unit nsid lba
 
 -- a block is the next one of a going write
 abbrev pub IsNextBlock : ℕ → Going → Type 0

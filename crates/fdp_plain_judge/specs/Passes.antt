@@ -1,25 +1,31 @@
 -- The blocks that stand in one unit, each with its page.
-use Rattle.std.specs.Prelude.{ℕ, ◌==◌, List, [], ◌∷◌, flat_map, if◌then◌else◌}
+use Rattle.std.specs.Prelude.{ℕ, ◌≡◌, ◌<◌, ◌≤◌, ◌⊎◌, ◌==◌, true, List, [], ◌∷◌, Some, Contains, if◌then◌else◌}
 use Rattle.std.specs.Option.{option_map_or}
 use Rattle.fdp_base.specs.declared.entry.BlockName.{BlockName}
 use Rattle.fdp_base.specs.declared.entry.Spot.{Spot}
-use Rattle.fdp_base.specs.Numbers.{numbers_below}
 use Rattle.fdp_rules.specs.Point.{Point}
-use Rattle.fdp_rules.specs.Room.{namespace_ids, size_of}
 use Rattle.fdp_rules.specs.Sites.{is_spot, site_of}
 
 -- a block with its page, where that lies in the unit
 abbrev pub in_unit : Point → ℕ → ℕ → ℕ → List (BlockName × Spot)
 in_unit p unit nsid lba = option_map_or (λ (spot : Spot). if spot.unit == unit then (record { nsid = nsid; lba = lba }, spot) ∷ [] else []) (site_of p nsid lba) []
 
--- the blocks of a namespace that stand in the unit, by address
-abbrev pub space_in_unit : Point → ℕ → ℕ → List (BlockName × Spot)
-space_in_unit p unit nsid = flat_map (in_unit p unit nsid) (numbers_below (size_of p.state nsid))
+-- a block stands where it is said to stand
+abbrev pub StandsThere : Point → BlockName × Spot → Type 0
+StandsThere p x = site_of p x.0.nsid x.0.lba ≡ Some x.1
 
--- the blocks that stand in the unit, by identifier and address
-abbrev pub blocks_of_unit : Point → ℕ → List (BlockName × Spot)
-blocks_of_unit p unit = flat_map (space_in_unit p unit) namespace_ids
+-- all blocks of the namespaces from 1 on, and below this one, that stand in the unit, and no block that does not
+pub record AreInUnit (p : Point) (unit below : ℕ) (list : List (BlockName × Spot)) : Type 0 where
+  pub there : (x : BlockName × Spot) → Contains list x → StandsThere p x
+  pub spaces : (x : BlockName × Spot) → Contains list x → (1 ≤ x.0.nsid) × (x.0.nsid < below)
+  pub all : (nsid lba : ℕ) (spot : Spot) → 1 ≤ nsid → nsid < below → site_of p nsid lba ≡ Some spot → spot.unit ≡ unit → Contains list (record { nsid = nsid; lba = lba }, spot)
 
--- the block, where it stands at this page
-abbrev pub at_page : Spot → BlockName × Spot → List BlockName
-at_page spot x = if is_spot spot x.1 then x.0 ∷ [] else []
+-- to these blocks those of a namespace are added that stand in the unit
+pub record TakesSpace (p : Point) (unit nsid : ℕ) (old new : List (BlockName × Spot)) : Type 0 where
+  pub kept : (x : BlockName × Spot) → Contains old x → Contains new x
+  pub there : (x : BlockName × Spot) → Contains new x → Contains old x ⊎ ((x.0.nsid ≡ nsid) × StandsThere p x)
+  pub all : (lba : ℕ) (spot : Spot) → site_of p nsid lba ≡ Some spot → spot.unit ≡ unit → Contains new (record { nsid = nsid; lba = lba }, spot)
+
+-- a block of these stands at the page
+abbrev pub StandsAmong : List (BlockName × Spot) → Spot → BlockName → Type 0
+StandsAmong list spot block = (site : Spot) × Contains list (block, site) × (is_spot spot site ≡ true)

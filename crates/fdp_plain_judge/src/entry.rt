@@ -43,8 +43,8 @@ pub fn judge(kept: &Standing, alloc: Global, entry: &Entry) -> Result<bool, Allo
         }
         Entry::Copied(copied) => Ok(is_copied(kept, copied.from, copied.to)),
         Entry::Moved(moved) => is_moved(kept, alloc, moved.rg, moved.blocks.as_slice()),
-        Entry::Erased(erased) => Ok(is_erasable(kept, erased.unit)),
-        Entry::Retired(retired) => Ok(is_erasable(kept, retired.unit)),
+        Entry::Erased(erased) => is_erasable(kept, alloc, erased.unit),
+        Entry::Retired(retired) => is_erasable(kept, alloc, retired.unit),
         Entry::Aside(aside) => Ok(is_aside(kept, aside.unit)),
         Entry::Shut(shut) => Ok(is_handle(kept, shut.rg, shut.ruh)),
         Entry::Worn(worn) => Ok(worn.rg < kept.config().groups),

@@ -10,6 +10,7 @@ mod passes;
 mod replies;
 mod rule;
 mod success;
+mod unit_blocks;
 mod writes;
 
 pub use entry::judge;

@@ -1,12 +1,13 @@
 ghost use Rattle.fdp_base.specs.Geometry.{IsWithin};
-ghost use Rattle.fdp_plain_judge.specs.Judging.{EachIn, IsEmptyUnit, IsFreeOf, IsNextBlock, IsNextIn, IsNextOf, IsNextSpot, IsOutside, Leaves};
+ghost use Rattle.fdp_plain_judge.specs.Judging.{EachIn, IsEmptyUnit, IsFreeOf, IsNextBlock, IsNextIn, IsNextOf, IsNextSpot, IsOutside};
 ghost use Rattle.fdp_rules.specs.Sites.{group_of, is_there};
 ghost use Rattle.fdp_rules.specs.Step.{IsAside, IsCopied, IsDataUnit, IsErasable, IsHandle, IsNextPage, IsPage, IsPlaced, IsUnreferenced};
 ghost use Rattle.fdp_tables.specs.State.{going_of, plain_of, point_kept};
-ghost use Rattle.std.specs.Prelude.{◌≡◌, ◌≢◌, ℕ, ◌+◌, ◌*◌, ◌<◌, Decides, Some};
+ghost use Rattle.std.specs.Prelude.{◌≡◌, ◌≢◌, ℕ, ◌+◌, ◌*◌, ◌<◌, Decides, IfOk, Some};
 
 use fdp_base::Spot;
-use fdp_tables::{KeptBlock, KeptGoing, KeptReference, Space, Standing};
+use fdp_tables::{KeptGoing, KeptReference, Standing};
+use std::alloc::{AllocError, Global};
 
 /// Whether no handle references a unit. It looks at each handle of each group.
 fn is_unreferenced(kept: &Standing, unit: u32) -> bool
@@ -20,60 +21,56 @@ fn is_unreferenced(kept: &Standing, unit: u32) -> bool
     true
 }
 
-/// Whether no block stands in a unit. It looks at each block.
-fn is_empty(kept: &Standing, unit: u32) -> bool
-    ensures { Decides result (IsEmptyUnit (point_kept kept.now) unit) }
+/// Whether no block stands in a unit. It looks at the blocks that may stand there.
+fn is_empty(kept: &Standing, alloc: Global, unit: u32) -> Result<bool, AllocError>
+    ensures { IfOk result (λ answer. Decides answer (IsEmptyUnit (point_kept kept.now) unit)) }
 {
-    for space in kept.spaces() {
-        if !leaves(kept, space, unit) {
+    for nsid in 0..kept.spaces().len() {
+        if !has_none_in(kept, alloc, nsid as u32, unit)? {
+            return Ok(false);
+        }
+    }
+    Ok(true)
+}
+
+/// Whether no block of a namespace stands in a unit.
+fn has_none_in(kept: &Standing, alloc: Global, nsid: u32, unit: u32) -> Result<bool, AllocError>
+    ensures { IfOk result (λ answer. Decides answer ((lba : ℕ) → IsOutside (point_kept kept.now) unit nsid lba)) }
+{
+    let places = kept.places_in(alloc, nsid, unit)?;
+    Ok(are_outside(kept, nsid, unit, &places))
+}
+
+fn are_outside(kept: &Standing, nsid: u32, unit: u32, places: &[u64]) -> bool
+    ensures { Decides result (EachIn (IsOutside (point_kept kept.now) unit nsid) places.now) }
+{
+    for lba in places {
+        if !is_outside(kept, nsid, *lba, unit) {
             return false;
         }
     }
     true
 }
 
-/// Whether no block of a namespace that may be there stands in a unit.
-fn leaves(kept: &Standing, space: &Option<Space>, unit: u32) -> bool
-    ensures { Decides result (Leaves kept.now unit space.now) }
+/// Whether a block does not stand in a unit.
+fn is_outside(kept: &Standing, nsid: u32, lba: u64, unit: u32) -> bool
+    ensures { Decides result (IsOutside (point_kept kept.now) unit nsid lba) }
 {
-    match space {
-        Some(space) => has_none_in(kept, space, unit),
+    match kept.site_of(nsid, lba) {
+        Some(spot) => spot.unit != unit,
         None => true,
     }
 }
 
-fn has_none_in(kept: &Standing, space: &Space, unit: u32) -> bool
-    ensures { Decides result (EachIn (IsOutside kept.now unit) space.now.blocks) }
+/// Whether a unit may be erased. It looks at the blocks that may stand there.
+pub(crate) fn is_erasable(kept: &Standing, alloc: Global, unit: u32) -> Result<bool, AllocError>
+    ensures { IfOk result (λ answer. Decides answer (IsErasable kept.now.config (point_kept kept.now) unit)) }
 {
-    for block in space.blocks.as_slice() {
-        if !is_outside(kept, block, unit) {
-            return false;
-        }
+    if is_data_unit(kept, unit) && is_unreferenced(kept, unit) && !kept.is_lost(unit as usize) {
+        is_empty(kept, alloc, unit)
+    } else {
+        Ok(false)
     }
-    true
-}
-
-/// Whether a block that may be there does not stand in a unit.
-fn is_outside(kept: &Standing, block: &Option<KeptBlock>, unit: u32) -> bool
-    ensures { Decides result (IsOutside kept.now unit block.now) }
-{
-    match block {
-        Some(block) => match kept.site_of_page(block.page) {
-            Some(spot) => spot.unit != unit,
-            None => true,
-        },
-        None => true,
-    }
-}
-
-/// Whether a unit may be erased. It looks at each block.
-pub(crate) fn is_erasable(kept: &Standing, unit: u32) -> bool
-    ensures { Decides result (IsErasable kept.now.config (point_kept kept.now) unit) }
-{
-    is_data_unit(kept, unit)
-        && is_unreferenced(kept, unit)
-        && !kept.is_lost(unit as usize)
-        && is_empty(kept, unit)
 }
 
 /// Whether a unit may be set aside.

@@ -6,11 +6,10 @@ use Rattle.fdp_base.specs.declared.entry.Entry.{Entry}
 use Rattle.fdp_base.specs.declared.entry.Entry.TheVariants as entries
 use Rattle.fdp_tables.specs.declared.state.Kept.{Kept}
 
--- the page of a write has a place, and may get its site without memory
+-- the page of a write has a place for its site
 pub record HasPage (k : Kept) (ticket index : ℕ) : Type 0 where
   pub ticket_is : ticket < length k.sites.rows
   pub index_is : IfSome (slice_get k.sites.rows ticket) (λ pages. index < length pages)
-  pub room : 0 < k.sites.site_room
 
 -- a group has its list of copies
 abbrev pub HasGroup : Kept → ℕ → Type 0

@@ -38,7 +38,6 @@ fn add_copy(kept: &mut Kept, rg: u32, from: Spot, to: Spot)
 fn set_site(kept: &mut Kept, ticket: u64, index: u32, spot: Spot)
     requires ticket { ticket < length kept.old.sites.rows }
     requires index { IfSome (slice_get kept.old.sites.rows ticket) (λ pages. index < length pages) }
-    requires room { 0 < kept.old.sites.site_room }
     ensures sites { (t i : ℕ) → site_at kept.new (written t i) ≡ (if ticket == t && index == i then Some spot else site_at kept.old (written t i)) }
     ensures rest { kept.new ≡ record kept.old { sites = kept.new.sites } }
     ensures rows { length kept.new.sites.rows ≡ length kept.old.sites.rows }
@@ -73,8 +72,8 @@ fn move_sites(kept: &mut Kept, rg: u16)
     kept.found.relocate(pass);
 }
 
-/// Where pages stand after an entry, and what was copied. An erase and a move look at each page of the writes, and of the units that
-/// were found, of which one stands somewhere.
+/// Where pages stand after an entry, and what was copied. An erase and a move look at the pages of the writes, and of the units that
+/// were found, of which one stands in the unit.
 #[tactic(auto, unfolding(fdp_rules::specs::Sites::traced_by))]
 pub fn trace(kept: &mut Kept, entry: &Entry)
     requires { HasPlaces kept.old entry.now }

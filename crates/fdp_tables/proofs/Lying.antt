@@ -1,13 +1,17 @@
 -- Blocks that lie in a group, counted by their places and by their addresses.
-use Rattle.std.proofs.Common.{◌≡◌, ◌⊎◌, ℕ, zero, suc, ◌+◌, ◌-◌, ◌<◌, ◌≤◌, Bool, true, false, List, [], ◌∷◌, Option, cond, get_or, length, min, not, refl, sym, ap, ◌∙◌, arith, inl, inr, ⊎_elim}
-use Rattle.std.specs.Prelude.{◌&&◌, count_by}
+use Rattle.std.proofs.Common.{◌≡◌, ◌⊎◌, ℕ, zero, suc, ◌+◌, ◌-◌, ◌<◌, ◌≤◌, Bool, true, false, List, [], ◌∷◌, Option, None, Some, cond, get_or, length, min, not, set, refl, sym, ap, ◌∙◌, arith, inl, inr, ⊎_elim}
+use Rattle.std.specs.Prelude.{◌&&◌, count_by, option_map, replicate}
 use Rattle.std.proofs.lemmas.Bool.{cases_lt}
 use Rattle.std.proofs.lemmas.Bool.Decides.{nat_tests}
-use Rattle.std.proofs.lemmas.List.Sums.{sum_by-cons}
+use Rattle.std.specs.Option.{option_flatten}
+use Rattle.std.proofs.lemmas.List.{get_or-replicate, get_or_default}
+use Rattle.std.proofs.lemmas.Option.{slice_get_read}
+use Rattle.std.proofs.lemmas.List.Sums.{sum_by-cons, sum_by-set}
 use Rattle.fdp_base.specs.Numbers.{count_below, is_among}
 use Rattle.fdp_base.proofs.Sums.{counting, sum_from, sum_from-cut, sum_from-last, sum_from-none, sum_from-same, sum_from-step, sum_from-zero}
 use Rattle.fdp_tables.specs.declared.state.KeptBlock.{KeptBlock}
-use Rattle.fdp_tables.specs.Blocks.{lies_at}
+use Rattle.fdp_tables.specs.declared.state.KeptPage.{KeptPage}
+use Rattle.fdp_tables.specs.Blocks.{AreCounted, lies_at, on_page}
 use Rattle.fdp_tables.specs.State.{row}
 
 -- the block at an address lies in a group
@@ -25,6 +29,37 @@ pub one-counted : (rg : ℕ) (places : List (Option KeptBlock)) (i : ℕ) (d : O
 one-counted rg [] i d low = absurd (omega (arith, low))
 one-counted rg (x ∷ xs) zero d low = omega (arith, sum_by-cons (λ o. cond (lies_at rg o) 1 0) x xs)
 one-counted rg (x ∷ xs) (suc i) d low = omega (arith, one-counted rg xs i d (omega (arith, low)), sum_by-cons (λ o. cond (lies_at rg o) 1 0) x xs)
+
+-- ---- a block that is put in its place
+
+pub put_counted : (counts less more : List ℕ) (places : List (Option KeptBlock)) (at : ℕ) (old new : Option KeptBlock) → at < length places → old ≡ get_or places at old → AreCounted counts places
+    → ((rg : ℕ) → rg < 16 → get_or less rg 0 + cond (lies_at rg old) 1 0 ≡ get_or counts rg 0) → ((rg : ℕ) → rg < 16 → get_or more rg 0 ≡ get_or less rg 0 + cond (lies_at rg new) 1 0) → AreCounted more (set places at new)
+put_counted counts less more places at old new there is counted one_less one_more = λ rg low.
+    let f : Option KeptBlock → ℕ = λ o. cond (lies_at rg o) 1 0 in
+    omega (arith, sum_by-set f places at new old there, ap f is, one_less rg low, one_more rg low, counted rg low)
+
+same-group : (rg : ℕ) (page : KeptPage) (o : Option KeptBlock) → lies_at rg (option_map (on_page page) o) ≡ lies_at rg o
+same-group rg page None = refl
+same-group rg page (Some b) = refl
+
+-- with another page it lies in the same group
+pub paged_counted : (counts : List ℕ) (places : List (Option KeptBlock)) (at : ℕ) (page : KeptPage) → at < length places → AreCounted counts places → AreCounted counts (set places at (option_map (on_page page) (row places at)))
+paged_counted counts places at page there counted = λ rg low.
+    let f : Option KeptBlock → ℕ = λ o. cond (lies_at rg o) 1 0 in
+    let old : Option KeptBlock = get_or places at None in
+    let read : row places at ≡ old = ap option_flatten (slice_get_read places (length places) at old refl there (sym (get_or_default places at old None there))) in
+    let same : f (option_map (on_page page) (row places at)) ≡ f old = ap (λ b. cond b 1 0) (same-group rg page (row places at)) ∙ ap f read in
+    omega (arith, sum_by-set f places at (option_map (on_page page) (row places at)) None there, same, counted rg low)
+
+none-lie : (rg n : ℕ) → count_by (lies_at rg) (replicate n None) ≡ 0
+none-lie rg zero = refl
+none-lie rg (suc n) = omega (arith, none-lie rg n, sum_by-cons (λ o. cond (lies_at rg o) 1 0) None (replicate n None))
+
+-- where no block is, none lies anywhere
+pub absent_counted : (places : List (Option KeptBlock)) (size : ℕ) → places ≡ replicate size None → AreCounted (replicate 16 0) places
+absent_counted places size e = λ rg low. get_or-replicate 16 rg 0 0 low ∙ sym (ap (count_by (lies_at rg)) e ∙ none-lie rg size)
+
+-- ---- by addresses
 
 -- a sum over the numbers behind those of another
 moved-on : (f g : ℕ → ℕ) (first count : ℕ) → ((i : ℕ) → f (suc i) ≡ g i) → sum_from f (first + 1) count ≡ sum_from g first count

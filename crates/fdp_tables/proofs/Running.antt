@@ -1,7 +1,7 @@
 -- Where the last run begins, and the entries of each.
-use Rattle.std.proofs.Common.{◌≡◌, ℕ, zero, suc, ◌+◌, ◌-◌, ◌<◌, ◌≤◌, List, [], ◌∷◌, ◌++◌, length, get_or, take, drop, refl, ap, sym, ◌∙◌, arith}
+use Rattle.std.proofs.Common.{◌≡◌, ℕ, zero, suc, ◌+◌, ◌-◌, List, [], ◌∷◌, length, get_or, drop, refl, arith}
 use Rattle.std.proofs.lemmas.List.{length-drop}
-use Rattle.fdp_tables.specs.Starts.{AreStarts, cut, last_from, start_of}
+use Rattle.fdp_tables.specs.Starts.{last_from, start_of}
 
 last_at : (from x i d : ℕ) (xs : List ℕ) → i ≡ length xs → get_or (x ∷ xs) i d ≡ last_from from (x ∷ xs)
 last_at from x zero d [] e = refl

@@ -1,237 +1,274 @@
--- Rows of pages of which those with a site are listed: they alone are looked at where pages lose or change their sites.
-use Rattle.std.proofs.Common.{◌≡◌, ◌≢◌, ℕ, zero, suc, ◌+◌, ◌<◌, ◌≤◌, Bool, true, false, List, [], ◌∷◌, ◌++◌, length, set, take, get_or, Option, None, Some, refl, ap, sym, ◌∙◌, arith, cond, subst, map, eq-eqb, ne_eqb}
-use Rattle.std.specs.Prelude.{◌==◌, filter, replicate}
-use Rattle.std.specs.List.{count_by}
-use Rattle.std.proofs.lemmas.List.{ext_get_or, get_or-map, get_or-set_other, get_or-set_same, length-map, length-set, map-set, take_all}
-use Rattle.std.proofs.lemmas.Bool.{eqb-true, false≢true}
-use Rattle.std.proofs.lemmas.List.Recursion.{is_count_by}
-use Rattle.std.proofs.lemmas.List.Sums.{count_by_more_no, count_by_more_yes}
+-- Rows of pages that are listed under the units where their pages stand: those alone are looked at where pages lose or change their sites.
+use Rattle.std.proofs.Common.{◌≡◌, ◌≢◌, ◌⊎◌, inl, inr, ⊎_elim, ℕ, zero, suc, ◌+◌, ◌<◌, ◌≤◌, Bool, true, false, List, [], ◌∷◌, ◌++◌, length, set, get_or, slice_get, Option, None, Some, refl, ap, sym, ◌∙◌, arith, cond, subst, map, eq-eqb, ne_eqb}
+use Rattle.std.specs.Prelude.{◌==◌, ◌&&◌, ◌||◌, not, IsTrue, is_some, nat_lt, option_and_then, option_map, replicate, unwrap_or}
+use Rattle.std.specs.List.{list_all}
+use Rattle.std.specs.Option.{option_flatten}
+use Rattle.std.proofs.lemmas.Bool.{and_parts, cases_eq, eqb-true, false≢true}
+use Rattle.std.proofs.lemmas.List.{ext_get_or, get_or-set_other, get_or-set_same, length-map}
 use Rattle.fdp_base.specs.declared.entry.Spot.{Spot}
-use Rattle.fdp_tables.specs.declared.page_sites.SiteChange.{SiteChange}
-use Rattle.fdp_tables.specs.declared.page_sites.SiteChange.TheVariants as changes
-use Rattle.fdp_tables.specs.PageSites.{AreSited, changed_by, has_site, is_sited, times_listed}
+use Rattle.fdp_rules.specs.Sites.{is_spot, moved_by, outside}
+use Rattle.fdp_tables.specs.Copies.{copy_of}
+use Rattle.fdp_tables.specs.declared.site_change.SiteChange.TheVariants as changes
+use Rattle.fdp_tables.specs.Index.{Lists, is_listed}
+use Rattle.fdp_tables.specs.PageSites.{AreListed, changed_by, changed_in, leaves, site_in}
+use Rattle.fdp_tables.proofs.Walks.{site-changed}
 
 abbrev pub Row : Type 0
 Row = List (Option Spot)
 
-times-count : (ticket : ℕ) (xs : List ℕ) → times_listed ticket xs ≡ count_by (λ x. x == ticket) xs
-times-count ticket xs = is_count_by (times_listed ticket) (λ x. x == ticket) refl (λ x xs. refl) xs
+abbrev pub Lists' : Type 0
+Lists' = Option (List (List ℕ))
 
--- one ticket more was looked at
-more_yes : (ticket : ℕ) (xs : List ℕ) (i d : ℕ) → i < length xs → (get_or xs i d == ticket) ≡ true → times_listed ticket (take (i + 1) xs) ≡ times_listed ticket (take i xs) + 1
-more_yes ticket xs i d below e =
-    times-count ticket (take (i + 1) xs) ∙ count_by_more_yes (λ x. x == ticket) xs i d below e ∙ ap (λ n. n + 1) (sym (times-count ticket (take i xs)))
+same-spot : (a b : Spot) → Some a ≡ Some b → a ≡ b
+same-spot a b e = ap (λ o. unwrap_or o a) e
 
-more_no : (ticket : ℕ) (xs : List ℕ) (i d : ℕ) → i < length xs → (get_or xs i d == ticket) ≡ false → times_listed ticket (take (i + 1) xs) ≡ times_listed ticket (take i xs)
-more_no ticket xs i d below e =
-    times-count ticket (take (i + 1) xs) ∙ count_by_more_no (λ x. x == ticket) xs i d below e ∙ sym (times-count ticket (take i xs))
+none-some : (a : Spot) → None ≡ Some a → ⊥
+none-some a e = false≢true (ap is_some e)
 
--- a row that was looked at so often, at most once
-abbrev pub changed_row : (Option Spot → Option Spot) → ℕ → Row → Row
-changed_row f zero pages = pages
-changed_row f (suc n) pages = map f pages
+-- ---- rows that are changed
 
--- the rows of the first i tickets are changed, and the others are not
-pub record IsChanging (f : Option Spot → Option Spot) (old : List Row) (tickets : List ℕ) (i : ℕ) (new : List Row) : Type 0 where
+zero-suc : (n : ℕ) → (zero == suc n) ≡ false
+zero-suc n = grind arith
+
+suc-zero : (n : ℕ) → (suc n == zero) ≡ false
+suc-zero n = grind arith
+
+suc-suc : (m n : ℕ) → (suc m == suc n) ≡ (m == n)
+suc-suc m n = grind arith
+
+-- the row of a ticket after it was changed
+read-changed : (f : Row → Row) → f [] ≡ [] → (at : ℕ) (rows : List Row) (ticket : ℕ) → get_or (changed_in f at rows) ticket [] ≡ cond (at == ticket) (f (get_or rows ticket [])) (get_or rows ticket [])
+read-changed f none at [] zero = elim (at == zero) as (λ b. [] ≡ cond b (f []) []) [ true ↦ sym none | false ↦ refl ]
+read-changed f none at [] (suc ticket) = elim (at == suc ticket) as (λ b. [] ≡ cond b (f []) []) [ true ↦ sym none | false ↦ refl ]
+read-changed f none zero (row ∷ rows) zero = refl
+read-changed f none zero (row ∷ rows) (suc ticket) = sym (ap (λ b. cond b (f (get_or rows ticket [])) (get_or rows ticket [])) (zero-suc ticket))
+read-changed f none (suc at) (row ∷ rows) zero = sym (ap (λ b. cond b (f row) row) (suc-zero at))
+read-changed f none (suc at) (row ∷ rows) (suc ticket) = read-changed f none at rows ticket ∙ sym (ap (λ b. cond b (f (get_or rows ticket [])) (get_or rows ticket [])) (suc-suc at ticket))
+
+length-changed : (f : Row → Row) (at : ℕ) (rows : List Row) → length (changed_in f at rows) ≡ length rows
+length-changed f at [] = refl
+length-changed f zero (row ∷ rows) = refl
+length-changed f (suc at) (row ∷ rows) = ap suc (length-changed f at rows)
+
+-- no row is changed where there is none
+pub past_changed : (f : Row → Row) (at : ℕ) (rows : List Row) → length rows ≤ at → changed_in f at rows ≡ rows
+past_changed f at [] past = refl
+past_changed f zero (row ∷ rows) past = absurd (omega (arith, past))
+past_changed f (suc at) (row ∷ rows) past = ap (λ (xs : List Row). row ∷ xs) (past_changed f at rows (omega (arith, past)))
+
+-- the same of rows that are read by a word
+pub set_changed : {V : Type 0} (read : V → Row) (f : Row → Row) (vs : List V) (at : ℕ) (v w : V) → at < length vs → v ≡ get_or vs at v → read w ≡ f (read v) → map read (set vs at w) ≡ changed_in f at (map read vs)
+set_changed read f [] at v w below is e = absurd (omega (arith, below))
+set_changed read f (x ∷ vs) zero v w below is e = ap (λ (row : Row). row ∷ map read vs) (e ∙ ap (λ y. f (read y)) is)
+set_changed read f (x ∷ vs) (suc at) v w below is e = ap (λ (rows : List Row). read x ∷ rows) (set_changed read f vs at v w (omega (arith, below)) is e)
+
+-- the rows of those tickets are changed that pass, and no others
+pub record IsChanging (f : Row → Row) (done : ℕ → Bool) (old new : List Row) : Type 0 where
   pub count : length new ≡ length old
-  pub rows : (ticket : ℕ) → get_or new ticket [] ≡ changed_row f (times_listed ticket (take i tickets)) (get_or old ticket [])
+  pub rows : (ticket : ℕ) → get_or new ticket [] ≡ cond (done ticket) (f (get_or old ticket [])) (get_or old ticket [])
 
-times-take : (ticket : ℕ) (xs : List ℕ) (i : ℕ) → times_listed ticket (take i xs) ≤ times_listed ticket xs
-times-take ticket xs zero = omega arith
-times-take ticket [] (suc i) = omega arith
-times-take ticket (x ∷ xs) (suc i) =
-    let rest : times_listed ticket (take i xs) ≤ times_listed ticket xs = times-take ticket xs i in
-    elim (x == ticket) as (λ b. cond b (1 + times_listed ticket (take i xs)) (times_listed ticket (take i xs)) ≤ cond b (1 + times_listed ticket xs) (times_listed ticket xs)) [ true ↦ omega (arith, rest) | false ↦ rest ]
+module _ (f : Row → Row) (none : f [] ≡ []) where
+  pub changing_start : (done : ℕ → Bool) (old : List Row) → ((ticket : ℕ) → done ticket ≡ false) → IsChanging f done old old
+  changing_start done old never = record { count = refl; rows = λ ticket. sym (ap (λ b. cond b (f (get_or old ticket [])) (get_or old ticket [])) (never ticket)) }
 
--- a ticket is listed at most once
-at_most_once : (rows : List Row) (tickets : List ℕ) → AreSited rows tickets → (ticket : ℕ) → times_listed ticket tickets ≤ 1
-at_most_once rows tickets h ticket =
-    subst (λ n. n ≤ 1) (sym (h.once ticket)) (elim (is_sited rows ticket) as (λ b. cond b 1 0 ≤ 1) [ true ↦ omega arith | false ↦ omega arith ])
+  one-row : (o : Row) (a b : Bool) → (a ≡ true → b ≡ true → f (f o) ≡ f o) → cond a (f (cond b (f o) o)) (cond b (f o) o) ≡ cond (b || a) (f o) o
+  one-row o true true twice = twice refl refl
+  one-row o true false twice = refl
+  one-row o false true twice = refl
+  one-row o false false twice = refl
 
--- a listed ticket was not looked at before its place
-not_yet : (rows : List Row) (tickets : List ℕ) (i d : ℕ) → AreSited rows tickets → i < length tickets → times_listed (get_or tickets i d) (take i tickets) ≡ 0
-not_yet rows tickets i d h below =
-    let ticket : ℕ = get_or tickets i d in
-    let more : times_listed ticket (take (i + 1) tickets) ≡ times_listed ticket (take i tickets) + 1 = more_yes ticket tickets i d below (eq-eqb ticket ticket refl) in
-    omega (arith, more, times-take ticket tickets (i + 1), at_most_once rows tickets h ticket)
+  -- one row more is changed
+  pub changing_next : (done next : ℕ → Bool) (at : ℕ) (old new : List Row) → ((ticket : ℕ) → next ticket ≡ (done ticket || (at == ticket))) → (done at ≡ true → (row : Row) → f (f row) ≡ f row)
+      → IsChanging f done old new → IsChanging f next old (changed_in f at new)
+  changing_next done next at old new more twice h = record {
+    count = length-changed f at new ∙ h.count;
+    rows = λ ticket.
+        let o : Row = get_or old ticket [] in
+        read-changed f none at new ticket
+        ∙ ap (λ (row : Row). cond (at == ticket) (f row) row) (h.rows ticket)
+        ∙ one-row o (at == ticket) (done ticket) (λ same before. twice (ap done (eqb-true at ticket same) ∙ before) o)
+        ∙ sym (ap (λ b. cond b (f o) o) (more ticket));
+  }
 
--- a listed ticket has a page with a site
-sited_at : (rows : List Row) (tickets : List ℕ) (i d : ℕ) → AreSited rows tickets → i < length tickets → is_sited rows (get_or tickets i d) ≡ true
-sited_at rows tickets i d h below =
-    let ticket : ℕ = get_or tickets i d in
-    let more : times_listed ticket (take (i + 1) tickets) ≡ times_listed ticket (take i tickets) + 1 = more_yes ticket tickets i d below (eq-eqb ticket ticket refl) in
-    let some : 1 ≤ times_listed ticket tickets = omega (arith, more, times-take ticket tickets (i + 1)) in
-    let P : Bool → Type 0 = λ b. 1 ≤ cond b 1 0 → b ≡ true in
-    (elim (is_sited rows ticket) as P [ true ↦ λ _. refl | false ↦ λ le. absurd (omega (arith, le)) ]) (subst (λ n. 1 ≤ n) (h.once ticket) some)
+  row-mapped : (rows : List Row) (ticket : ℕ) → get_or (map f rows) ticket [] ≡ f (get_or rows ticket [])
+  row-mapped [] zero = sym none
+  row-mapped [] (suc ticket) = sym none
+  row-mapped (row ∷ rows) zero = refl
+  row-mapped (row ∷ rows) (suc ticket) = row-mapped rows ticket
 
--- a row with a site is one of the rows
-site_within : (rows : List Row) (ticket : ℕ) → is_sited rows ticket ≡ true → ticket < length rows
-site_within [] zero e = absurd (false≢true e)
-site_within [] (suc ticket) e = absurd (false≢true e)
-site_within (pages ∷ rows) zero e = omega arith
-site_within (pages ∷ rows) (suc ticket) e = let rest : ticket < length rows = site_within rows ticket e in omega (arith, rest)
+  rest-row : (o : Row) (b : Bool) → (b ≡ false → f o ≡ o) → cond b (f o) o ≡ f o
+  rest-row o true still = refl
+  rest-row o false still = sym (still refl)
 
-pub sited_within : (rows : List Row) (tickets : List ℕ) (i d : ℕ) → AreSited rows tickets → i < length tickets → get_or tickets i d < length rows
-sited_within rows tickets i d h below = site_within rows (get_or tickets i d) (sited_at rows tickets i d h below)
+  -- all are changed, where a change leaves the others as they are
+  pub changing_end : (done : ℕ → Bool) (old new : List Row) → ((ticket : ℕ) → ticket < length old → done ticket ≡ false → f (get_or old ticket []) ≡ get_or old ticket []) → IsChanging f done old new → new ≡ map f old
+  changing_end done old new still h =
+      ext_get_or [] new (map f old) (h.count ∙ sym (length-map old f)) (λ ticket below.
+      h.rows ticket ∙ rest-row (get_or old ticket []) (done ticket) (still ticket (omega (arith, below, h.count))) ∙ sym (row-mapped old ticket))
 
-row-changed : (f : Option Spot → Option Spot) (rows : List Row) (ticket : ℕ) → get_or (map (map f) rows) ticket [] ≡ map f (get_or rows ticket [])
-row-changed f [] zero = refl
-row-changed f [] (suc ticket) = refl
-row-changed f (pages ∷ rows) zero = refl
-row-changed f (pages ∷ rows) (suc ticket) = row-changed f rows ticket
+pub lower_or_here : (ticket i : ℕ) → nat_lt ticket (i + 1) ≡ (nat_lt ticket i || (i == ticket))
+lower_or_here ticket i = grind arith
 
-module _ (f : Option Spot → Option Spot) where
-  pub changing_start : (old : List Row) (tickets : List ℕ) → IsChanging f old tickets 0 old
-  changing_start old tickets = record { count = refl; rows = λ ticket. refl }
+pub not_below_itself : (i : ℕ) → nat_lt i i ≡ false
+not_below_itself i = grind arith
 
-  -- the row of the next ticket is changed
-  pub changing_next : (old : List Row) (tickets : List ℕ) (i d : ℕ) (new : List Row) → AreSited old tickets → i < length tickets → IsChanging f old tickets i new
-      → IsChanging f old tickets (i + 1) (set new (get_or tickets i d) (map f (get_or new (get_or tickets i d) [])))
-  changing_next old tickets i d new sited below h =
-      let at : ℕ = get_or tickets i d in
-      let row : Row = map f (get_or new at []) in
-      let there : at < length new = omega (arith, sited_within old tickets i d sited below, h.count) in
-      let here : get_or (set new at row) at [] ≡ changed_row f (times_listed at (take (i + 1) tickets)) (get_or old at []) =
-      get_or-set_same new at row [] there
-      ∙ ap (map f) (h.rows at ∙ ap (λ n. changed_row f n (get_or old at [])) (not_yet old tickets i d sited below))
-      ∙ ap (λ n. changed_row f n (get_or old at [])) (sym (more_yes at tickets i d below (eq-eqb at at refl) ∙ ap (λ n. n + 1) (not_yet old tickets i d sited below))) in
-      let other : (ticket : ℕ) → at ≢ ticket → get_or (set new at row) ticket [] ≡ changed_row f (times_listed ticket (take (i + 1) tickets)) (get_or old ticket []) = λ ticket ne.
-      get_or-set_other new at ticket row [] (λ e. ne (sym e))
-      ∙ h.rows ticket
-      ∙ ap (λ n. changed_row f n (get_or old ticket [])) (sym (more_no ticket tickets i d below (ne_eqb at ticket ne))) in
-      record {
-        count = length-set new at row ∙ h.count;
-        rows = λ ticket.
-            let P : Bool → Type 0 = λ b. (at == ticket) ≡ b → get_or (set new at row) ticket [] ≡ changed_row f (times_listed ticket (take (i + 1) tickets)) (get_or old ticket []) in
-            (elim (at == ticket) as P [
-              | true ↦ λ e. subst (λ t. get_or (set new at row) t [] ≡ changed_row f (times_listed t (take (i + 1) tickets)) (get_or old t [])) (eqb-true at ticket e) here
-              | false ↦ λ e. other ticket (λ same. absurd (false≢true (sym e ∙ eq-eqb at ticket same)))
-            ]) refl;
-      }
+-- a row is changed twice as once, where each of its pages is
+pub twice_mapped : (g : Option Spot → Option Spot) → ((page : Option Spot) → g (g page) ≡ g page) → (row : Row) → map g (map g row) ≡ map g row
+twice_mapped g once [] = refl
+twice_mapped g once (page ∷ row) = ap (λ (p : Option Spot). p ∷ map g (map g row)) (once page) ∙ ap (λ (ps : Row). g page ∷ ps) (twice_mapped g once row)
 
-  -- the same of rows that are read by a word
-  pub changing_step : {V : Type 0} (read : V → Row) (old : List Row) (tickets : List ℕ) (i d : ℕ) (vs : List V) (v w : V) → AreSited old tickets → i < length tickets
-      → IsChanging f old tickets i (map read vs) → v ≡ get_or vs (get_or tickets i d) v → read w ≡ map f (read v) → IsChanging f old tickets (i + 1) (map read (set vs (get_or tickets i d) w))
-  changing_step read old tickets i d vs v w sited below h at e =
-      let k : ℕ = get_or tickets i d in
-      let there : k < length vs = omega (arith, sited_within old tickets i d sited below, h.count, length-map vs read) in
-      let row : get_or (map read vs) k [] ≡ read v = get_or-map read vs k v [] there ∙ ap read (sym at) in
-      let new : map read (set vs k w) ≡ set (map read vs) k (map f (get_or (map read vs) k [])) =
-      map-set read vs k w ∙ ap (λ (x : Row). set (map read vs) k x) (e ∙ ap (map f) (sym row)) in
-      subst (IsChanging f old tickets (i + 1)) (sym new) (changing_next old tickets i d (map read vs) sited below h)
+-- ---- where pages stand
 
-  -- a row without a site is not changed
-  unsited : f None ≡ None → (pages : Row) → has_site pages ≡ false → map f pages ≡ pages
-  unsited none [] e = refl
-  unsited none (None ∷ pages) e = ap (λ (x : Option Spot). x ∷ map f pages) none ∙ ap (λ (xs : Row). None ∷ xs) (unsited none pages e)
-  unsited none (Some spot ∷ pages) e = absurd (false≢true (sym e))
+site_of_row : (rows : List Row) (ticket i : ℕ) → site_in rows ticket i ≡ option_flatten (slice_get (get_or rows ticket []) i)
+site_of_row [] zero i = refl
+site_of_row [] (suc ticket) i = refl
+site_of_row (row ∷ rows) zero i = refl
+site_of_row (row ∷ rows) (suc ticket) i = site_of_row rows ticket i
 
-  all_rows : f None ≡ None → (pages : Row) (b : Bool) (n : ℕ) → has_site pages ≡ b → n ≡ cond b 1 0 → changed_row f n pages ≡ map f pages
-  all_rows none pages true n site e = ap (λ k. changed_row f k pages) e
-  all_rows none pages false n site e = ap (λ k. changed_row f k pages) e ∙ sym (unsited none pages site)
+-- a row stays that has no page that is changed
+still-row : (g : Option Spot → Option Spot) → g None ≡ None → (row : Row) → ((i : ℕ) (spot : Spot) → option_flatten (slice_get row i) ≡ Some spot → g (Some spot) ≡ Some spot) → map g row ≡ row
+still-row g none [] still = refl
+still-row g none (None ∷ row) still = ap (λ (p : Option Spot). p ∷ map g row) none ∙ ap (λ (ps : Row). None ∷ ps) (still-row g none row (λ i. still (suc i)))
+still-row g none (Some spot ∷ row) still = ap (λ (p : Option Spot). p ∷ map g row) (still 0 spot refl) ∙ ap (λ (ps : Row). Some spot ∷ ps) (still-row g none row (λ i. still (suc i)))
 
-  -- all rows are changed
-  pub changing_end : f None ≡ None → (old : List Row) (tickets : List ℕ) (i : ℕ) (new : List Row) → AreSited old tickets → length tickets ≤ i → IsChanging f old tickets i new → new ≡ map (map f) old
-  changing_end none old tickets i new sited past h =
-      ext_get_or [] new (map (map f) old) (h.count ∙ sym (length-map old (map f))) (λ ticket below.
-      h.rows ticket
-      ∙ ap (λ xs. changed_row f (times_listed ticket xs) (get_or old ticket [])) (take_all i tickets past)
-      ∙ all_rows none (get_or old ticket []) (is_sited old ticket) (times_listed ticket tickets) refl (sited.once ticket)
-      ∙ sym (row-changed f old ticket))
+-- a change of the pages of one unit: once changed they stay, and all others stay
+pub record ChangesIn (g : Option Spot → Option Spot) (unit : ℕ) : Type 0 where
+  pub none : g None ≡ None
+  pub once : (page : Option Spot) → g (g page) ≡ g page
+  pub others : (spot : Spot) → spot.unit ≢ unit → g (Some spot) ≡ Some spot
 
-  -- a row that has a site after a change had one before
-  sited_before : f None ≡ None → (pages : Row) → has_site (map f pages) ≡ true → has_site pages ≡ true
-  sited_before none [] e = e
-  sited_before none (None ∷ pages) e = sited_before none pages (sym (ap (λ (x : Option Spot). has_site (x ∷ map f pages)) none) ∙ e)
-  sited_before none (Some spot ∷ pages) e = refl
+-- the rows of tickets that are not listed under the unit stay
+pub others_still : (g : Option Spot → Option Spot) (unit : ℕ) (rows : List Row) (old : Lists') (list : List ℕ) → ChangesIn g unit → AreListed rows old → ((value : ℕ) → Lists old unit value → IsTrue (is_listed value list))
+    → (ticket : ℕ) → is_listed ticket list ≡ false → map g (get_or rows ticket []) ≡ get_or rows ticket []
+others_still g unit rows old list h listed all ticket absent =
+    still-row g h.none (get_or rows ticket []) (λ i spot e.
+    h.others spot (λ same. absurd (false≢true (sym absent ∙ all ticket (subst (λ u. Lists old u ticket) same (listed.under ticket i spot (site_of_row rows ticket i ∙ e)))))))
 
--- how often a ticket stands among those that pass
-times-filter : (p : ℕ → Bool) (ticket : ℕ) (xs : List ℕ) → times_listed ticket (filter p xs) ≡ cond (p ticket) (times_listed ticket xs) 0
-times-filter p ticket [] = elim (p ticket) as (λ b. zero ≡ cond b zero zero) [ true ↦ refl | false ↦ refl ]
-times-filter p ticket (x ∷ xs) =
-    let rest : times_listed ticket (filter p xs) ≡ cond (p ticket) (times_listed ticket xs) 0 = times-filter p ticket xs in
-    let here : (x == ticket) ≡ true → times_listed ticket (filter p (x ∷ xs)) ≡ cond (p ticket) (times_listed ticket (x ∷ xs)) 0 = λ e.
-    let same : p x ≡ p ticket = ap p (eqb-true x ticket e) in
-    let P : Bool → Type 0 = λ b. p x ≡ b → p ticket ≡ b → times_listed ticket (filter p (x ∷ xs)) ≡ cond (p ticket) (times_listed ticket (x ∷ xs)) 0 in
-    (elim (p ticket) as P [ true ↦ λ px pt. rw (px, pt, e) (ap (λ n. 1 + n) (rest ∙ ap (λ b. cond b (times_listed ticket xs) 0) pt)) | false ↦ λ px pt. rw (px, pt) (rest ∙ ap (λ b. cond b (times_listed ticket xs) 0) pt) ]) same refl in
-    let other : (x == ticket) ≡ false → times_listed ticket (filter p (x ∷ xs)) ≡ cond (p ticket) (times_listed ticket (x ∷ xs)) 0 = λ e.
-    let P : Bool → Type 0 = λ b. p x ≡ b → times_listed ticket (filter p (x ∷ xs)) ≡ cond (p ticket) (times_listed ticket (x ∷ xs)) 0 in
-    (elim (p x) as P [ true ↦ λ px. rw (px, e) rest | false ↦ λ px. rw (px, e) rest ]) refl in
-    let Q : Bool → Type 0 = λ b. (x == ticket) ≡ b → times_listed ticket (filter p (x ∷ xs)) ≡ cond (p ticket) (times_listed ticket (x ∷ xs)) 0 in
-    (elim (x == ticket) as Q [ true ↦ here | false ↦ other ]) refl
+-- ---- an erase
 
--- once the rows are changed, those are listed that still have a site
-pub kept_sited : (f : Option Spot → Option Spot) → f None ≡ None → (old new : List Row) (tickets : List ℕ) → AreSited old tickets → new ≡ map (map f) old → AreSited new (filter (is_sited new) tickets)
-kept_sited f none old new tickets sited changed = record {
-  once = λ ticket.
-      let before : is_sited new ticket ≡ true → is_sited old ticket ≡ true = λ e. sited_before f none (get_or old ticket []) (sym (ap has_site (ap (λ rows. get_or rows ticket []) changed ∙ row-changed f old ticket)) ∙ e) in
-      let P : Bool → Type 0 = λ b. is_sited new ticket ≡ b → cond (is_sited new ticket) (times_listed ticket tickets) 0 ≡ cond (is_sited new ticket) 1 0 in
-      times-filter (is_sited new) ticket tickets
-      ∙ (elim (is_sited new ticket) as P [ true ↦ λ e. rw e (sited.once ticket ∙ ap (λ b. cond b 1 0) (before e)) | false ↦ λ e. rw e refl ]) refl;
+outside-kept : (unit : ℕ) (spot : Spot) → spot.unit ≢ unit → outside unit spot ≡ Some spot
+outside-kept unit spot ne = ap (λ b. cond b None (Some spot)) (ne_eqb spot.unit unit ne)
+
+outside-once : (unit : ℕ) (page : Option Spot) → option_and_then (outside unit) (option_and_then (outside unit) page) ≡ option_and_then (outside unit) page
+outside-once unit None = refl
+outside-once unit (Some spot) =
+    let P : Bool → Type 0 = λ b. (spot.unit == unit) ≡ b → option_and_then (outside unit) (outside unit spot) ≡ outside unit spot in
+    (elim (spot.unit == unit) as P [ true ↦ λ e. rw e refl | false ↦ λ e. rw (e, e) refl ]) refl
+
+pub erase_changes : (unit : ℕ) → ChangesIn (changed_by (changes.Erased unit)) unit
+erase_changes unit = record { none = refl; once = outside-once unit; others = outside-kept unit }
+
+-- what stands somewhere after an erase stood there before, in another unit
+outside-is : (unit : ℕ) (page : Option Spot) (spot : Spot) → option_and_then (outside unit) page ≡ Some spot → (page ≡ Some spot) × (spot.unit ≢ unit)
+outside-is unit None spot e = absurd (none-some spot e)
+outside-is unit (Some at) spot e =
+    let P : Bool → Type 0 = λ b. (at.unit == unit) ≡ b → cond b None (Some at) ≡ Some spot → (Some at ≡ Some spot) × (spot.unit ≢ unit) in
+    (elim (at.unit == unit) as P [
+      | true ↦ λ t none. absurd (none-some spot none)
+      | false ↦ λ f same. (same, λ is. absurd (false≢true (sym f ∙ eq-eqb at.unit unit (ap (λ (s : Spot). s.unit) (same-spot at spot same) ∙ is))))
+    ]) refl e
+
+pub erased_listed : (unit : ℕ) (rows : List Row) (old new : Lists') → AreListed rows old → ((k value : ℕ) → k ≢ unit → Lists old k value → Lists new k value) → AreListed (map (map (changed_by (changes.Erased unit))) rows) new
+erased_listed unit rows old new listed others = record {
+  under = λ ticket i spot e.
+      let was : (site_in rows ticket i ≡ Some spot) × (spot.unit ≢ unit) = outside-is unit (site_in rows ticket i) spot (sym (site-changed (option_and_then (outside unit)) rows ticket i refl) ∙ e) in
+      others spot.unit ticket was.1 (listed.under ticket i spot was.0);
 }
 
-blank_row : (n : ℕ) → has_site (replicate n None) ≡ false
-blank_row zero = refl
-blank_row (suc n) = blank_row n
+-- ---- a move
 
-row-pushed : (rows : List Row) (n ticket : ℕ) → is_sited (rows ++ replicate n None ∷ []) ticket ≡ is_sited rows ticket
-row-pushed [] n zero = blank_row n
-row-pushed [] n (suc zero) = refl
-row-pushed [] n (suc (suc ticket)) = refl
-row-pushed (pages ∷ rows) n zero = refl
-row-pushed (pages ∷ rows) n (suc ticket) = row-pushed rows n ticket
+-- what stands in no unit that the copies leave stays
+moved-still : (unit : ℕ) (pass : List (Spot × Spot)) (spot : Spot) → list_all (leaves unit) pass ≡ true → spot.unit ≢ unit → moved_by (map copy_of pass) spot ≡ spot
+moved-still unit [] spot all ne = refl
+moved-still unit (x ∷ pass) spot all ne =
+    let parts = and_parts (leaves unit x) (list_all (leaves unit) pass) all in
+    let from : x.0.unit ≡ unit = eqb-true x.0.unit unit (and_parts (x.0.unit == unit) (not (x.1.unit == unit)) parts.0).0 in
+    let other : is_spot x.0 spot ≡ false = ap (λ b. b && (x.0.page == spot.page)) (ne_eqb x.0.unit spot.unit (λ same. ne (sym same ∙ from))) in
+    rw other (moved-still unit pass spot parts.1 ne)
+
+-- what is moved leaves the unit
+moved-away : (unit : ℕ) (pass : List (Spot × Spot)) (spot : Spot) → list_all (leaves unit) pass ≡ true → (moved_by (map copy_of pass) spot ≡ spot) ⊎ ((moved_by (map copy_of pass) spot).unit ≢ unit)
+moved-away unit [] spot all = inl refl
+moved-away unit (x ∷ pass) spot all =
+    let parts = and_parts (leaves unit x) (list_all (leaves unit) pass) all in
+    let to : not (x.1.unit == unit) ≡ true = (and_parts (x.0.unit == unit) (not (x.1.unit == unit)) parts.0).1 in
+    let P : Bool → Type 0 = λ b. is_spot x.0 spot ≡ b → (moved_by (map copy_of (x ∷ pass)) spot ≡ spot) ⊎ ((moved_by (map copy_of (x ∷ pass)) spot).unit ≢ unit) in
+    (elim (is_spot x.0 spot) as P [
+      | true ↦ λ e. rw e (inr (λ same. absurd (false≢true (ap not (sym (eq-eqb x.1.unit unit same)) ∙ to))))
+      | false ↦ λ e. rw e (moved-away unit pass spot parts.1)
+    ]) refl
+
+pub move_changes : (unit : ℕ) (pass : List (Spot × Spot)) → list_all (leaves unit) pass ≡ true → ChangesIn (option_map (moved_by (map copy_of pass))) unit
+move_changes unit pass all = record {
+  none = refl;
+  once = λ page. once page;
+  others = λ spot ne. ap Some (moved-still unit pass spot all ne);
+} where
+  once : (page : Option Spot) → option_map (moved_by (map copy_of pass)) (option_map (moved_by (map copy_of pass)) page) ≡ option_map (moved_by (map copy_of pass)) page
+  once None = refl
+  once (Some spot) = ap Some (⊎_elim (λ same. ap (moved_by (map copy_of pass)) same) (λ ne. moved-still unit pass (moved_by (map copy_of pass) spot) all ne) (moved-away unit pass spot all))
+
+-- where something stands that was moved
+moved-from : (f : Spot → Spot) (page : Option Spot) (spot : Spot) → option_map f page ≡ Some spot → (at : Spot) × (page ≡ Some at) × (f at ≡ spot)
+moved-from f None spot e = absurd (none-some spot e)
+moved-from f (Some at) spot e = (at, refl, same-spot (f at) spot e)
+
+pub moved_listed : (unit : ℕ) (pass : List (Spot × Spot)) (rows : List Row) (old taken new : Lists') (list : List ℕ) → list_all (leaves unit) pass ≡ true → AreListed rows old → ((value : ℕ) → Lists old unit value → IsTrue (is_listed value list))
+    → ((k value : ℕ) → k ≢ unit → Lists old k value → Lists taken k value) → ((k value : ℕ) → Lists taken k value → Lists new k value)
+    → ((ticket i : ℕ) (spot : Spot) → IsTrue (is_listed ticket list) → site_in rows ticket i ≡ Some spot → spot.unit ≡ unit → Lists new (moved_by (map copy_of pass) spot).unit ticket)
+    → AreListed (map (map (option_map (moved_by (map copy_of pass)))) rows) new
+moved_listed unit pass rows old taken new list leave listed all others kept moved = record {
+  under = λ ticket i spot e.
+      let f : Spot → Spot = moved_by (map copy_of pass) in
+      let was : (at : Spot) × (site_in rows ticket i ≡ Some at) × (f at ≡ spot) = moved-from f (site_in rows ticket i) spot (sym (site-changed (option_map f) rows ticket i refl) ∙ e) in
+      let at : Spot = was.0 in
+      let before : Lists old at.unit ticket = listed.under ticket i at was.1 in
+      let there : at.unit ≡ unit → Lists new (f at).unit ticket = λ same. moved ticket i at (all ticket (subst (λ u. Lists old u ticket) same before)) was.1 same in
+      let elsewhere : at.unit ≢ unit → Lists new (f at).unit ticket = λ ne. subst (λ (s : Spot). Lists new s.unit ticket) (sym (moved-still unit pass at leave ne)) (kept at.unit ticket (others at.unit ticket ne before)) in
+      subst (λ (s : Spot). Lists new s.unit ticket) was.2 (⊎_elim there elsewhere (cases_eq at.unit unit));
+}
+
+-- ---- rows and pages more
+
+blank-site : (n i : ℕ) → option_flatten {T = Spot} (slice_get (replicate n None) i) ≡ None
+blank-site zero i = refl
+blank-site (suc n) zero = refl
+blank-site (suc n) (suc i) = blank-site n i
+
+site-pushed : (rows : List Row) (n ticket i : ℕ) → site_in (rows ++ replicate n None ∷ []) ticket i ≡ site_in rows ticket i
+site-pushed [] n zero i = blank-site n i
+site-pushed [] n (suc zero) i = refl
+site-pushed [] n (suc (suc ticket)) i = refl
+site-pushed (row ∷ rows) n zero i = refl
+site-pushed (row ∷ rows) n (suc ticket) i = site-pushed rows n ticket i
 
 -- a row more whose pages stand nowhere
-pub pushed_sited : (rows : List Row) (tickets : List ℕ) (pages : Row) → AreSited rows tickets → pages ≡ replicate (length pages) None → AreSited (rows ++ pages ∷ []) tickets
-pushed_sited rows tickets pages sited blank = record {
-  once = λ ticket. sited.once ticket ∙ ap (λ b. cond b 1 0) (sym (ap (λ (row : Row). is_sited (rows ++ row ∷ []) ticket) blank ∙ row-pushed rows (length pages) ticket));
+pub pushed_listed : (rows : List Row) (tickets : Lists') (pages : Row) → AreListed rows tickets → pages ≡ replicate (length pages) None → AreListed (rows ++ pages ∷ []) tickets
+pushed_listed rows tickets pages listed blank = record {
+  under = λ ticket i spot e. listed.under ticket i spot (sym (ap (λ (row : Row). site_in (rows ++ row ∷ []) ticket i) blank ∙ site-pushed rows (length pages) ticket i) ∙ e);
 }
 
-times-more : (ticket other : ℕ) (xs : List ℕ) → times_listed ticket (xs ++ other ∷ []) ≡ times_listed ticket xs + cond (other == ticket) 1 0
-times-more ticket other [] = elim (other == ticket) as (λ b. cond b (1 + zero) zero ≡ zero + cond b 1 0) [ true ↦ refl | false ↦ refl ]
-times-more ticket other (x ∷ xs) =
-    let rest : times_listed ticket (xs ++ other ∷ []) ≡ times_listed ticket xs + cond (other == ticket) 1 0 = times-more ticket other xs in
-    let m : ℕ = times_listed ticket (xs ++ other ∷ []) in
-    let n : ℕ = times_listed ticket xs in
-    elim (x == ticket) as (λ b. cond b (1 + m) m ≡ cond b (1 + n) n + cond (other == ticket) 1 0) [ true ↦ omega (arith, rest) | false ↦ rest ]
+placed-page : (row : Row) (index i : ℕ) (spot at : Spot) → option_flatten (slice_get (set row index (Some spot)) i) ≡ Some at → (at ≡ spot) ⊎ (option_flatten (slice_get row i) ≡ Some at)
+placed-page [] index i spot at e = inr e
+placed-page (page ∷ row) zero zero spot at e = inl (sym (same-spot spot at e))
+placed-page (page ∷ row) zero (suc i) spot at e = inr e
+placed-page (page ∷ row) (suc index) zero spot at e = inr e
+placed-page (page ∷ row) (suc index) (suc i) spot at e = placed-page row index i spot at e
 
-placed_site : (pages : Row) (index : ℕ) (spot : Spot) → index < length pages → has_site (set pages index (Some spot)) ≡ true
-placed_site [] index spot below = absurd (omega (arith, below))
-placed_site (page ∷ pages) zero spot below = refl
-placed_site (None ∷ pages) (suc index) spot below = placed_site pages index spot (omega (arith, below))
-placed_site (Some site ∷ pages) (suc index) spot below = refl
-
--- a page that gets a site; its ticket is listed where it was not yet
-pub placed_sited : (rows : List Row) (tickets : List ℕ) (at index : ℕ) (spot : Spot) → AreSited rows tickets → at < length rows → index < length (get_or rows at [])
-    → AreSited (set rows at (set (get_or rows at []) index (Some spot))) (cond (has_site (get_or rows at [])) tickets (tickets ++ at ∷ []))
-placed_sited rows tickets at index spot sited there within =
-    let row : Row = set (get_or rows at []) index (Some spot) in
-    let new : List Row = set rows at row in
-    let listed : List ℕ = cond (has_site (get_or rows at [])) tickets (tickets ++ at ∷ []) in
-    let here : times_listed at listed ≡ 1 =
-    let P : Bool → Type 0 = λ b. has_site (get_or rows at []) ≡ b → times_listed at (cond b tickets (tickets ++ at ∷ [])) ≡ 1 in
-    (elim (has_site (get_or rows at [])) as P [
-      | true ↦ λ e. sited.once at ∙ ap (λ b. cond b 1 0) e
-      | false ↦ λ e. times-more at at tickets ∙ ap (λ n. n + cond (at == at) 1 0) (sited.once at ∙ ap (λ b. cond b 1 0) e) ∙ ap (λ b. 0 + cond b 1 0) (eq-eqb at at refl)
-    ]) refl in
-    let now : is_sited new at ≡ true = ap has_site (get_or-set_same rows at row [] there) ∙ placed_site (get_or rows at []) index spot within in
-    let other : (ticket : ℕ) → (at == ticket) ≡ false → times_listed ticket listed ≡ times_listed ticket tickets = λ ticket e.
-    elim (has_site (get_or rows at [])) as (λ b. times_listed ticket (cond b tickets (tickets ++ at ∷ [])) ≡ times_listed ticket tickets) [
-      | true ↦ refl
-      | false ↦ times-more ticket at tickets ∙ ap (λ b. times_listed ticket tickets + cond b 1 0) e ∙ omega arith
-    ] in
+-- a page that gets a site, under whose unit its ticket is listed
+pub placed_listed : (rows : List Row) (old new : Lists') (ticket index : ℕ) (spot : Spot) → AreListed rows old → ticket < length rows → ((k value : ℕ) → Lists old k value → Lists new k value) → Lists new spot.unit ticket
+    → AreListed (set rows ticket (set (get_or rows ticket []) index (Some spot))) new
+placed_listed rows old new ticket index spot listed there kept added =
+    let row : Row = set (get_or rows ticket []) index (Some spot) in
     record {
-      once = λ ticket.
-          let Q : Bool → Type 0 = λ b. (at == ticket) ≡ b → times_listed ticket listed ≡ cond (is_sited new ticket) 1 0 in
-          (elim (at == ticket) as Q [
-            | true ↦ λ e. subst (λ t. times_listed t listed ≡ cond (is_sited new t) 1 0) (eqb-true at ticket e) (here ∙ ap (λ b. cond b 1 0) (sym now))
-            | false ↦ λ e.
-                let ne : ticket ≢ at = λ same. absurd (false≢true (sym e ∙ eq-eqb at ticket (sym same))) in
-                other ticket e ∙ sited.once ticket ∙ ap (λ (pages : Row). cond (has_site pages) 1 0) (sym (get_or-set_other rows at ticket row [] ne))
-          ]) refl;
+      under = λ t i at e.
+          let before : option_flatten (slice_get (get_or rows t []) i) ≡ Some at → Lists new at.unit t = λ was. kept at.unit t (listed.under t i at (site_of_row rows t i ∙ was)) in
+          let now : option_flatten (slice_get (get_or (set rows ticket row) t []) i) ≡ Some at = sym (site_of_row (set rows ticket row) t i) ∙ e in
+          let here : t ≡ ticket → Lists new at.unit t = λ same.
+          let placed : (at ≡ spot) ⊎ (option_flatten (slice_get (get_or rows t []) i) ≡ Some at) =
+          subst (λ n. (at ≡ spot) ⊎ (option_flatten (slice_get (get_or rows n []) i) ≡ Some at)) (sym same)
+          (placed-page (get_or rows ticket []) index i spot at (sym (ap (λ (r : Row). option_flatten (slice_get r i)) (ap (λ n. get_or (set rows ticket row) n []) same ∙ get_or-set_same rows ticket row [] there)) ∙ now)) in
+          ⊎_elim (λ is. subst (λ (s : Spot). Lists new s.unit t) (sym is) (subst (Lists new spot.unit) (sym same) added)) before placed in
+          let other : t ≢ ticket → Lists new at.unit t = λ ne. before (sym (ap (λ (r : Row). option_flatten (slice_get r i)) (get_or-set_other rows ticket t row [] ne)) ∙ now) in
+          ⊎_elim here other (cases_eq t ticket);
     }
-
--- a page without a site gets none
-pub changed_none : (change : SiteChange) → changed_by change None ≡ None
-changed_none (changes.Erased unit) = refl
-changed_none (changes.Moved pass) = refl

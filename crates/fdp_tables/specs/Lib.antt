@@ -1,5 +1,6 @@
 pub mod Blocks
 pub mod Copies
+pub mod Index
 pub mod PageSites
 pub mod Starts
 pub mod State

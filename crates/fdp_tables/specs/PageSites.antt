@@ -1,39 +1,35 @@
 -- Where the pages of writes stand, in a table with a row for each ticket.
-use Rattle.std.specs.Prelude.{◌≡◌, ℕ, ◌+◌, ◌<◌, Bool, ◌==◌, List, [], ◌∷◌, Option, Some, if◌then◌else◌, is_some, length, map, option_and_then, option_map, slice_get, slice_index_or}
-use Rattle.std.specs.List.{list_any}
+use Rattle.std.specs.Prelude.{◌≡◌, ℕ, zero, suc, ◌+◌, ◌<◌, Bool, ◌==◌, ◌&&◌, not, List, [], ◌∷◌, Option, Some, length, map, option_and_then, option_map, slice_get, slice_index_or}
 use Rattle.std.specs.Option.{option_flatten}
 use Rattle.fdp_base.specs.declared.entry.Spot.{Spot}
 use Rattle.fdp_rules.specs.Sites.{moved_by, outside}
 use Rattle.fdp_tables.specs.Copies.{copy_of}
-use Rattle.fdp_tables.specs.declared.page_sites.SiteChange.{SiteChange}
-use Rattle.fdp_tables.specs.declared.page_sites.SiteChange.TheVariants as changes
+use Rattle.fdp_tables.specs.Index.{Lists}
+use Rattle.fdp_tables.specs.declared.site_change.SiteChange.{SiteChange}
+use Rattle.fdp_tables.specs.declared.site_change.SiteChange.TheVariants as changes
 
--- the rows, and how many more rows, and pages that get their sites, take no memory
+-- the rows, and how many more take no memory
 pub record SiteRows : Type 0 where
   pub rows : List (List (Option Spot))
   pub row_room : ℕ
-  pub site_room : ℕ
 
 -- where the page of a write stands
 abbrev pub site_in : List (List (Option Spot)) → ℕ → ℕ → Option Spot
 site_in rows ticket index = option_and_then (λ pages. option_flatten (slice_get pages index)) (slice_get rows ticket)
 
--- some page of a row stands somewhere
-abbrev pub has_site : List (Option Spot) → Bool
-has_site pages = list_any is_some pages
+-- the rows of which a page stands in a unit are listed under the unit
+pub record AreListed (rows : List (List (Option Spot))) (tickets : Option (List (List ℕ))) : Type 0 where
+  pub under : (ticket index : ℕ) (spot : Spot) → site_in rows ticket index ≡ Some spot → Lists tickets spot.unit ticket
 
--- some page of the write with this ticket stands somewhere
-abbrev pub is_sited : List (List (Option Spot)) → ℕ → Bool
-is_sited rows ticket = has_site (slice_index_or rows ticket [])
+-- a copy leaves a unit for another
+abbrev pub leaves : ℕ → Spot × Spot → Bool
+leaves unit x = (x.0.unit == unit) && not (x.1.unit == unit)
 
--- how often a ticket is listed
-abbrev pub times_listed : ℕ → List ℕ → ℕ
-times_listed ticket [] = 0
-times_listed ticket (x ∷ xs) = if x == ticket then 1 + times_listed ticket xs else times_listed ticket xs
-
--- just the tickets are listed of which a page stands somewhere, each once
-pub record AreSited (rows : List (List (Option Spot))) (tickets : List ℕ) : Type 0 where
-  pub once : (ticket : ℕ) → times_listed ticket tickets ≡ (if is_sited rows ticket then 1 else 0)
+-- the row of a ticket is changed, where there is one
+abbrev pub changed_in : {X : Type 0} → (X → X) → ℕ → List X → List X
+changed_in f i [] = []
+changed_in f zero (x ∷ xs) = f x ∷ xs
+changed_in f (suc i) (x ∷ xs) = x ∷ changed_in f i xs
 
 -- what becomes of a page that stands somewhere, or nowhere
 abbrev pub changed_by : SiteChange → Option Spot → Option Spot

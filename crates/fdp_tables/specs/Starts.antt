@@ -1,5 +1,5 @@
 -- Where the runs on one image begin among their entries.
-use Rattle.std.specs.Prelude.{◌≡◌, ℕ, ◌-◌, ◌≤◌, List, [], ◌∷◌, drop, take}
+use Rattle.std.specs.Prelude.{ℕ, ◌-◌, ◌≤◌, List, [], ◌∷◌, drop, take}
 
 -- where the last of these runs begins, the first of which begins here
 abbrev pub last_from : ℕ → List ℕ → ℕ

@@ -1,33 +1,48 @@
 //! The blocks of a namespace, and how many of them lie in each reclaim group.
 
-ghost use Rattle.std.specs.Prelude.{◌≡◌, ℕ, ◌+◌, ◌^◌, ◌<◌, ◌≤◌, ◌&&◌, None, IfOk, cond, count_by, get_or, length, option_map, replicate, set};
+ghost use Rattle.std.specs.Prelude.{◌≡◌, ℕ, ◌+◌, ◌^◌, ◌<◌, ◌≤◌, ◌&&◌, None, Some, IfOk, IfSome, IsTrue, cond, count_by, get_or, length, option_map, replicate, set};
 ghost use Rattle.std.specs.Option.{option_copied};
 ghost use Rattle.fdp_base.specs.Numbers.{count_below, is_among};
-ghost use Rattle.fdp_tables.specs.Blocks.{lies_at, on_page};
+ghost use Rattle.fdp_tables.specs.Blocks.{Names, lies_at, on_page, row_of};
+ghost use Rattle.fdp_tables.specs.declared.state.KeptBlock.{KeptBlock};
+ghost use Rattle.fdp_tables.specs.Index.{Lists, is_listed};
 ghost use Rattle.fdp_tables.specs.State.{row};
 
+use crate::index::Index;
 use crate::state::{KeptBlock, KeptPage};
 use std::alloc::{AllocError, Global};
 use std::marker::Model;
 
-/// A place for each block of a namespace, by address. Contracts see the list of the places. How many of the blocks lie in a group is known without a look at them.
+/// The pages of one write, by its ticket, or those that were found in one unit.
+#[derive(Clone, Copy, Debug)]
+pub(crate) struct PageRow {
+    pub(crate) is_found: bool,
+    pub(crate) number: u64,
+}
+
+/// A place for each block of a namespace, by address. Contracts see the list of the places. How many of the blocks lie in a group, and
+/// which may be at the pages of a write, is known without a look at them.
 #[derive(Debug, Drop)]
 pub struct Blocks {
     places: Vec<Option<KeptBlock>>,
     /// By group, of which a drive has at most sixteen.
     counts: [u64; 16],
+    /// By ticket: the places whose blocks may be at a page of its write.
+    written: Index,
+    /// By unit: the places whose blocks may be at a page that was found there.
+    found: Index,
 }
 
 impl Model for Blocks {
     ghost use Rattle.std.specs.Prelude.{List, Option};
-    ghost use Rattle.fdp_tables.specs.Blocks.{AreCounted};
+    ghost use Rattle.fdp_tables.specs.Blocks.{AreCounted, AreNamed};
     ghost use Rattle.fdp_tables.specs.declared.state.KeptBlock.{KeptBlock};
 
     ghost Value = { List (Option KeptBlock) };
 
     ghost view = { λ blocks. blocks.places.items };
 
-    ghost invariant = { λ blocks. AreCounted blocks.counts blocks.places.items };
+    ghost invariant = { λ blocks. AreCounted blocks.counts blocks.places.items × AreNamed blocks.written blocks.found blocks.places.items };
 }
 
 impl Blocks {
@@ -38,6 +53,8 @@ impl Blocks {
         Ok(Blocks {
             places: absent_places(alloc, size)?,
             counts: [0; 16],
+            written: Index::new(alloc),
+            found: Index::new(alloc),
         })
     }
 
@@ -73,6 +90,7 @@ impl Blocks {
     {
         uncount(&mut self.counts, &self.places[place]);
         count(&mut self.counts, &block);
+        name_block(&mut self.written, &mut self.found, &block, place as u64);
         self.places[place] = block;
     }
 
@@ -81,8 +99,18 @@ impl Blocks {
         requires { place < length self.old }
         ensures { self.new ≡ set self.old place (option_map (on_page page) (row self.old place)) }
     {
-        if let Some(block) = &mut self.places[place] {
-            block.page = page;
+        name(&mut self.written, &mut self.found, page, place as u64);
+        set_page(&mut self.places, place, page);
+    }
+
+    /// The places of all blocks at these pages, and perhaps others; none where memory was wanting for them, and any place may be one.
+    pub(crate) fn places_at(&self, at: PageRow) -> Option<&[u64]>
+        ensures { IfSome result (λ places. (place : ℕ) (b : KeptBlock) → row self.now place ≡ Some b → row_of b.page ≡ at → IsTrue (is_listed place places.now)) }
+    {
+        if at.is_found {
+            self.found.get(at.number)
+        } else {
+            self.written.get(at.number)
         }
     }
 
@@ -116,6 +144,57 @@ impl Blocks {
             Some(block) => block.rg == rg,
             None => false,
         }
+    }
+}
+
+/// The pages among which a page is.
+fn row_of(page: KeptPage) -> PageRow
+    ensures { result ≡ row_of page }
+{
+    match page {
+        KeptPage::Written { ticket, .. } => PageRow {
+            is_found: false,
+            number: ticket,
+        },
+        KeptPage::Found(spot) => PageRow {
+            is_found: true,
+            number: u64::from(spot.unit),
+        },
+    }
+}
+
+/// A place may have a block at this page.
+fn name(written: &mut Index, found: &mut Index, page: KeptPage, place: u64)
+    ensures written { (k v : ℕ) → Lists written.old k v → Lists written.new k v }
+    ensures found { (k v : ℕ) → Lists found.old k v → Lists found.new k v }
+    ensures named { Names written.new found.new page place }
+{
+    let row = row_of(page);
+    if row.is_found {
+        found.add(row.number, place);
+    } else {
+        written.add(row.number, place);
+    }
+}
+
+/// A place may have this block, if it is one.
+fn name_block(written: &mut Index, found: &mut Index, block: &Option<KeptBlock>, place: u64)
+    ensures written { (k v : ℕ) → Lists written.old k v → Lists written.new k v }
+    ensures found { (k v : ℕ) → Lists found.old k v → Lists found.new k v }
+    ensures named { IfSome block.now (λ b. Names written.new found.new b.page place) }
+{
+    if let Some(block) = block {
+        name(written, found, block.page, place);
+    }
+}
+
+/// Gives the block in a place another page.
+fn set_page(places: &mut Vec<Option<KeptBlock>>, place: usize, page: KeptPage)
+    requires { place < length places.old.items }
+    ensures { places.new.items ≡ set places.old.items place (option_map (on_page page) (row places.old.items place)) }
+{
+    if let Some(block) = &mut places[place] {
+        block.page = page;
     }
 }
 

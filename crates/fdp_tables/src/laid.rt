@@ -41,7 +41,6 @@ impl PageSites {
         self.reserve()?;
         self.push(places);
         for page in 0..pages {
-            self.reserve()?;
             self.place(u64::from(unit), page, Spot { unit, page });
         }
         Ok(())

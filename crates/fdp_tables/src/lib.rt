@@ -4,12 +4,16 @@
 mod blocks;
 mod create;
 mod fresh;
+mod index;
 mod kinds;
 mod laid;
 mod look;
+mod moving;
 mod page_sites;
+mod places;
 mod room;
 mod runs;
+mod site_change;
 mod sites;
 mod standing;
 mod starts;

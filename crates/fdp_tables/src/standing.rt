@@ -29,7 +29,7 @@ impl<'a> Model for Standing<'a> {
 }
 
 impl<'a> Standing<'a> {
-    ghost use Rattle.fdp_tables.specs.Sound.{IsSound, KnowsFound};
+    ghost use Rattle.fdp_tables.specs.Sound.{IsSound};
 
     pub fn new(kept: &'a Kept) -> Standing<'a>
         requires { IsSound kept.now }
@@ -78,7 +78,7 @@ impl<'a> Standing<'a> {
     /// The namespaces by identifier.
     pub fn spaces(&self) -> &[Option<Space>]
         ensures value { result.now ≡ self.now.spaces.items }
-        ensures known { KnowsFound self.now }
+        ensures count { length result.now ≡ 17 }
     {
         self.kept.spaces.as_slice()
     }

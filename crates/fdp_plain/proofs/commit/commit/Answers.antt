@@ -13,7 +13,7 @@ change-requires-clause-sound c = history_sound c.args.kept.now c.requires.histor
 pub trace-requires-clause-places : goal.trace-requires-clause-places
 trace-requires-clause-places c =
     same_places c.args.kept.now c.change.new.kept c.args.prepared.entry c.change.ensures.rest
-    (places_there c.args.kept.now c.args.prepared.entry (history_sound c.args.kept.now c.requires.history) c.requires.follows c.requires.spare.sites c.requires.spare.copy)
+    (places_there c.args.kept.now c.args.prepared.entry (history_sound c.args.kept.now c.requires.history) c.requires.follows c.requires.spare.copy)
 
 pub lengthen-requires-clause-count : goal.lengthen-requires-clause-count
 lengthen-requires-clause-count c =

@@ -25,3 +25,17 @@ returns-in-Placed c =
     let k = c.args.kept.now in
     let P : Entry → Type 0 = λ e. Decides c.is_placed.result (Follows true k.config (point_kept k) e) in
     subst P (sym c.in-Placed.is) c.is_placed.ensures
+
+pub returns-in-Erased : goal.returns-in-Erased
+unfolding Follows
+returns-in-Erased c =
+    let k = c.args.kept.now in
+    let P : Entry → Type 0 = λ e. IfOk c.is_erasable.result (λ answer. Decides answer (Follows true k.config (point_kept k) e)) in
+    subst P (sym c.in-Erased.is) c.is_erasable.ensures
+
+pub returns-in-Retired : goal.returns-in-Retired
+unfolding Follows
+returns-in-Retired c =
+    let k = c.args.kept.now in
+    let P : Entry → Type 0 = λ e. IfOk c.is_erasable-in-Retired.result (λ answer. Decides answer (Follows true k.config (point_kept k) e)) in
+    subst P (sym c.in-Retired.is) c.is_erasable-in-Retired.ensures

@@ -1,6 +1,7 @@
-use Rattle.fdp_plain_judge.specs.Judging.{Leaves}
-use Rattle.fdp_plain_judge.proofs.Scanning.{EachBefore}
+use Rattle.std.proofs.Common.{◌<◌, ℕ}
+use Rattle.fdp_tables.specs.State.{point_kept}
+use Rattle.fdp_plain_judge.specs.Judging.{IsOutside}
 use Rattle.fdp_plain_judge.proofs.pages.is_empty.Given as goal
 
-abbrev pub invariant-loop-space : goal.invariant-loop-space
-invariant-loop-space l = EachBefore (Leaves l.kept l.unit) l.space-items l.space-index
+abbrev pub invariant-loop-nsid : goal.invariant-loop-nsid
+invariant-loop-nsid l = (nsid lba : ℕ) → nsid < l.nsid → IsOutside (point_kept l.kept) l.unit nsid lba

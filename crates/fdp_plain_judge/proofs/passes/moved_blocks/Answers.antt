@@ -1,4 +1,4 @@
-use Rattle.std.proofs.Common.{◌∙◌, List, [], ap, arith, flat_map, sym}
+use Rattle.std.proofs.Common.{◌∙◌, List, [], ap, arith, flat_map, subst, sym}
 use Rattle.fdp_base.specs.declared.entry.BlockName.{BlockName}
 use Rattle.fdp_base.specs.declared.entry.Spot.{Spot}
 use Rattle.fdp_rules.specs.Point.{Copy}
@@ -6,7 +6,11 @@ use Rattle.fdp_rules.specs.Sites.{blocks_at}
 use Rattle.fdp_tables.specs.Copies.{copy_of}
 use Rattle.fdp_tables.specs.State.{point_kept}
 use Rattle.fdp_tables.proofs.Collecting.{collecting_in_end, flat_map-map}
+use Rattle.fdp_plain_judge.specs.Passes.{AreInUnit}
 use Rattle.fdp_plain_judge.proofs.passes.moved_blocks.Goals as goal
+
+pub push_moved-requires : goal.push_moved-requires
+push_moved-requires c = subst (AreInUnit (point_kept c.args.kept.now) c.unit_of-unit.result 17) (sym c.deref.ensures.value) c.in_ok-standing.ensures
 
 pub returns : goal.returns
 returns c =

@@ -1,6 +1,0 @@
-use Rattle.fdp_rules.specs.Sites.{is_spot}
-use Rattle.fdp_tables.proofs.Walks.{IsSeekingCopy}
-use Rattle.fdp_tables.proofs.page_sites.moved.Given as goal
-
-abbrev pub invariant-loop-from : goal.invariant-loop-from
-invariant-loop-from l = IsSeekingCopy (λ x. is_spot x.from l.spot) l.pass l.from-index
