@@ -4,7 +4,7 @@ ghost use Rattle.fdp_plain_effects.specs.Clearing.{IsCleared};
 ghost use Rattle.fdp_rules.specs.Effect.{effect_of, is_in_ranges, without_blocks};
 ghost use Rattle.fdp_tables.specs.Spaces.{block_in};
 ghost use Rattle.fdp_tables.specs.State.{namespace_of, plain_of, row};
-ghost use Rattle.std.specs.Prelude.{◌≡◌, ℕ, ◌-◌, ◌<◌, ◌==◌, if◌then◌else◌, None, length, option_map};
+ghost use Rattle.std.specs.Prelude.{◌≡◌, ℕ, ◌-◌, ◌+◌, ◌<◌, ◌≤◌, ◌^◌, ◌==◌, if◌then◌else◌, None, length, option_map};
 
 use fdp_base::{Dealloc, Range};
 use fdp_tables::{Blocks, Kept, Space};
@@ -81,13 +81,55 @@ fn clear_space(space: &mut Option<Space>, ranges: &[Range])
     }
 }
 
-/// The blocks in these ranges become absent. It looks at these.
+/// The blocks in these ranges become absent. It looks at each of them once, however the ranges overlap.
 fn clear_blocks(blocks: &mut Blocks, ranges: &[Range])
     ensures size { length blocks.new ≡ length blocks.old }
     ensures rows { (lba : ℕ) → row blocks.new lba ≡ (if is_in_ranges ranges.now lba then None else row blocks.old lba) }
 {
+    let size = blocks.len() as u64;
+    let mut lba = 0;
+    while lba < size {
+        let stretch = stretch_from(ranges, lba);
+        if stretch.held {
+            clear_range(blocks, lba, stretch.end - lba);
+        }
+        lba = stretch.end;
+    }
+}
+
+/// Addresses up to an end, which ranges hold all, or none of which they hold.
+#[derive(Clone, Copy)]
+struct Stretch {
+    held: bool,
+    end: u64,
+}
+
+/// The addresses from one on: how far the ranges that hold it go, or how far it is to the next that begins. It looks at each range.
+fn stretch_from(ranges: &[Range], lba: u64) -> Stretch
+    requires { lba + 1 < 2 ^ 64 }
+    ensures goes_on { lba < result.end }
+    ensures alike { (k : ℕ) → lba ≤ k → k < result.end → is_in_ranges ranges.now k ≡ result.held }
+{
+    let mut held = lba;
+    let mut next = u64::MAX;
     for range in ranges {
-        clear_range(blocks, range.slba, u64::from(range.length));
+        if lba < range.slba {
+            next = next.min(range.slba);
+        } else if lba - range.slba < u64::from(range.length) {
+            let left = u64::from(range.length) - (lba - range.slba);
+            held = held.max(lba.saturating_add(left));
+        }
+    }
+    if lba < held {
+        Stretch {
+            held: true,
+            end: held,
+        }
+    } else {
+        Stretch {
+            held: false,
+            end: next,
+        }
     }
 }
 
