@@ -111,7 +111,7 @@ module _ {F : Type 0} (state : F → FlashState) (old new : Stage F) (rg : ℕ) 
       | inr some ↦ subst (λ (n : ℕ). old.keeper.firm ≤ n) (sym some.1.firm_is) (with answer)
     ]
       where
-        with : (z : Saved) → old.keeper.firm ≤ firm_with old.book.entries moved old.keeper.firm z
+        with : (z : Saved) → old.keeper.firm ≤ firm_with old.book.entries (moved ∷ []) old.keeper.firm z
         with savings.Done = let size = length-append old.book.entries (moved ∷ []) in omega (arith, was.safe.at.within, size)
         with (savings.Doubtful moment) = omega arith
         with (savings.Unsaved moment) = omega arith

@@ -21,7 +21,7 @@ use Rattle.fdp_relocation.specs.fdp_collector.declared.step.Step.{Step}
 use Rattle.fdp_relocation.specs.fdp_collector.declared.step.Step.TheVariants as steps
 use Rattle.fdp_core.specs.Sound.{IsKept}
 use Rattle.fdp_core.proofs.Sound.{begun}
-use Rattle.fdp_relocation.specs.fdp_durability.Saved.{SavesDrive, SavesEntry, SettlesDrive}
+use Rattle.fdp_relocation.specs.fdp_durability.Saved.{SavesDrive, SavesEntries, SettlesDrive}
 use Rattle.fdp_flash.specs.declared.answer.Wrote.{Wrote}
 use Rattle.fdp_flash.specs.declared.answer.Wrote.TheVariants as wrote
 use Rattle.fdp_flash.specs.declared.cell.Cell.{Cell}
@@ -233,7 +233,7 @@ kept-relocated handed f n b d rg step k order was longer may later safe = kept-o
 -- ---- savings
 
 -- behind an entry that was saved, and made
-saved-kept : (handed : Counts) (f n : FlashState) (b d : BookSeen) (es : List Entry) (e : Entry) (k l : KeeperSeen) (answer : Saved) → IsValidConfig b.config → IsKept handed f b k → handed.faults ≤ f.faults → IsLonger b d es → 1 ≤ count_by is_lasting es → 1 ≤ length es → SavesEntry b.config b.found b.entries e k.saver l.saver f n answer
+saved-kept : (handed : Counts) (f n : FlashState) (b d : BookSeen) (es : List Entry) (e : Entry) (k l : KeeperSeen) (answer : Saved) → IsValidConfig b.config → IsKept handed f b k → handed.faults ≤ f.faults → IsLonger b d es → 1 ≤ count_by is_lasting es → 1 ≤ length es → SavesEntries b.config b.found b.entries (e ∷ []) k.saver l.saver f n answer
     → IsKeeperOf d l → IsSafe d l.saver l.firm n → IsKept handed n d l
 saved-kept handed f n b d es e k l answer valid was low longer lasting some saves keeper safe =
     let size : length d.entries ≡ length b.entries + length es = ap length longer.entries_are ∙ length-append b.entries es in

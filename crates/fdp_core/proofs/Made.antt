@@ -109,7 +109,7 @@ module _ {F : Type 0} (state : F → FlashState) (x y : F) (handed : Counts) (b 
         kept-saved handed (state x) (state y) (begun b) d change k l answer order.known.config (ap (λ (x : Bool). not (not x)) applied) made (kept-begun handed (state x) b k whole.kept) (low-faults handed b (state x) whole.sound.ledger) ends.step
         (record { saves = keeps.saves; outline = keeps.outline; geometry = keeps.geometry; firm_is = keeps.firm_is }) safe
 
-    firm-up : (z : Saved) → k.firm ≤ firm_with b.entries change k.firm z
+    firm-up : (z : Saved) → k.firm ≤ firm_with b.entries (change ∷ []) k.firm z
     firm-up savings.Done = let size = length-append b.entries (change ∷ []) in omega (arith, whole.kept.safe.at.within, size)
     firm-up (savings.Doubtful moment) = omega arith
     firm-up (savings.Unsaved moment) = omega arith

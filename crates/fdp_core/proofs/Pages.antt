@@ -160,7 +160,7 @@ module _ {F : Type 0} (state : F → FlashState) (x m y : F) (handed : Counts) (
   pub shut-whole : IsSound handed (state m) d now → IsWhole handed (state y) d l now
   shut-whole so = record { sound = shut-sound so; kept = shut-kept }
 
-  firm-up : (z : Saved) → k.firm ≤ firm_with b.entries shut k.firm z
+  firm-up : (z : Saved) → k.firm ≤ firm_with b.entries (shut ∷ []) k.firm z
   firm-up savings.Done = let size = length-append b.entries (shut ∷ []) in omega (arith, whole.kept.safe.at.within, size)
   firm-up (savings.Doubtful at) = omega arith
   firm-up (savings.Unsaved at) = omega arith

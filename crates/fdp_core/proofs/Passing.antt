@@ -46,7 +46,7 @@ use Rattle.fdp_relocation.specs.fdp_saving.Calls.{FailAtEnd}
 use Rattle.fdp_loading.proofs.fdp_ledger.System.{AreBehindData, emptied-system}
 use Rattle.fdp_relocation.specs.fdp_locations.Stored.{HoldsWritten}
 use Rattle.fdp_relocation.specs.fdp_collector.declared.step.Lost.{Lost}
-use Rattle.fdp_relocation.specs.fdp_durability.Saved.{SavesDrive, SavesEntry, SettlesDrive}
+use Rattle.fdp_relocation.specs.fdp_durability.Saved.{SavesDrive, SavesEntries, SettlesDrive}
 use Rattle.fdp_relocation.specs.fdp_journal.JournalState.{JournalState}
 use Rattle.fdp_loading.specs.fdp_survival.Books.{IsSafe, KeepsApart}
 use Rattle.fdp_image.specs.Saving.{SameDataPages}
@@ -193,7 +193,7 @@ pub record IsPrefix (b : BookSeen) (old now : FlashState) (calls : List Call) : 
   pub stopped : IsTrue old.told → (m : ℕ) (image : List Cell) → old.moment < m → m ≤ now.moment → now.during m image → SameDataPages b.config old.cells image
 
 -- so are those of a saving
-pub saving-prefix : (b : BookSeen) (e : Entry) (s now : JournalState) (firm : ℕ) (f n : FlashState) (answer : Saved) → IsSafe b s firm f → (h : SavesEntry b.config b.found b.entries e s now f n answer) → IsPrefix b f n h.calls.calls
+pub saving-prefix : (b : BookSeen) (e : Entry) (s now : JournalState) (firm : ℕ) (f n : FlashState) (answer : Saved) → IsSafe b s firm f → (h : SavesEntries b.config b.found b.entries (e ∷ []) s now f n answer) → IsPrefix b f n h.calls.calls
 saving-prefix b e s now firm f n answer safe h = record { made = h.calls.made; behind = h.calls.system; programs = h.calls.programs; same = saving-same b.config b.found b.entries e b.pages.units s now firm f n answer safe.at h; stopped = saving-stopped b.config b.found b.entries e b.pages.units s now firm f n answer safe.at h }
 
 -- of a checkpoint

@@ -17,7 +17,7 @@ use Rattle.fdp_loading.proofs.fdp_ledger.Placed.{next-blank}
 use Rattle.fdp_relocation.specs.fdp_book.declared.ticket.Ticket.{Ticket}
 use Rattle.fdp_relocation.specs.fdp_book.Book.{BookSeen, IsLonger}
 use Rattle.fdp_relocation.specs.fdp_book.Tickets.{IsNextSpot}
-use Rattle.fdp_relocation.specs.fdp_durability.Saved.{SavesDrive, SavesEntry}
+use Rattle.fdp_relocation.specs.fdp_durability.Saved.{SavesDrive, SavesEntries}
 use Rattle.fdp_relocation.specs.fdp_journal.JournalState.{JournalState}
 use Rattle.fdp_relocation.specs.fdp_keeper.Keeper.{KeeperSeen}
 use Rattle.fdp_relocation.specs.fdp_saving.declared.saved.Saved.{Saved}
@@ -80,7 +80,7 @@ module _ (handed : Counts) (f n : FlashState) (b : BookSeen) (k : KeeperSeen) (b
       roomy-checkpoint b known (whole.sound.room.room began (early well)) k.saver k.firm b.pages.units (sym whole.kept.safe.at.cut) (never-doubt handed f b k whole.kept (early well)) f n whole.kept.safe.at.sealed whole.kept.safe.at.durable s answer saved
 
   -- an entry that is saved
-  pub leaves-saving : (e : Entry) (d : BookSeen) → IsKnown d → KeepsRoom handed.faults n.faults n.told d → n.told ≡ f.told → IsLonger b d (e ∷ []) → (s : JournalState) (answer : Saved) → SavesEntry b.config b.found b.entries e k.saver s f n answer → LeftRoomy handed f n b
+  pub leaves-saving : (e : Entry) (d : BookSeen) → IsKnown d → KeepsRoom handed.faults n.faults n.told d → n.told ≡ f.told → IsLonger b d (e ∷ []) → (s : JournalState) (answer : Saved) → SavesEntries b.config b.found b.entries (e ∷ []) k.saver s f n answer → LeftRoomy handed f n b
   leaves-saving e d then_known then_room told longer s answer saved began well =
       roomy-saving b known (whole.sound.room.room began (early well)) k.saver k.firm b.pages.units (sym whole.kept.safe.at.cut) (never-doubt handed f b k whole.kept (early well)) f n whole.kept.safe.at.sealed whole.kept.safe.at.durable
       e d then_known (then_room.room (began-later f.told n.told b d (e ∷ []) told longer began) well) longer s answer saved

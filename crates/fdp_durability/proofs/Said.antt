@@ -1,32 +1,29 @@
 -- What a saving leaves, by what the areas say: over cells alone.
 use Rattle.std.proofs.Common.{◌≡◌, ℕ, ◌+◌, ◌≤◌, Bool, true, false, IsTrue, List, [], ◌∷◌, ◌++◌, length, refl, sym, ◌∙◌, ap, subst, arith, length-append}
-use Rattle.std.specs.Prelude.{All}
+use Rattle.std.specs.Prelude.{◌&&◌, All}
 use Rattle.std.proofs.lemmas.List.Elements.{All-cons, All-nil}
 use Rattle.fdp_base.specs.declared.config.DriveConfig.{DriveConfig}
 use Rattle.fdp_base.specs.declared.entry.Entry.{Entry}
 use Rattle.fdp_durability.specs.Beginnings.{CanBeSaved}
 use Rattle.fdp_durability.specs.Durable.{IsDurable, SaysDrawn}
-use Rattle.fdp_durability.specs.Saved.{firm_renewed, firm_with, with_saved}
+use Rattle.fdp_durability.specs.Saved.{SavesAll, firm_renewed, firm_with, with_saved}
 use Rattle.fdp_durability.proofs.Beginnings.{Tells, firm-most, tells-all, tells-grown, tells-in, tells-less, among}
 use Rattle.fdp_flash.specs.declared.answer.Wrote.{Wrote}
 use Rattle.fdp_flash.specs.declared.answer.Wrote.TheVariants as wrote
 use Rattle.fdp_flash.specs.declared.cell.Cell.{Cell}
-use Rattle.fdp_image.specs.Applied.{applied}
+use Rattle.fdp_image.specs.Applied.{applied, with_changes}
 use Rattle.fdp_base.specs.declared.entry.Totals.{Totals}
 use Rattle.fdp_image.specs.Checkpoint.{reading_of_state}
-use Rattle.fdp_image.specs.Fits.{fits}
+use Rattle.fdp_image.specs.Fits.{all_fit, fits}
 use Rattle.fdp_image.specs.Reading.{Reading}
 use Rattle.fdp_image.specs.Saving.{SameDataPages}
 use Rattle.fdp_image.proofs.Fitting.{fits-forget}
 use Rattle.fdp_saving.specs.fdp_journal.JournalState.{JournalState}
-use Rattle.fdp_readings.specs.Changes.{Saves}
 use Rattle.fdp_readings.specs.Drawn.{drawn}
 use Rattle.fdp_readings.proofs.Saving.{forgets}
 use Rattle.fdp_records.specs.declared.change.Change.{Change}
 use Rattle.fdp_rules.specs.History.{Found, point_of}
-use Rattle.fdp_rules.specs.Next.{totals_with}
 use Rattle.fdp_rules.specs.Point.{Point}
-use Rattle.fdp_rules.proofs.Pushes.{point_of-push}
 use Rattle.fdp_saving.specs.declared.saved.Saved.{Saved}
 use Rattle.fdp_saving.specs.declared.saved.Saved.TheVariants as answers
 use Rattle.fdp_saving.specs.Said.{AreasSay, AreasSayOneOf}
@@ -119,78 +116,87 @@ module _ (c : DriveConfig) (f : Found) (es : List Entry) (firm : ℕ) (s : Journ
   renewal-durable true now new wrote.Failed sure is same saver says = failed-durable now new same saver (ap (λ (k : JournalState). k.in_doubt) is) says
   renewal-durable false now new wrote.Failed sure is same saver says = failed-durable now new same saver (ap (λ (k : JournalState). k.in_doubt) is) says
 
--- ---- a change that fits
+-- ---- changes that fit
 
--- a change that fits what the history draws fits that upon which it is saved
-pub base-fits : (c : DriveConfig) (p : Point) (s : JournalState) (own : Reading) (given : State) (x : Change × Totals) → reading_of_state given ≡ drawn c p → SaysDrawn c p s own → IsTrue (fits c (drawn c p) x) → IsTrue (fits c (base_of (needs_checkpoint s) own given) x)
-base-fits c p s own given x drive sure fit = of_base (needs_checkpoint s) (λ none. sure_of s none) where
-  of_base : (wanted : Bool) → (wanted ≡ false → s.in_doubt ≡ false) → IsTrue (fits c (base_of wanted own given) x)
-  of_base true none = subst (λ (r : Reading). IsTrue (fits c r x)) (sym drive) fit
-  of_base false none = subst (λ (r : Reading). IsTrue (fits c r x)) (sym (sure (none refl))) (subst IsTrue (sym (fits-forget c (drawn c p) own.totals x)) fit)
+-- what is said with some changes, at least one, does not depend on the totals of what was said before
+pub forgets-all : (c : DriveConfig) (r : Reading) (totals : Totals) (first : Change × Totals) (rest : List (Change × Totals)) → with_changes c (record r { totals = totals }) (first ∷ rest) ≡ with_changes c r (first ∷ rest)
+forgets-all c r totals first rest = ap (λ (x : Reading). with_changes c x rest) (forgets c r totals first)
 
--- ---- an entry
+-- nor whether they fit
+fit-forget-all : (c : DriveConfig) (r : Reading) (totals : Totals) (first : Change × Totals) (rest : List (Change × Totals)) → all_fit fits c (record r { totals = totals }) (first ∷ rest) ≡ all_fit fits c r (first ∷ rest)
+unfolding all_fit
+fit-forget-all c r totals first rest =
+    ap (λ (b : Bool). b && all_fit fits c (applied c (record r { totals = totals }) first) rest) (fits-forget c r totals first)
+    ∙ ap (λ (x : Reading). fits c r first && all_fit fits c x rest) (forgets c r totals first)
 
-module _ (c : DriveConfig) (f : Found) (es : List Entry) (e : Entry) (firm : ℕ) (s : JournalState) (t : UnitTable) (old : List Cell) (given : State) (change : Change) (drive : reading_of_state given ≡ drawn c (point_of c f es))
-    (saves : Saves c (point_of c f es) change e) (h : IsDurable c f es firm s t old) (can : CanBeSaved c (point_of c f es) t old) (can_then : CanBeSaved c (point_of c f (es ++ e ∷ [])) t old) where
-  abbrev before : Point
-  before = point_of c f es
+-- changes that fit what the history draws fit that upon which they are saved
+pub base-fits : (c : DriveConfig) (p : Point) (s : JournalState) (own : Reading) (given : State) (first : Change × Totals) (rest : List (Change × Totals)) → reading_of_state given ≡ drawn c p → SaysDrawn c p s own
+    → IsTrue (all_fit fits c (drawn c p) (first ∷ rest)) → IsTrue (all_fit fits c (base_of (needs_checkpoint s) own given) (first ∷ rest))
+base-fits c p s own given first rest drive sure fit = of_base (needs_checkpoint s) (λ none. sure_of s none) where
+  of_base : (wanted : Bool) → (wanted ≡ false → s.in_doubt ≡ false) → IsTrue (all_fit fits c (base_of wanted own given) (first ∷ rest))
+  of_base true none = subst (λ (r : Reading). IsTrue (all_fit fits c r (first ∷ rest))) (sym drive) fit
+  of_base false none = subst (λ (r : Reading). IsTrue (all_fit fits c r (first ∷ rest))) (sym (sure (none refl))) (subst IsTrue (sym (fit-forget-all c (drawn c p) own.totals first rest)) fit)
 
+-- with the changes of some entries, what is said then is what is drawn behind them
+pub base-saved : (c : DriveConfig) (f : Found) (es added : List Entry) (s : JournalState) (own : Reading) (given : State) (first : Change × Totals) (rest : List (Change × Totals)) → reading_of_state given ≡ drawn c (point_of c f es)
+    → SaysDrawn c (point_of c f es) s own → SavesAll c f es added (first ∷ rest) → with_changes c (base_of (needs_checkpoint s) own given) (first ∷ rest) ≡ drawn c (point_of c f (es ++ added))
+base-saved c f es added s own given first rest drive sure saves = of_base (needs_checkpoint s) (λ none. sure_of s none) where
+  of_base : (wanted : Bool) → (wanted ≡ false → s.in_doubt ≡ false) → with_changes c (base_of wanted own given) (first ∷ rest) ≡ drawn c (point_of c f (es ++ added))
+  of_base true none = ap (λ (r : Reading). with_changes c r (first ∷ rest)) drive ∙ saves
+  of_base false none = ap (λ (r : Reading). with_changes c r (first ∷ rest)) (sure (none refl)) ∙ forgets-all c (drawn c (point_of c f es)) own.totals first rest ∙ saves
+
+-- ---- entries
+
+module _ (c : DriveConfig) (f : Found) (es added : List Entry) (firm : ℕ) (s : JournalState) (t : UnitTable) (old : List Cell) (given : State) (first : Change × Totals) (rest : List (Change × Totals)) (drive : reading_of_state given ≡ drawn c (point_of c f es))
+    (saves : SavesAll c f es added (first ∷ rest)) (h : IsDurable c f es firm s t old) (can : CanBeSaved c (point_of c f es) t old) (can_then : CanBeSaved c (point_of c f (es ++ added)) t old) where
   abbrev then' : List Entry
-  then' = es ++ e ∷ []
+  then' = es ++ added
 
-  -- with the change what is said before the entry is what is drawn after it
-  from-drawn : applied c (drawn c before) (change, totals_with before.totals e) ≡ drawn c (point_of c f then')
-  from-drawn = saves ∙ ap (drawn c) (sym (point_of-push c f es e))
+  abbrev told : List (Change × Totals)
+  told = first ∷ rest
 
-  from-base : (wanted : Bool) → (wanted ≡ false → s.in_doubt ≡ false) → applied c (base_of wanted h.own given) (change, totals_with before.totals e) ≡ drawn c (point_of c f then')
-  from-base true sure = ap (λ (r : Reading). applied c r (change, totals_with before.totals e)) drive ∙ from-drawn
-  from-base false sure =
-      ap (λ (r : Reading). applied c r (change, totals_with before.totals e)) (h.sure (sure refl))
-      ∙ forgets c (drawn c before) h.own.totals (change, totals_with before.totals e)
-      ∙ from-drawn
-
-  base-says : applied c (base_of (needs_checkpoint s) h.own given) (change, totals_with before.totals e) ≡ drawn c (point_of c f then')
-  base-says = from-base (needs_checkpoint s) (λ none. sure_of s none)
+  base-says : with_changes c (base_of (needs_checkpoint s) h.own given) told ≡ drawn c (point_of c f then')
+  base-says = base-saved c f es added s h.own given first rest drive h.sure saves
 
   grows : (r : Reading) → Tells c f es firm t old r → Tells c f then' firm t old r
-  grows r tells = tells-grown c f es (e ∷ []) firm t old r tells
+  grows r tells = tells-grown c f es added firm t old r tells
 
   more : firm ≤ length then'
   more =
       let least = firm-most c f es firm old h.own h.own_says in
-      let size : length then' ≡ length es + 1 = length-append es (e ∷ []) in
+      let size : length then' ≡ length es + length added = length-append es added in
       omega (arith, least, size)
 
-  tells-with : Tells c f then' firm t old (applied c (base_of (needs_checkpoint s) h.own given) (change, totals_with before.totals e))
+  tells-with : Tells c f then' firm t old (with_changes c (base_of (needs_checkpoint s) h.own given) told)
   tells-with = subst (Tells c f then' firm t old) (sym base-says) (tells-less c f then' (length then') firm t old (drawn c (point_of c f then')) more (tells-all c f then' t old can_then))
 
   tells-without : Tells c f then' firm t old (base_of (needs_checkpoint s) h.own given)
   tells-without = grows (base_of (needs_checkpoint s) h.own given) (tells-base c f es firm s t old given drive h can (needs_checkpoint s))
 
-  appended : All (Tells c f then' firm t old) (base_of (needs_checkpoint s) h.own given ∷ applied c (base_of (needs_checkpoint s) h.own given) (change, totals_with before.totals e) ∷ [])
+  appended : All (Tells c f then' firm t old) (base_of (needs_checkpoint s) h.own given ∷ with_changes c (base_of (needs_checkpoint s) h.own given) told ∷ [])
   appended =
       let P : Reading → Type 0 = Tells c f then' firm t old in
       let base = base_of (needs_checkpoint s) h.own given in
-      let with = applied c base (change, totals_with before.totals e) in
+      let with = with_changes c base told in
       All-cons P base (with ∷ []) tells-without (All-cons P with [] tells-with (All-nil P))
 
-  all-tell : All (Tells c f then' firm t old) (h.own ∷ h.tried ∷ base_of (needs_checkpoint s) h.own given ∷ applied c (base_of (needs_checkpoint s) h.own given) (change, totals_with before.totals e) ∷ [])
+  all-tell : All (Tells c f then' firm t old) (h.own ∷ h.tried ∷ base_of (needs_checkpoint s) h.own given ∷ with_changes c (base_of (needs_checkpoint s) h.own given) told ∷ [])
   all-tell =
       let P : Reading → Type 0 = Tells c f then' firm t old in
       let base = base_of (needs_checkpoint s) h.own given in
-      let with = applied c base (change, totals_with before.totals e) in
+      let with = with_changes c base told in
       All-cons P h.own (h.tried ∷ base ∷ with ∷ []) (grows h.own (tells-own c f es firm s t old h))
       (All-cons P h.tried (base ∷ with ∷ []) (grows h.tried (tells-tried c f es firm s t old h)) appended)
 
   -- what may be read within it, by the answer
-  pub saving-tells : (answer : Saved) → All (Tells c f (with_saved es e answer) firm t old) (within_saved c (needs_checkpoint s) h.own h.tried given (change, totals_with before.totals e) answer)
+  pub saving-tells : (answer : Saved) → All (Tells c f (with_saved es added answer) firm t old) (within_saved c (needs_checkpoint s) h.own h.tried given told answer)
   saving-tells answers.Done = all-tell
   saving-tells (answers.Doubtful moment) = all-tell
   saving-tells (answers.Unsaved moment) = renewal-tells c f es firm s t old given drive h can true
 
   -- what the areas say after it, by the answer
   pub saving-durable : (now : JournalState) (new : List Cell) (answer : Saved) → now ≡ after_saving s given.summary answer → SameDataPages c old new → IsSaverIn new now
-      → SayAfterSaving c now new h.own h.tried given (base_of (needs_checkpoint s) h.own given) (change, totals_with before.totals e) answer → IsDurable c f (with_saved es e answer) (firm_with es e firm answer) now t new
+      → SayAfterSaving c now new h.own h.tried given (base_of (needs_checkpoint s) h.own given) told answer → IsDurable c f (with_saved es added answer) (firm_with es added firm answer) now t new
   saving-durable now new answers.Done is same saver says = both-drawn c f then' now t old new _ same saver base-says can_then says
   saving-durable now new (answers.Doubtful moment) is same saver says = one-said c f then' firm now t old new _ _ same saver (ap (λ (k : JournalState). k.in_doubt) is) appended appended says
   saving-durable now new (answers.Unsaved moment) is same saver says = failed-durable c f es firm s t old given drive h can now new same saver (ap (λ (k : JournalState). k.in_doubt) is) says

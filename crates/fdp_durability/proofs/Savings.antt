@@ -5,7 +5,7 @@ use Rattle.fdp_base.specs.declared.config.DriveConfig.{DriveConfig}
 use Rattle.fdp_base.specs.declared.entry.Entry.{Entry}
 use Rattle.fdp_durability.specs.Beginnings.{CanBeSaved}
 use Rattle.fdp_durability.specs.Durable.{IsDurable, SaysDrawn}
-use Rattle.fdp_durability.specs.Saved.{SavesDrive, SavesEntry, SettlesDrive, firm_renewed, firm_with, with_saved}
+use Rattle.fdp_durability.specs.Saved.{SavesDrive, SavesEntries, SettlesDrive, firm_renewed, firm_with, with_saved}
 use Rattle.fdp_durability.proofs.Beginnings.{image-stands, stands-grown, stands-less}
 use Rattle.fdp_durability.proofs.Durable.{durable-stands}
 use Rattle.fdp_durability.proofs.Owed.{run-kept}
@@ -22,7 +22,6 @@ use Rattle.fdp_image.specs.Reading.{Reading}
 use Rattle.fdp_saving.specs.fdp_journal.JournalState.{JournalState}
 use Rattle.fdp_readings.specs.Drawn.{drawn}
 use Rattle.fdp_rules.specs.History.{Found, point_of}
-use Rattle.fdp_rules.specs.Next.{totals_with}
 use Rattle.fdp_saving.specs.declared.saved.Saved.{Saved}
 use Rattle.fdp_saving.specs.declared.saved.Saved.TheVariants as answers
 use Rattle.fdp_saving.specs.Said.{AreasSay, ReadsAsOneOf}
@@ -63,35 +62,35 @@ stop-safe c f es more firm now_firm s t old new firmed none held durable = recor
   cells = λ told. durable-stands c f (es ++ more) now_firm s t new.cells (durable told);
 }
 
--- ---- an entry is saved
+-- ---- entries are saved
 
-module _ (c : DriveConfig) (f : Found) (es : List Entry) (e : Entry) (firm : ℕ) (s now : JournalState) (t : UnitTable) (old new : FlashState) (answer : Saved) (saved : SavesEntry c f es e s now old new answer)
-    (durable : IsTrue old.told → IsDurable c f es firm s t old.cells) (can : IsTrue old.told → CanBeSaved c (point_of c f es) t old.cells) (can_then : IsTrue old.told → CanBeSaved c (point_of c f (es ++ e ∷ [])) t old.cells) where
+module _ (c : DriveConfig) (f : Found) (es added : List Entry) (firm : ℕ) (s now : JournalState) (t : UnitTable) (old new : FlashState) (answer : Saved) (saved : SavesEntries c f es added s now old new answer)
+    (durable : IsTrue old.told → IsDurable c f es firm s t old.cells) (can : IsTrue old.told → CanBeSaved c (point_of c f es) t old.cells) (can_then : IsTrue old.told → CanBeSaved c (point_of c f (es ++ added)) t old.cells) where
   abbrev may_read : Reading → Reading → List Reading
-  may_read own tried = within_saved c (needs_checkpoint s) own tried saved.given (saved.change, totals_with (point_of c f es).totals e) answer
+  may_read own tried = within_saved c (needs_checkpoint s) own tried saved.given (saved.first ∷ saved.rest) answer
 
   -- each image of the saving stands for a beginning of the history behind it that holds all that was firm
-  pub saving-holds : Holds (StandsForBeginning c f (with_saved es e answer) firm) old new
+  pub saving-holds : Holds (StandsForBeginning c f (with_saved es added answer) firm) old new
   saving-holds =
-      (elim old.told as (λ b. old.told ≡ b → Holds (StandsForBeginning c f (with_saved es e answer) firm) old new) [
+      (elim old.told as (λ b. old.told ≡ b → Holds (StandsForBeginning c f (with_saved es added answer) firm) old new) [
         | true ↦ λ told.
             (let h = durable told in
-            stands-over c f (with_saved es e answer) firm old new may_read h.own h.tried (saved.stops h.own h.tried (λ again. h.say) (λ again. h.sure))
+            stands-over c f (with_saved es added answer) firm old new may_read h.own h.tried (saved.stops h.own h.tried (λ again. h.say) (λ again. h.sure))
             (λ again image reads.
-            image-stands c f (with_saved es e answer) firm t old.cells image (may_read h.own h.tried)
-            (saving-tells c f es e firm s t old.cells saved.given saved.change saved.drive saved.saves h (can told) (can_then told) answer) reads))
+            image-stands c f (with_saved es added answer) firm t old.cells image (may_read h.own h.tried)
+            (saving-tells c f es added firm s t old.cells saved.given saved.first saved.rest saved.drive saved.saves h (can told) (can_then told) answer) reads))
         | false ↦ λ untold.
             (let r = drawn c (point_of c f es) in
             let never : IsTrue old.told → ⊥ = λ told. (let bad : false ≡ true = sym untold ∙ told in absurd cc) in
-            stands-over c f (with_saved es e answer) firm old new may_read r r (saved.stops r r (λ told. absurd (never told)) (λ told. absurd (never told))) (λ told image reads. absurd (never told)))
+            stands-over c f (with_saved es added answer) firm old new may_read r r (saved.stops r r (λ told. absurd (never told)) (λ told. absurd (never told))) (λ told image reads. absurd (never told)))
       ]) refl
 
-  -- and then all of it is durable, firm with the entry where it is done
-  pub saving-done : IsTrue old.told → IsDurable c f (with_saved es e answer) (firm_with es e firm answer) now t new.cells
+  -- and then all of it is durable, firm with the entries where it is done
+  pub saving-done : IsTrue old.told → IsDurable c f (with_saved es added answer) (firm_with es added firm answer) now t new.cells
   saving-done told =
       let h = durable told in
       let same = ((saved.stops h.own h.tried (λ again. h.say) (λ again. h.sure)).cells told).data_pages_same in
-      saving-durable c f es e firm s t old.cells saved.given saved.change saved.drive saved.saves h (can told) (can_then told) now new.cells answer saved.saver_is same (saved.stands told)
+      saving-durable c f es added firm s t old.cells saved.given saved.first saved.rest saved.drive saved.saves h (can told) (can_then told) now new.cells answer saved.saver_is same (saved.stands told)
       (saved.said h.own h.tried told h.say h.sure)
 
 -- ---- the drive is saved whole
@@ -132,8 +131,8 @@ module _ (c : DriveConfig) (f : Found) (es : List Entry) (firm : ℕ) (wanted : 
       renewal-durable c f es firm s t old.cells saved.given saved.drive h (can told) wanted now new.cells answer saved.sure saved.saver_is same (saved.stands told) (saved.said h.own h.tried told h.say h.sure)
 
 -- a saving without a record is a checkpoint that failed
-by-unsaved : (c : DriveConfig) (f : Found) (es : List Entry) (e : Entry) (s now : JournalState) (old new : FlashState) (moment : ℕ) → SavesEntry c f es e s now old new (answers.Unsaved moment) → Renews c f es true s now old new wrote.Failed
-by-unsaved c f es e s now old new moment p = record {
+by-unsaved : (c : DriveConfig) (f : Found) (es added : List Entry) (s now : JournalState) (old new : FlashState) (moment : ℕ) → SavesEntries c f es added s now old new (answers.Unsaved moment) → Renews c f es true s now old new wrote.Failed
+by-unsaved c f es added s now old new moment p = record {
   given = p.given;
   drive = p.drive;
   sure = λ wrong. absurd cc;
@@ -192,13 +191,13 @@ module _ (c : DriveConfig) (f : Found) (es : List Entry) (firm : ℕ) (s now : J
   pub settling-done : SettlesDrive c f es s now old new answer → IsTrue old.told → IsDurable c f es (firm_renewed s.in_doubt es firm answer) now t new.cells
   settling-done p told = renewal-done c f es firm s.in_doubt s now t old new answer (by-doubt c f es s now old new answer p) durable can told
 
--- ---- an entry that was not saved
+-- ---- entries that were not saved
 
-module _ (c : DriveConfig) (f : Found) (es : List Entry) (e : Entry) (firm : ℕ) (s now : JournalState) (t : UnitTable) (old new : FlashState) (moment : ℕ) (durable : IsTrue old.told → IsDurable c f es firm s t old.cells)
-    (can : IsTrue old.told → CanBeSaved c (point_of c f es) t old.cells) (saved : SavesEntry c f es e s now old new (answers.Unsaved moment)) where
-  -- each image stands for a beginning of the history without it
+module _ (c : DriveConfig) (f : Found) (es added : List Entry) (firm : ℕ) (s now : JournalState) (t : UnitTable) (old new : FlashState) (moment : ℕ) (durable : IsTrue old.told → IsDurable c f es firm s t old.cells)
+    (can : IsTrue old.told → CanBeSaved c (point_of c f es) t old.cells) (saved : SavesEntries c f es added s now old new (answers.Unsaved moment)) where
+  -- each image stands for a beginning of the history without them
   pub unsaved-holds : Holds (StandsForBeginning c f es firm) old new
-  unsaved-holds = renewal-holds c f es firm true s now t old new wrote.Failed (by-unsaved c f es e s now old new moment saved) durable can
+  unsaved-holds = renewal-holds c f es firm true s now t old new wrote.Failed (by-unsaved c f es added s now old new moment saved) durable can
 
   pub unsaved-done : IsTrue old.told → IsDurable c f es firm now t new.cells
-  unsaved-done told = renewal-done c f es firm true s now t old new wrote.Failed (by-unsaved c f es e s now old new moment saved) durable can told
+  unsaved-done told = renewal-done c f es firm true s now t old new wrote.Failed (by-unsaved c f es added s now old new moment saved) durable can told

@@ -1,5 +1,5 @@
 -- Changes that fit one after another, and what an area says that is sound.
-use Rattle.std.proofs.Common.{◌≡◌, ℕ, Bool, true, false, List, [], ◌∷◌, ◌++◌, Option, Some, None, refl, sym, ap, ◌∙◌}
+use Rattle.std.proofs.Common.{◌≡◌, ℕ, Bool, true, false, List, [], ◌∷◌, ◌++◌, Option, Some, None, refl, ap, ◌∙◌}
 use Rattle.std.specs.Prelude.{◌&&◌, IsTrue, fold, if◌then◌else◌, is_some, not}
 use Rattle.std.specs.List.{concat}
 use Rattle.std.specs.Option.{option_and_then}
@@ -30,13 +30,33 @@ pub second-true : (a b : Bool) → IsTrue (a && b) → IsTrue b
 second-true true b p = p
 second-true false b p = cc
 
--- one change more that fits
-pub all_fit-push : (fits : Fitting) (c : DriveConfig) (r : Reading) (xs : List (Change × Totals)) (x : Change × Totals) → IsTrue (all_fit fits c r xs)
-    → IsTrue (fits c (fold (applied c) r xs) x) → IsTrue (all_fit fits c r (xs ++ x ∷ []))
+-- changes that fit, and then others that fit what is said with them
+pub all_fit-append : (fits : Fitting) (c : DriveConfig) (r : Reading) (xs ys : List (Change × Totals)) → IsTrue (all_fit fits c r xs)
+    → IsTrue (all_fit fits c (fold (applied c) r xs) ys) → IsTrue (all_fit fits c r (xs ++ ys))
 unfolding all_fit
-all_fit-push fits c r [] x all one = both-true (fits c r x) true one refl
-all_fit-push fits c r (y ∷ ys) x all one =
-    both-true (fits c r y) _ (first-true (fits c r y) _ all) (all_fit-push fits c (applied c r y) ys x (second-true (fits c r y) _ all) one)
+all_fit-append fits c r [] ys all more = more
+all_fit-append fits c r (x ∷ xs) ys all more =
+    both-true (fits c r x) _ (first-true (fits c r x) _ all) (all_fit-append fits c (applied c r x) xs ys (second-true (fits c r x) _ all) more)
+
+-- and back
+pub all_fit-first : (fits : Fitting) (c : DriveConfig) (r : Reading) (xs ys : List (Change × Totals)) → IsTrue (all_fit fits c r (xs ++ ys)) → IsTrue (all_fit fits c r xs)
+unfolding all_fit
+all_fit-first fits c r [] ys all = refl
+all_fit-first fits c r (x ∷ xs) ys all = both-true (fits c r x) _ (first-true (fits c r x) _ all) (all_fit-first fits c (applied c r x) xs ys (second-true (fits c r x) _ all))
+
+pub all_fit-rest : (fits : Fitting) (c : DriveConfig) (r : Reading) (xs ys : List (Change × Totals)) → IsTrue (all_fit fits c r (xs ++ ys)) → IsTrue (all_fit fits c (fold (applied c) r xs) ys)
+unfolding all_fit
+all_fit-rest fits c r [] ys all = all
+all_fit-rest fits c r (x ∷ xs) ys all = all_fit-rest fits c (applied c r x) xs ys (second-true (fits c r x) _ all)
+
+-- one change
+pub fit_one : (fits : Fitting) (c : DriveConfig) (r : Reading) (x : Change × Totals) → IsTrue (fits c r x) → IsTrue (all_fit fits c r (x ∷ []))
+unfolding all_fit
+fit_one fits c r x one = both-true (fits c r x) true one refl
+
+pub unfit_one : (fits : Fitting) (c : DriveConfig) (r : Reading) (x : Change × Totals) → fits c r x ≡ false → all_fit fits c r (x ∷ []) ≡ false
+unfolding all_fit
+unfit_one fits c r x none = ap (λ (b : Bool). b && true) none
 
 -- whether a change fits does not depend on the totals of what is said
 names-forget : (c : DriveConfig) (r : Reading) (totals : Totals) (change : Change) → names_what_is c (record r { totals = totals }) change ≡ names_what_is c r change

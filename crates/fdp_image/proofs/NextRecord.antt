@@ -1,10 +1,12 @@
 -- What the programming of the next page of the journal may leave of what an image reads as.
 use Rattle.std.proofs.Common.{◌≡◌, ℕ, zero, suc, ◌+◌, ◌<◌, ◌≤◌, ◌⊎◌, Bool, true, false, List, [], ◌∷◌, ◌++◌, length, set, drop, take, Option, Some, None, refl, sym, ap, subst, ◌∙◌, arith, inl, inr, ⊎_elim}
-use Rattle.std.specs.Prelude.{IsTrue, fold, if◌then◌else◌, map, nat_lt, option_map, slice_get}
+use Rattle.std.specs.Prelude.{IsTrue, if◌then◌else◌, nat_lt, option_map, slice_get}
 use Rattle.std.proofs.lemmas.Bool.{cases_Bool}
-use Rattle.std.proofs.lemmas.List.{drop-set-add, drop-set-lt, length-append, length-drop, length-set, length-take-le, take-set-le}
+use Rattle.std.proofs.lemmas.List.{append-nil, append_assoc, drop-set-add, drop-set-lt, length-append, length-drop, length-set, length-take-le, take-set-le}
+use Rattle.std.proofs.lemmas.List.Sums.{fold-append}
 use Rattle.std.proofs.lemmas.Slice.Eq.{bytes_eq-Decides}
 use Rattle.std.specs.List.{concat}
+use Rattle.std.specs.Option.{option_and_then}
 use Rattle.fdp_base.specs.declared.config.DriveConfig.{DriveConfig}
 use Rattle.fdp_base.specs.declared.config.Geometry.{Geometry}
 use Rattle.fdp_base.specs.declared.entry.Spot.{Spot}
@@ -16,19 +18,18 @@ use Rattle.fdp_flash.specs.declared.cell.Cell.TheVariants.{Blank, Torn, Whole}
 use Rattle.fdp_flash.specs.Cells.{IsProgrammed, ProgramMayLeave}
 use Rattle.fdp_flash.specs.Layout.{first_page, page_number}
 use Rattle.fdp_records.specs.declared.change.Change.{Change}
-use Rattle.fdp_records.specs.declared.change.Change.TheVariants as changes
 use Rattle.fdp_records.specs.declared.spare.Stamp.{Stamp}
 use Rattle.fdp_records.specs.declared.spare.SystemKind.TheVariants.{Journal}
 use Rattle.fdp_records.specs.Reading.{decoded}
 use Rattle.fdp_records.specs.Spares.{system_spare}
-use Rattle.fdp_image.specs.Applied.{applied}
+use Rattle.fdp_image.specs.Applied.{applied, with_changes}
 use Rattle.fdp_image.specs.Areas.{Sealed, area_of, area_unit, current_area, data_pages, later_of, page_bytes, sealed_in}
 use Rattle.fdp_image.specs.Checkpoint.{said_by_checkpoint}
-use Rattle.fdp_image.specs.Fits.{fits}
+use Rattle.fdp_image.specs.Fits.{all_fit, fits}
 use Rattle.fdp_image.specs.Reading.{Reading}
-use Rattle.fdp_image.specs.Reads.{all_of, changes_in, extent, is_checkpoint_of, is_sound_checkpoint, next_page, reads_as, said_by_area, said_by_current}
-use Rattle.fdp_image.specs.Saving.{AreBlankFrom, CanGoOn, IsCurrent, IsNextRecord, IsSavedIn, ReadsWithOrWithout}
-use Rattle.fdp_image.proofs.Fitting.{all_fit-push, said_by-made, said_by-parts}
+use Rattle.fdp_image.specs.Reads.{changes_in, is_checkpoint_of, is_sound_checkpoint, next_page, reads_as, said_by_area, said_by_current, told_by}
+use Rattle.fdp_image.specs.Saving.{CanGoOn, IsCurrent, IsNextRecord, IsSavedIn, ReadsWithOrWithout}
+use Rattle.fdp_image.proofs.Fitting.{all_fit-append, said_by-made, said_by-parts}
 use Rattle.fdp_image.proofs.Journaling.{journal_grows, journal_stays, slice_get-set_other}
 
 -- ---- the areas
@@ -142,27 +143,35 @@ which (Some x) (Some y) n s e = ⊎_elim later earlier (cases_Bool (nat_lt x.sta
 
 -- ---- what the current area says
 
-pub fold-push : {X Y : Type 0} (f : X → Y → X) (a : X) (ys : List Y) (y : Y) → fold f a (ys ++ y ∷ []) ≡ f (fold f a ys) y
-fold-push f a [] y = refl
-fold-push f a (z ∷ zs) y = fold-push f (f a z) zs y
+-- a page of one change tells it alone
+pub told_one : (bytes : List ℕ) (x : Change × Totals) → decoded bytes ≡ Some x → told_by bytes ≡ Some (x ∷ [])
+unfolding told_by
+told_one bytes x e = ap (option_map (λ (y : Change × Totals). y ∷ [])) e
 
-pub all-push : {X : Type 0} (os : List (Option X)) (xs : List X) (x : X) → all_of os ≡ Some xs → all_of (os ++ Some x ∷ []) ≡ Some (xs ++ x ∷ [])
-unfolding all_of
-all-push {X} [] xs x e =
-    let none : [] ≡ xs = cc in
-    ap (λ (ys : List X). Some (ys ++ x ∷ [])) none
-all-push (None ∷ os) xs x e = absurd cc
-all-push {X} (Some y ∷ os) xs x e = of_rest (all_of os) refl (λ ys is. all-push os ys x is) where
-  of_rest : (r : Option (List X)) → all_of os ≡ r → ((ys : List X) → all_of os ≡ Some ys → all_of (os ++ Some x ∷ []) ≡ Some (ys ++ x ∷ [])) → all_of (Some y ∷ (os ++ Some x ∷ [])) ≡ Some (xs ++ x ∷ [])
-  of_rest None is pushed = let bad : None ≡ Some xs = sym (ap (option_map (λ (ys : List X). y ∷ ys)) is) ∙ e in absurd cc
-  of_rest (Some ys) is pushed =
-      let whole : Some (y ∷ ys) ≡ Some xs = sym (ap (option_map (λ (zs : List X). y ∷ zs)) is) ∙ e in
-      let same : y ∷ ys ≡ xs = cc in
-      ap (option_map (λ (zs : List X). y ∷ zs)) (pushed ys is) ∙ ap (λ (zs : List X). Some (zs ++ x ∷ [])) same
+pub told_none : (bytes : List ℕ) → decoded bytes ≡ None → told_by bytes ≡ None
+unfolding told_by
+told_none bytes e = ap (option_map (λ (y : Change × Totals). y ∷ [])) e
 
-pub map-push : (pages : List (List ℕ)) (page : List ℕ) → map decoded (pages ++ page ∷ []) ≡ map decoded pages ++ decoded page ∷ []
-map-push [] page = refl
-map-push (p ∷ ps) page = ap (λ (xs : List (Option (Change × Totals))). decoded p ∷ xs) (map-push ps page)
+-- a journal with a page more tells what it told, and then what the page tells
+pub told-push : (pages : List (List ℕ)) (page : List ℕ) (changes more : List (Change × Totals)) → changes_in pages ≡ Some changes → told_by page ≡ Some more → changes_in (pages ++ page ∷ []) ≡ Some (changes ++ more)
+unfolding changes_in
+told-push [] page changes more told one =
+    let none : [] ≡ changes = cc in
+    ap (option_and_then (λ (xs : List (Change × Totals)). Some (xs ++ []))) one ∙ ap Some (append-nil more) ∙ ap (λ (xs : List (Change × Totals)). Some (xs ++ more)) none
+told-push (first ∷ pages) page changes more told one = of_first (told_by first) refl told (λ rest is. told-push pages page rest more is one) where
+  of_rest : (xs : List (Change × Totals)) → told_by first ≡ Some xs → (o : Option (List (Change × Totals))) → changes_in pages ≡ o → option_map (λ ys. xs ++ ys) o ≡ Some changes
+      → ((rest : List (Change × Totals)) → changes_in pages ≡ Some rest → changes_in (pages ++ page ∷ []) ≡ Some (rest ++ more)) → changes_in (first ∷ (pages ++ page ∷ [])) ≡ Some (changes ++ more)
+  of_rest xs first_is None is h again = absurd cc
+  of_rest xs first_is (Some rest) is h again =
+      let whole : xs ++ rest ≡ changes = cc in
+      ap (option_and_then (λ (ys : List (Change × Totals)). option_map (λ (zs : List (Change × Totals)). ys ++ zs) (changes_in (pages ++ page ∷ [])))) first_is
+      ∙ ap (option_map (λ (zs : List (Change × Totals)). xs ++ zs)) (again rest is)
+      ∙ ap Some (sym (append_assoc xs rest more) ∙ ap (λ (ys : List (Change × Totals)). ys ++ more) whole)
+
+  of_first : (o : Option (List (Change × Totals))) → told_by first ≡ o → option_and_then (λ xs. option_map (λ ys. xs ++ ys) (changes_in pages)) o ≡ Some changes
+      → ((rest : List (Change × Totals)) → changes_in pages ≡ Some rest → changes_in (pages ++ page ∷ []) ≡ Some (rest ++ more)) → changes_in (first ∷ (pages ++ page ∷ [])) ≡ Some (changes ++ more)
+  of_first None is h again = absurd cc
+  of_first (Some xs) is h again = of_rest xs is (changes_in pages) refl h again
 
 abbrev first_of : Sealed → Reading
 first_of s = said_by_checkpoint (concat s.checkpoint)
@@ -170,38 +179,24 @@ first_of s = said_by_checkpoint (concat s.checkpoint)
 abbrev with_page : Sealed → List ℕ → Sealed
 with_page s bytes = record s { journal = s.journal ++ bytes ∷ [] }
 
--- an area says with a record more, which fits what it said, that with the change
-said_with : (c : DriveConfig) (s : Sealed) (r : Reading) (bytes : List ℕ) (x : Change × Totals) → said_by_area c s ≡ Some r → IsTrue (fits c r x) → decoded bytes ≡ Some x
-    → said_by_area c (with_page s bytes) ≡ Some (applied c r x)
-unfolding changes_in is_sound_checkpoint is_checkpoint_of
-said_with c s r bytes x said fit told =
+-- an area says with a page more, whose changes fit what it said, that with the changes
+said_with : (c : DriveConfig) (s : Sealed) (r : Reading) (bytes : List ℕ) (xs : List (Change × Totals)) → said_by_area c s ≡ Some r → IsTrue (all_fit fits c r xs) → told_by bytes ≡ Some xs
+    → said_by_area c (with_page s bytes) ≡ Some (with_changes c r xs)
+unfolding is_sound_checkpoint is_checkpoint_of
+said_with c s r bytes xs said fit told =
     let h = said_by-parts c s r said in
     let first = first_of s in
-    let one : decoded bytes ∷ [] ≡ Some x ∷ [] = ap (λ (o : Option (Change × Totals)). o ∷ []) told in
-    let all : changes_in (s.journal ++ bytes ∷ []) ≡ Some (h.changes ++ x ∷ []) =
-    ap all_of (map-push s.journal bytes ∙ ap (λ (os : List (Option (Change × Totals))). map decoded s.journal ++ os) one) ∙ all-push (map decoded s.journal) h.changes x h.told in
-    said_by-made c (with_page s bytes) (applied c r x) (record {
+    said_by-made c (with_page s bytes) (with_changes c r xs) (record {
       sound = h.sound;
-      changes = h.changes ++ x ∷ [];
-      told = all;
+      changes = h.changes ++ xs;
+      told = told-push s.journal bytes h.changes xs h.told told;
       after = record {
-        fit = all_fit-push fits c first h.changes x h.after.fit (subst (λ (a : Reading). IsTrue (fits c a x)) (sym h.after.said) fit);
-        said = fold-push (applied c) first h.changes x ∙ ap (λ (a : Reading). applied c a x) h.after.said;
+        fit = all_fit-append fits c first h.changes xs h.after.fit (subst (λ (a : Reading). IsTrue (all_fit fits c a xs)) (sym h.after.said) fit);
+        said = fold-append (applied c) first h.changes xs ∙ ap (λ (a : Reading). with_changes c a xs) h.after.said;
       };
     })
 
 -- ---- the image
-
-extent_some : (x : Change) → 1 ≤ extent x
-extent_some (changes.Write nsid slba pid pid_invalid pages) = omega arith
-extent_some (changes.Clear nsid ranges) = omega arith
-extent_some (changes.Update nsid closed pids) = omega arith
-extent_some (changes.Create nsid size given handles) = omega arith
-extent_some (changes.Delete nsid) = omega arith
-extent_some (changes.SetFdp enabled index generation) = omega arith
-extent_some (changes.SetEvents ruh on mask) = omega arith
-extent_some (changes.Moved victim first second handles) = omega arith
-extent_some (changes.Shut rg ruh) = omega arith
 
 whole_page : (number : ℕ) (t : Stamp) (bytes : List ℕ) → page_bytes Journal number t (Whole (system_spare (record { kind = Journal; number = number; stamp = t })) bytes) ≡ Some bytes
 unfolding page_bytes
@@ -263,28 +258,27 @@ unfolding reads_as said_by_current
 read_by c cells number s current = ap (said_by_current c cells) current
 
 -- a program of the page behind the journal leaves an image that reads as before, or with the change
-pub next_record_reads : (c : DriveConfig) (cells : List Cell) (r : Reading) (at : Spot) (spare bytes : List ℕ) (x : Change × Totals) (image : List Cell)
-    → length cells ≡ all_pages (geometry_of c) → reads_as c cells ≡ Some r → IsTrue (fits c r x) → IsNextRecord c cells at spare bytes x → ProgramMayLeave (geometry_of c) cells at spare bytes image
-    → ReadsWithOrWithout c cells r x image
-next_record_reads c cells r at spare bytes x image size read fit next left =
+pub next_record_reads : (c : DriveConfig) (cells : List Cell) (r : Reading) (at : Spot) (spare bytes : List ℕ) (xs : List (Change × Totals)) (image : List Cell)
+    → length cells ≡ all_pages (geometry_of c) → reads_as c cells ≡ Some r → IsTrue (all_fit fits c r xs) → IsNextRecord c cells at spare bytes xs → ProgramMayLeave (geometry_of c) cells at spare bytes image
+    → ReadsWithOrWithout c cells r xs image
+next_record_reads c cells r at spare bytes xs image size read fit next left =
     let g = geometry_of c in
     let s = next.area in
     let number = next.number in
-    let some = extent_some x.0 in
-    let room : next_page s < area_pages g = omega (arith, next.room) in
+    let room : next_page s < area_pages g = next.room in
     let long : next_page s < length (area_of g number cells) = omega (arith, area_long g number cells (number_small g cells number s next.current) size) in
     let said : said_by_area c s ≡ Some r = sym (read_by c cells number s next.current) ∙ read in
     let place : image ≡ set cells (first_page g (area_unit g number) + next_page s) left.cell = left.cells ∙ ap (λ (k : ℕ). set cells k left.cell) next.place in
     let same : page_bytes Journal (length s.journal) s.stamp left.cell ≡ None → reads_as c image ≡ Some r =
     λ none. ap (reads_as c) place ∙ read_by c (set cells (first_page g (area_unit g number) + next_page s) left.cell) number s
     (area_read g cells number s s left.cell next.current room refl (λ sealed. journal_stays (area_of g number cells) s left.cell sealed long none)) ∙ said in
-    let more : left.cell ≡ Whole spare bytes → reads_as c image ≡ Some (applied c r x) =
+    let more : left.cell ≡ Whole spare bytes → reads_as c image ≡ Some (with_changes c r xs) =
     λ whole.
     let page : page_bytes Journal (length s.journal) s.stamp left.cell ≡ Some bytes =
     ap (page_bytes Journal (length s.journal) s.stamp) (whole ∙ ap (λ (sp : List ℕ). Whole sp bytes) next.spare_is) ∙ whole_page (length s.journal) s.stamp bytes in
     ap (reads_as c) place ∙ read_by c (set cells (first_page g (area_unit g number) + next_page s) left.cell) number (with_page s bytes)
     (area_read g cells number s (with_page s bytes) left.cell next.current room refl (λ sealed. journal_grows (area_of g number cells) s left.cell bytes sealed long next.blank page))
-    ∙ said_with c s r bytes x said fit next.told in
+    ∙ said_with c s r bytes xs said fit next.told in
     record {
       reads = elim left.page [
         | inl blank ↦ inl (same (no_page (length s.journal) s.stamp left.cell (inl blank)))
@@ -326,17 +320,6 @@ next_page_current g cells number s at bytes image size open_ room at_is left =
       | inr other ↦ elim other [ inl torn ↦ same (no_page (length s.journal) s.stamp left.cell (inr torn)) | inr whole ↦ more whole ]
     ]
 
-pub extent_one : (x : Change) → extent x ≡ 1
-extent_one (changes.Write nsid slba pid pid_invalid pages) = refl
-extent_one (changes.Clear nsid ranges) = refl
-extent_one (changes.Update nsid closed pids) = refl
-extent_one (changes.Create nsid size given handles) = refl
-extent_one (changes.Delete nsid) = refl
-extent_one (changes.SetFdp enabled index generation) = refl
-extent_one (changes.SetEvents ruh on mask) = refl
-extent_one (changes.Moved victim first second handles) = refl
-extent_one (changes.Shut rg ruh) = refl
-
 pub slice_get-set_above : (cells : List Cell) (k j : ℕ) (cell : Cell) → k < j → slice_get (set cells k cell) j ≡ slice_get cells j
 slice_get-set_above [] zero j cell lt = refl
 slice_get-set_above [] (suc k) j cell lt = refl
@@ -345,15 +328,14 @@ slice_get-set_above (c ∷ cs) zero (suc j) cell lt = refl
 slice_get-set_above (c ∷ cs) (suc k) (suc j) cell lt = slice_get-set_above cs k j cell (omega arith)
 
 -- a program that is done saves the change, and the journal can go on
-pub next_record_saved : (c : DriveConfig) (cells : List Cell) (r : Reading) (at : Spot) (spare bytes : List ℕ) (x : Change × Totals) (image : List Cell)
-    → length cells ≡ all_pages (geometry_of c) → reads_as c cells ≡ Some r → IsTrue (fits c r x) → (next : IsNextRecord c cells at spare bytes x) → IsProgrammed (geometry_of c) cells at spare bytes image
-    → IsSavedIn c r next.number next.area bytes x image
-next_record_saved c cells r at spare bytes x image size read fit next done =
+pub next_record_saved : (c : DriveConfig) (cells : List Cell) (r : Reading) (at : Spot) (spare bytes : List ℕ) (xs : List (Change × Totals)) (image : List Cell)
+    → length cells ≡ all_pages (geometry_of c) → reads_as c cells ≡ Some r → IsTrue (all_fit fits c r xs) → (next : IsNextRecord c cells at spare bytes xs) → IsProgrammed (geometry_of c) cells at spare bytes image
+    → IsSavedIn c r next.number next.area bytes xs image
+next_record_saved c cells r at spare bytes xs image size read fit next done =
     let g = geometry_of c in
     let s = next.area in
     let number = next.number in
-    let one = extent_one x.0 in
-    let room : next_page s < area_pages g = omega (arith, next.room) in
+    let room : next_page s < area_pages g = next.room in
     let long : next_page s < length (area_of g number cells) = omega (arith, area_long g number cells (number_small g cells number s next.current) size) in
     let said : said_by_area c s ≡ Some r = sym (read_by c cells number s next.current) ∙ read in
     let cell = Whole spare bytes in
@@ -365,12 +347,12 @@ next_record_saved c cells r at spare bytes x image size read fit next done =
     area_read g cells number s (with_page s bytes) cell next.current room refl (λ sealed. journal_grows (area_of g number cells) s cell bytes sealed long next.blank page) in
     let area : area_of g number new ≡ set (area_of g number cells) (next_page s) cell = area_set g number (next_page s) cells cell in
     record {
-      reads = ap (reads_as c) place ∙ read_by c new number (with_page s bytes) current ∙ said_with c s r bytes x said fit next.told;
+      reads = ap (reads_as c) place ∙ read_by c new number (with_page s bytes) current ∙ said_with c s r bytes xs said fit next.told;
       current = ap (current_area g) place ∙ current;
       blank = λ k lo hi.
           let same : area_of g number image ≡ set (area_of g number cells) (next_page s) cell = ap (area_of g number) place ∙ area in
           let within : k < length (area_of g number cells) = omega (arith, hi, ap length same, length-set (area_of g number cells) (next_page s) cell) in
-          ap (λ (cs : List Cell). slice_get cs k) same ∙ slice_get-set_above (area_of g number cells) (next_page s) k cell (omega (arith, lo, one)) ∙ next.blank k (omega (arith, lo, one)) within;
+          ap (λ (cs : List Cell). slice_get cs k) same ∙ slice_get-set_above (area_of g number cells) (next_page s) k cell (omega (arith, lo)) ∙ next.blank k (omega (arith, lo)) within;
     }
 
 -- the page of the journal that is programmed: the journal goes on behind it

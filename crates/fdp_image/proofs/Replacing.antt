@@ -1,31 +1,28 @@
 -- What an image reads as once an area that is not the current one was replaced.
-use Rattle.std.proofs.Common.{◌≡◌, ◌≢◌, ℕ, zero, suc, ◌+◌, ◌<◌, ◌≤◌, ◌⊎◌, Bool, true, false, IsTrue, List, [], ◌∷◌, length, drop, take, Option, Some, None, refl, sym, ap, ◌∙◌, subst, arith, inl, inr, ⊎_elim}
-use Rattle.std.specs.Prelude.{◌&&◌, fold, if◌then◌else◌, nat_lt, option_map, slice_get}
+use Rattle.std.proofs.Common.{◌≡◌, ◌≢◌, ℕ, zero, suc, ◌+◌, ◌<◌, ◌≤◌, ◌⊎◌, Bool, true, false, List, [], ◌∷◌, length, drop, take, Option, Some, None, refl, sym, ap, ◌∙◌, subst, arith, inl, inr, ⊎_elim}
+use Rattle.std.specs.Prelude.{◌&&◌, if◌then◌else◌, nat_lt, option_map, slice_get}
 use Rattle.std.specs.List.{concat, list_all}
 use Rattle.std.proofs.lemmas.Bool.{cases_Bool}
 use Rattle.std.proofs.lemmas.Bool.Decides.{nat_tests}
 use Rattle.fdp_base.specs.declared.config.DriveConfig.{DriveConfig}
 use Rattle.fdp_base.specs.declared.config.Geometry.{Geometry}
-use Rattle.fdp_base.specs.declared.entry.Totals.{Totals}
 use Rattle.fdp_base.specs.Geometry.{area_pages}
 use Rattle.fdp_base.specs.Placement.{geometry_of}
 use Rattle.fdp_flash.specs.declared.cell.Cell.{Cell}
 use Rattle.fdp_flash.specs.Layout.{first_page}
-use Rattle.fdp_records.specs.declared.change.Change.{Change}
 use Rattle.fdp_records.specs.declared.spare.Stamp.{Stamp}
 use Rattle.fdp_snapshot.specs.declared.keys.Keys.{Keys}
 use Rattle.fdp_snapshot.specs.declared.state.State.{State}
 use Rattle.fdp_snapshot.specs.Checkpoint.{checkpoint_size, is_checkpoint}
 use Rattle.fdp_snapshot.specs.Reading.{keys_in, state_in, summary_in}
-use Rattle.fdp_image.specs.Applied.{applied}
 use Rattle.fdp_image.specs.Areas.{Sealed, area_of, area_unit, current_area, data_pages, later_of, sealed_in}
 use Rattle.fdp_image.specs.BadFields.{bad_field}
 use Rattle.fdp_image.specs.Checkpoint.{reading_of_state, said_by_checkpoint}
 use Rattle.fdp_image.specs.CheckpointFields.{same_keys}
 use Rattle.fdp_image.specs.Fits.{all_fit}
 use Rattle.fdp_image.specs.Reading.{Reading}
-use Rattle.fdp_image.specs.Reads.{all_of, changes_in, fresh_reading, is_blank, is_checkpoint_of, reads_as, said_by_area, said_by_current}
-use Rattle.fdp_image.specs.Replacing.{IsCheckpointOf, IsNewlySealed, IsReplacedIn, IsSameBeside, IsShortened, IsSavedBy, MayBeReplaced, MayBeWritten}
+use Rattle.fdp_image.specs.Reads.{changes_in, fresh_reading, is_blank, is_checkpoint_of, reads_as, said_by_area, said_by_current}
+use Rattle.fdp_image.specs.Replacing.{IsCheckpointOf, IsReplacedIn, IsSameBeside, IsSavedBy, MayBeReplaced, MayBeWritten}
 use Rattle.fdp_image.proofs.Fitting.{said_by-made, sound-made}
 use Rattle.fdp_image.proofs.Journaling.{slice_get-drop}
 use Rattle.fdp_image.proofs.NextRecord.{read_by}
@@ -271,7 +268,7 @@ summary_same s bytes told = sym (ap (λ (x : State). x.summary) told)
 
 -- a new checkpoint without a journal says its state
 pub says_state : (c : DriveConfig) (z : Sealed) (s : State) → IsCheckpointOf z.stamp.version c.block (concat z.checkpoint) s → z.journal ≡ [] → IsSavedBy c s → said_by_area c z ≡ Some (reading_of_state s)
-unfolding is_checkpoint_of changes_in all_of all_fit said_by_checkpoint
+unfolding is_checkpoint_of changes_in all_fit said_by_checkpoint
 says_state c z s h none saved =
     let bytes = concat z.checkpoint in
     let filled : nat_lt (length bytes) (checkpoint_size (summary_in bytes) + c.block) ≡ true = less (length bytes) (checkpoint_size (summary_in bytes) + c.block) h.filled in

@@ -1,5 +1,5 @@
 -- What an image reads as: the checkpoint of its current area with the changes of its journal.
-use Rattle.std.specs.Prelude.{ℕ, suc, ◌+◌, ◌^◌, Bool, true, false, not, ◌&&◌, ◌||◌, List, [], ◌∷◌, length, map, take, nat_lt, nat_le, Option, Some, None, is_some, if◌then◌else◌, fold, option_map}
+use Rattle.std.specs.Prelude.{ℕ, suc, ◌+◌, ◌^◌, Bool, true, false, not, ◌&&◌, ◌||◌, List, [], ◌∷◌, ◌++◌, length, take, nat_lt, nat_le, Option, Some, None, is_some, if◌then◌else◌, option_map}
 use Rattle.std.specs.List.{list_all, list_any, concat}
 use Rattle.std.specs.Option.{option_and_then}
 use Rattle.fdp_base.specs.declared.config.DriveConfig.{DriveConfig}
@@ -8,11 +8,10 @@ use Rattle.fdp_base.specs.Placement.{geometry_of}
 use Rattle.fdp_flash.specs.declared.cell.Cell.{Cell}
 use Rattle.fdp_flash.specs.declared.cell.Cell.TheVariants.{Blank, Torn, Whole}
 use Rattle.fdp_records.specs.declared.change.Change.{Change}
-use Rattle.fdp_records.specs.declared.change.Change.TheVariants as changes
 use Rattle.fdp_records.specs.Reading.{decoded}
 use Rattle.fdp_rules.specs.History.{first_state, fresh}
 use Rattle.fdp_rules.specs.PlainState.{PlainState}
-use Rattle.fdp_image.specs.Applied.{applied}
+use Rattle.fdp_image.specs.Applied.{with_changes}
 use Rattle.fdp_image.specs.Areas.{Sealed, current_area, data_pages}
 use Rattle.fdp_image.specs.BadFields.{bad_field}
 use Rattle.fdp_image.specs.Checkpoint.{said_by_checkpoint}
@@ -22,26 +21,14 @@ use Rattle.fdp_image.specs.CheckpointFields.{same_keys}
 use Rattle.fdp_image.specs.Fits.{all_fit, fits}
 use Rattle.fdp_image.specs.Reading.{Reading}
 
--- how many pages of the journal the record of a change takes
-abbrev pub extent : Change → ℕ
-extent (changes.Write nsid slba pid pid_invalid pages) = 1
-extent (changes.Clear nsid ranges) = 1
-extent (changes.Update nsid closed pids) = 1
-extent (changes.Create nsid size given handles) = 1
-extent (changes.Delete nsid) = 1
-extent (changes.SetFdp enabled index generation) = 1
-extent (changes.SetEvents ruh on mask) = 1
-extent (changes.Moved victim first second handles) = 1
-extent (changes.Shut rg ruh) = 1
+-- the changes that a page of the journal tells, if it tells any
+unfoldable pub told_by : List ℕ → Option (List (Change × Totals))
+told_by bytes = option_map (λ x. x ∷ []) (decoded bytes)
 
--- the elements, where each is there
-unfoldable pub all_of : {X : Type 0} → List (Option X) → Option (List X)
-all_of [] = Some []
-all_of (x ∷ xs) = option_and_then (λ y. option_map (λ ys. y ∷ ys) (all_of xs)) x
-
--- the changes of a journal, where each of its pages tells one
+-- the changes of a journal, where each of its pages tells some
 unfoldable pub changes_in : List (List ℕ) → Option (List (Change × Totals))
-changes_in journal = all_of (map decoded journal)
+changes_in [] = Some []
+changes_in (page ∷ pages) = option_and_then (λ xs. option_map (λ ys. xs ++ ys) (changes_in pages)) (told_by page)
 
 -- the page of the area behind the journal
 abbrev pub next_page : Sealed → ℕ
@@ -60,7 +47,7 @@ is_sound_checkpoint c area = is_checkpoint_of c area && not (is_some (bad_field 
 
 -- what is said with some changes more, where each fits what is said before it
 unfoldable pub said_after : DriveConfig → Reading → List (Change × Totals) → Option Reading
-said_after c r changes = if all_fit fits c r changes then Some (fold (applied c) r changes) else None
+said_after c r changes = if all_fit fits c r changes then Some (with_changes c r changes) else None
 
 -- what a sealed area says: its checkpoint with the changes of its journal, where all of it is what a drive of the configuration saves
 unfoldable pub said_by_area : DriveConfig → Sealed → Option Reading

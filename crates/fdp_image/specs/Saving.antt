@@ -1,4 +1,4 @@
--- What is known before the page of a change is programmed, and what its programming may leave.
+-- What is known before a page of changes is programmed, and what its programming may leave.
 use Rattle.std.specs.Prelude.{◌≡◌, ◌⊎◌, slice_get, ℕ, ◌+◌, ◌<◌, ◌≤◌, List, [], ◌∷◌, ◌++◌, length, Some}
 use Rattle.fdp_base.specs.declared.config.DriveConfig.{DriveConfig}
 use Rattle.fdp_base.specs.declared.config.Geometry.{Geometry}
@@ -13,13 +13,12 @@ use Rattle.fdp_flash.specs.Layout.{first_page, page_number}
 use Rattle.fdp_records.specs.declared.change.Change.{Change}
 use Rattle.fdp_records.specs.declared.spare.Stamp.{Stamp}
 use Rattle.fdp_records.specs.declared.spare.SystemKind.TheVariants.{Journal}
-use Rattle.fdp_records.specs.Reading.{decoded}
 use Rattle.fdp_records.specs.Spares.{system_spare}
 use Rattle.fdp_rules.specs.History.{Found}
-use Rattle.fdp_image.specs.Applied.{applied}
+use Rattle.fdp_image.specs.Applied.{applied, with_changes}
 use Rattle.fdp_image.specs.Areas.{Sealed, area_of, area_unit, current_area, data_pages}
 use Rattle.fdp_image.specs.Reading.{Reading}
-use Rattle.fdp_image.specs.Reads.{extent, next_page, reads_as}
+use Rattle.fdp_image.specs.Reads.{next_page, reads_as, told_by}
 use Rattle.fdp_image.specs.StandsFor.{Says}
 use Rattle.fdp_image.specs.Valid.{IsValid}
 
@@ -38,16 +37,16 @@ pub record IsCurrent (g : Geometry) (cells : List Cell) (number : ℕ) (t : Stam
   pub current : current_area g cells ≡ Some (number, area)
   pub stamp : area.stamp ≡ t
 
--- a page behind the journal of the current area, blank as all behind it, would tell a change with this spare and these bytes
-pub record IsNextRecord (c : DriveConfig) (cells : List Cell) (at : Spot) (spare bytes : List ℕ) (x : Change × Totals) : Type 0 where
+-- a page behind the journal of the current area, blank as all behind it, would tell changes with this spare and these bytes
+pub record IsNextRecord (c : DriveConfig) (cells : List Cell) (at : Spot) (spare bytes : List ℕ) (xs : List (Change × Totals)) : Type 0 where
   pub number : ℕ
   pub area : Sealed
   pub current : current_area (geometry_of c) cells ≡ Some (number, area)
-  pub room : next_page area + extent x.0 ≤ area_pages (geometry_of c)
+  pub room : next_page area < area_pages (geometry_of c)
   pub blank : AreBlankFrom (next_page area) (area_of (geometry_of c) number cells)
   pub place : page_number (geometry_of c) at ≡ first_page (geometry_of c) (area_unit (geometry_of c) number) + next_page area
   pub spare_is : spare ≡ system_spare (record { kind = Journal; number = length area.journal; stamp = area.stamp })
-  pub told : decoded bytes ≡ Some x
+  pub told : told_by bytes ≡ Some xs
 
 -- A change is that of some entries that follow a history, where an image says what the history gives.
 pub record IsChangeOf (c : DriveConfig) (f : Found) (cells : List Cell) (es added : List Entry) (r : Reading) (x : Change × Totals) : Type 0 where
@@ -58,13 +57,13 @@ pub record IsChangeOf (c : DriveConfig) (f : Found) (cells : List Cell) (es adde
 abbrev pub SameDataPages : DriveConfig → List Cell → List Cell → Type 0
 SameDataPages c old new = (page : ℕ) → page < data_pages (geometry_of c) → slice_get new page ≡ slice_get old page
 
--- What saving a change may leave: an image reads as the cells did, or as that with the change; its data pages are as they were.
-pub record ReadsWithOrWithout (c : DriveConfig) (cells : List Cell) (r : Reading) (x : Change × Totals) (image : List Cell) : Type 0 where
-  pub reads : (reads_as c image ≡ Some r) ⊎ (reads_as c image ≡ Some (applied c r x))
+-- What saving changes by one page may leave: an image reads as the cells did, or as that with the changes; its data pages are as they were.
+pub record ReadsWithOrWithout (c : DriveConfig) (cells : List Cell) (r : Reading) (xs : List (Change × Totals)) (image : List Cell) : Type 0 where
+  pub reads : (reads_as c image ≡ Some r) ⊎ (reads_as c image ≡ Some (with_changes c r xs))
   pub data_pages_same : SameDataPages c cells image
 
--- A change is saved: the image reads with it, and behind its page the journal can go on.
-pub record IsSavedIn (c : DriveConfig) (r : Reading) (number : ℕ) (area : Sealed) (bytes : List ℕ) (x : Change × Totals) (image : List Cell) : Type 0 where
-  pub reads : reads_as c image ≡ Some (applied c r x)
+-- Changes are saved by one page: the image reads with them, and behind its page the journal can go on.
+pub record IsSavedIn (c : DriveConfig) (r : Reading) (number : ℕ) (area : Sealed) (bytes : List ℕ) (xs : List (Change × Totals)) (image : List Cell) : Type 0 where
+  pub reads : reads_as c image ≡ Some (with_changes c r xs)
   pub current : current_area (geometry_of c) image ≡ Some (number, record area { journal = area.journal ++ bytes ∷ [] })
-  pub blank : AreBlankFrom (next_page area + extent x.0) (area_of (geometry_of c) number image)
+  pub blank : AreBlankFrom (next_page area + 1) (area_of (geometry_of c) number image)

@@ -14,7 +14,7 @@ ghost use Rattle.fdp_image.specs.Areas.{Sealed, area_of, page_bytes, sealed_in};
 ghost use Rattle.fdp_image.specs.Checkpoint.{reading_of_state};
 ghost use Rattle.fdp_image.specs.Replacing.{IsReplacedIn, IsSameBeside, IsShortened, IsWiped, IsSavedBy, MayBeReplaced};
 ghost use Rattle.fdp_snapshot.specs.declared.state.State.{State};
-ghost use Rattle.fdp_image.specs.Fits.{fits};
+ghost use Rattle.fdp_image.specs.Fits.{all_fit, fits};
 ghost use Rattle.fdp_image.specs.Reads.{fresh_reading, next_page, reads_as};
 ghost use Rattle.fdp_image.specs.Reading.{Reading};
 ghost use Rattle.fdp_image.specs.Saving.{AreBlankFrom, IsNextRecord, IsSavedIn, ReadsWithOrWithout};
@@ -32,15 +32,15 @@ pub fn journal_grows_by_its_next_page()
     ensures left { (cells : List Cell) (s : Sealed) (cell : Cell) → sealed_in cells ≡ Some s → next_page s < length cells → page_bytes Journal (length s.journal) s.stamp cell ≡ None → sealed_in (slice_set cells (next_page s) cell) ≡ Some s }
 {}
 
-/// Saving a change that fits what the image says: whatever a stop or a fault leaves of the program of its record behind the journal, the image reads as it did, or
-/// as that with the change, and its data pages are as they were.
-pub fn saving_leaves_the_image_with_or_without_the_change()
-    ensures { (c : DriveConfig) (cells : List Cell) (r : Reading) (at : Spot) (spare bytes : List ℕ) (x : Change × Totals) (image : List Cell) → length cells ≡ all_pages (geometry_of c) → reads_as c cells ≡ Some r → IsTrue (fits c r x) → IsNextRecord c cells at spare bytes x → ProgramMayLeave (geometry_of c) cells at spare bytes image → ReadsWithOrWithout c cells r x image }
+/// Saving changes by one page, which fit one after another what the image says: whatever a stop or a fault leaves of the program of that page behind the journal, the image reads as it did, or
+/// as that with all of them, and its data pages are as they were.
+pub fn saving_leaves_the_image_with_or_without_the_changes()
+    ensures { (c : DriveConfig) (cells : List Cell) (r : Reading) (at : Spot) (spare bytes : List ℕ) (xs : List (Change × Totals)) (image : List Cell) → length cells ≡ all_pages (geometry_of c) → reads_as c cells ≡ Some r → IsTrue (all_fit fits c r xs) → IsNextRecord c cells at spare bytes xs → ProgramMayLeave (geometry_of c) cells at spare bytes image → ReadsWithOrWithout c cells r xs image }
 {}
 
-/// Once the program of its record is done, a change that fits is saved, and the journal can go on behind it.
-pub fn a_record_that_is_done_is_saved()
-    ensures { (c : DriveConfig) (cells : List Cell) (r : Reading) (at : Spot) (spare bytes : List ℕ) (x : Change × Totals) (image : List Cell) → length cells ≡ all_pages (geometry_of c) → reads_as c cells ≡ Some r → IsTrue (fits c r x) → (next : IsNextRecord c cells at spare bytes x) → IsProgrammed (geometry_of c) cells at spare bytes image → IsSavedIn c r next.number next.area bytes x image }
+/// Once the program of their page is done, changes that fit are saved, and the journal can go on behind it.
+pub fn a_page_that_is_done_is_saved()
+    ensures { (c : DriveConfig) (cells : List Cell) (r : Reading) (at : Spot) (spare bytes : List ℕ) (xs : List (Change × Totals)) (image : List Cell) → length cells ≡ all_pages (geometry_of c) → reads_as c cells ≡ Some r → IsTrue (all_fit fits c r xs) → (next : IsNextRecord c cells at spare bytes xs) → IsProgrammed (geometry_of c) cells at spare bytes image → IsSavedIn c r next.number next.area bytes xs image }
 {}
 
 /// An area some of whose pages were wiped, as an erase that stops may leave it, is not sealed, or has the checkpoint pages and the seal

@@ -1,4 +1,4 @@
-ghost use Rattle.std.specs.Prelude.{◌≡◌, ◌≢◌, ◌↔◌, ℕ, ◌≤◌, ◌<◌, ◌+◌, false, IsTrue, IfOk, suc};
+ghost use Rattle.std.specs.Prelude.{◌≡◌, ◌≢◌, ◌↔◌, ℕ, ◌≤◌, ◌<◌, ◌+◌, ◌∷◌, [], false, IsTrue, IfOk, suc};
 ghost use Rattle.fdp_base.specs.Geometry.{IsValidGeometry, area_pages};
 ghost use Rattle.fdp_flash.specs.Runs.{Runs};
 ghost use Rattle.fdp_records.specs.Borrowed.{change_of};
@@ -164,9 +164,9 @@ impl Journal {
         requires cells { IsTrue (F.state flash.old).told → IsJournalIn (F.state flash.old).cells self.old }
         ensures full { (result ≡ Appended.AreaFull) ↔ IsFull self.old }
         ensures unchanged { result ≡ Appended.AreaFull → (self.new ≡ self.old) × (flash.new ≡ flash.old) }
-        ensures images { Runs (F.state flash.old) (F.state flash.new) (λ moment image. MayBeAppended (F.state flash.old).cells self.old (change_of change.entry, totals.now) image) }
-        ensures left { IsTrue (F.state flash.old).told → result ≢ Appended.AreaFull → MayBeAppended (F.state flash.old).cells self.old (change_of change.entry, totals.now) (F.state flash.new).cells }
-        ensures done { result ≡ Appended.Done → Appends self.old self.new (F.state flash.old) (F.state flash.new) (change_of change.entry, totals.now) }
+        ensures images { Runs (F.state flash.old) (F.state flash.new) (λ moment image. MayBeAppended (F.state flash.old).cells self.old ((change_of change.entry, totals.now) ∷ []) image) }
+        ensures left { IsTrue (F.state flash.old).told → result ≢ Appended.AreaFull → MayBeAppended (F.state flash.old).cells self.old ((change_of change.entry, totals.now) ∷ []) (F.state flash.new).cells }
+        ensures done { result ≡ Appended.Done → Appends self.old self.new (F.state flash.old) (F.state flash.new) ((change_of change.entry, totals.now) ∷ []) }
         ensures doubt { (moment : ℕ) → result ≡ Appended.Doubt moment → FallsInDoubt self.old self.new (F.state flash.old) (F.state flash.new) moment }
     {
         if self.is_full() {
@@ -193,7 +193,7 @@ impl Journal {
         requires cells { IsTrue (F.state flash.old).told → IsJournalIn (F.state flash.old).cells self.old }
         requires room { next_in self.old < area_pages self.old.geometry }
         ensures same { self.new ≡ self.old }
-        ensures written { Writes self.old (F.state flash.old) (F.state flash.new) (change_of change.entry, totals.now) result }
+        ensures written { Writes self.old (F.state flash.old) (F.state flash.new) ((change_of change.entry, totals.now) ∷ []) result }
     {
         let at = page_of_area(&self.geometry, self.area, self.next());
         let spare = self.next_spare();

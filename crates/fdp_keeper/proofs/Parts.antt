@@ -1,5 +1,5 @@
 -- From what a keeper is seen as to its parts, and what an entry makes of an outline.
-use Rattle.std.proofs.Common.{◌≡◌, ℕ, ◌+◌, refl, ap, sym, ◌∙◌, subst, arith, true}
+use Rattle.std.proofs.Common.{◌≡◌, ℕ, ◌+◌, [], ◌∷◌, refl, ap, sym, ◌∙◌, subst, arith, true}
 use Rattle.fdp_base.specs.declared.config.DriveConfig.{DriveConfig}
 use Rattle.fdp_base.specs.declared.entry.Entry.{Entry}
 use Rattle.fdp_base.specs.declared.entry.Entry.TheVariants as entries
@@ -14,7 +14,7 @@ use Rattle.fdp_image.specs.Applied.{applied}
 use Rattle.fdp_image.specs.Changed.{changed}
 use Rattle.fdp_image.specs.Reading.{Reading}
 use Rattle.fdp_durability.specs.fdp_journal.JournalState.{JournalState}
-use Rattle.fdp_durability.specs.Saved.{SavesDrive, SavesEntry, SettlesDrive, firm_renewed, firm_with}
+use Rattle.fdp_durability.specs.Saved.{SavesDrive, SavesEntries, SettlesDrive, firm_renewed, firm_with}
 use Rattle.fdp_flash.specs.declared.answer.Wrote.{Wrote}
 use Rattle.fdp_durability.specs.fdp_saving.declared.saved.Saved.{Saved}
 use Rattle.fdp_keeper.specs.Keeper.{CanGive, CanKeep, CanSave, KeeperSeen, KeepsDrive, KeepsEntry, KeepsMade, KeepsParts, KeepsSettled, KeepsWrite}
@@ -104,20 +104,20 @@ kept-settled b k saver now s then firm more before after t answer is can set sav
       firm_is = firm_is ∙ ap (λ (x : KeeperSeen). firm_renewed x.saver.in_doubt b.entries x.firm answer) is;
     }
 
-pub kept-made : (b : BookSeen) (e : Entry) (k : KeeperSeen) (saver now : JournalState) (s then : Summary) (firm more : ℕ) (before after : FlashState) (answer : Saved) → record { saver = saver; summary = s; firm = firm } ≡ k → KeepsParts b e saver now then before after answer → more ≡ firm_with b.entries e firm answer → KeepsMade b e k (record { saver = now; summary = then; firm = more }) before after answer
+pub kept-made : (b : BookSeen) (e : Entry) (k : KeeperSeen) (saver now : JournalState) (s then : Summary) (firm more : ℕ) (before after : FlashState) (answer : Saved) → record { saver = saver; summary = s; firm = firm } ≡ k → KeepsParts b e saver now then before after answer → more ≡ firm_with b.entries (e ∷ []) firm answer → KeepsMade b e k (record { saver = now; summary = then; firm = more }) before after answer
 kept-made b e k saver now s then firm more before after answer is h firm_is = record {
-  saves = subst (λ (x : JournalState). SavesEntry b.config b.found b.entries e x now before after answer) (can-keep-saver k saver s firm is) h.saves;
+  saves = subst (λ (x : JournalState). SavesEntries b.config b.found b.entries (e ∷ []) x now before after answer) (can-keep-saver k saver s firm is) h.saves;
   outline = h.outline;
   geometry = h.geometry ∙ ap (λ (x : JournalState). x.geometry) (can-keep-saver k saver s firm is);
-  firm_is = firm_is ∙ ap (λ (x : KeeperSeen). firm_with b.entries e x.firm answer) is;
+  firm_is = firm_is ∙ ap (λ (x : KeeperSeen). firm_with b.entries (e ∷ []) x.firm answer) is;
 }
 
-pub kept-entry : (b : BookSeen) (e : Entry) (k : KeeperSeen) (saver now : JournalState) (s then : Summary) (firm more : ℕ) (before after : FlashState) (answer : Saved) → record { saver = saver; summary = s; firm = firm } ≡ k → KeepsWrite b e saver now then before after answer → more ≡ firm_with b.entries e firm answer → KeepsEntry b e k (record { saver = now; summary = then; firm = more }) before after answer
+pub kept-entry : (b : BookSeen) (e : Entry) (k : KeeperSeen) (saver now : JournalState) (s then : Summary) (firm more : ℕ) (before after : FlashState) (answer : Saved) → record { saver = saver; summary = s; firm = firm } ≡ k → KeepsWrite b e saver now then before after answer → more ≡ firm_with b.entries (e ∷ []) firm answer → KeepsEntry b e k (record { saver = now; summary = then; firm = more }) before after answer
 kept-entry b e k saver now s then firm more before after answer is h firm_is = record {
-  saves = subst (λ (x : JournalState). SavesEntry b.config b.found b.entries e x now before after answer) (can-keep-saver k saver s firm is) h.saves;
+  saves = subst (λ (x : JournalState). SavesEntries b.config b.found b.entries (e ∷ []) x now before after answer) (can-keep-saver k saver s firm is) h.saves;
   outline = h.outline;
   geometry = h.geometry ∙ ap (λ (x : JournalState). x.geometry) (can-keep-saver k saver s firm is);
-  firm_is = firm_is ∙ ap (λ (x : KeeperSeen). firm_with b.entries e x.firm answer) is;
+  firm_is = firm_is ∙ ap (λ (x : KeeperSeen). firm_with b.entries (e ∷ []) x.firm answer) is;
 }
 
 -- the entry of an opening adds no more than its events

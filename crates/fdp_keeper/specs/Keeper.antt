@@ -1,12 +1,12 @@
 -- What saves a drive, as contracts see it, and what a saving makes of it.
-use Rattle.std.specs.Prelude.{◌≡◌, ℕ, ◌+◌, ◌<◌, ◌^◌, IsTrue, List, Some, map, true}
+use Rattle.std.specs.Prelude.{◌≡◌, ℕ, ◌+◌, ◌<◌, ◌^◌, IsTrue, List, [], ◌∷◌, Some, map, true}
 use Rattle.fdp_base.specs.declared.command.Write.{Write}
 use Rattle.fdp_base.specs.declared.config.DriveConfig.{DriveConfig}
 use Rattle.fdp_base.specs.declared.entry.Entry.{Entry}
 use Rattle.fdp_base.specs.declared.entry.Spot.{Spot}
 use Rattle.fdp_base.specs.Placement.{geometry_of}
 use Rattle.fdp_book.specs.Book.{BookSeen, point_in}
-use Rattle.fdp_durability.specs.Saved.{SavesDrive, SavesEntry, SettlesDrive, firm_renewed, firm_with}
+use Rattle.fdp_durability.specs.Saved.{SavesDrive, SavesEntries, SettlesDrive, firm_renewed, firm_with}
 use Rattle.fdp_flash.specs.declared.answer.Wrote.{Wrote}
 use Rattle.fdp_flash.specs.FlashState.{FlashState}
 use Rattle.fdp_flash.specs.Layout.{page_number}
@@ -51,17 +51,17 @@ IsOutlineAfter c p e s (answers.Unsaved moment) = IsOutlineOf c (drawn c p) s
 
 -- An entry was saved, with this answer; its change is made, unless the answer is that it was not saved.
 pub record KeepsEntry (b : BookSeen) (e : Entry) (old now : KeeperSeen) (before after : FlashState) (answer : Saved) : Type 0 where
-  pub saves : SavesEntry b.config b.found b.entries e old.saver now.saver before after answer
+  pub saves : SavesEntries b.config b.found b.entries (e ∷ []) old.saver now.saver before after answer
   pub outline : IsOutlineAfter b.config (point_in b) e now.summary answer
   pub geometry : now.saver.geometry ≡ old.saver.geometry
-  pub firm_is : now.firm ≡ firm_with b.entries e old.firm answer
+  pub firm_is : now.firm ≡ firm_with b.entries (e ∷ []) old.firm answer
 
 -- An entry was saved, with this answer, that is made whatever the answer.
 pub record KeepsMade (b : BookSeen) (e : Entry) (old now : KeeperSeen) (before after : FlashState) (answer : Saved) : Type 0 where
-  pub saves : SavesEntry b.config b.found b.entries e old.saver now.saver before after answer
+  pub saves : SavesEntries b.config b.found b.entries (e ∷ []) old.saver now.saver before after answer
   pub outline : IsOutlineOf b.config (drawn b.config (next b.config (point_in b) e)) now.summary
   pub geometry : now.saver.geometry ≡ old.saver.geometry
-  pub firm_is : now.firm ≡ firm_with b.entries e old.firm answer
+  pub firm_is : now.firm ≡ firm_with b.entries (e ∷ []) old.firm answer
 
 -- The drive was saved whole, with this answer; it is kept as before.
 pub record KeepsDrive (b : BookSeen) (old now : KeeperSeen) (before after : FlashState) (answer : Wrote) : Type 0 where
@@ -94,13 +94,13 @@ pub record CanKeep (b : BookSeen) (saver : JournalState) (s : Summary) (state : 
 
 -- an entry was saved by a saver, with this answer, and the outline is that behind it
 pub record KeepsParts (b : BookSeen) (e : Entry) (old now : JournalState) (s : Summary) (before after : FlashState) (answer : Saved) : Type 0 where
-  pub saves : SavesEntry b.config b.found b.entries e old now before after answer
+  pub saves : SavesEntries b.config b.found b.entries (e ∷ []) old now before after answer
   pub outline : IsOutlineOf b.config (drawn b.config (next b.config (point_in b) e)) s
   pub geometry : now.geometry ≡ old.geometry
 
 -- an entry was saved by a saver, with this answer, and the outline is that behind it, unless the answer is that it was not saved
 pub record KeepsWrite (b : BookSeen) (e : Entry) (old now : JournalState) (s : Summary) (before after : FlashState) (answer : Saved) : Type 0 where
-  pub saves : SavesEntry b.config b.found b.entries e old now before after answer
+  pub saves : SavesEntries b.config b.found b.entries (e ∷ []) old now before after answer
   pub outline : IsOutlineAfter b.config (point_in b) e s answer
   pub geometry : now.geometry ≡ old.geometry
 

@@ -1,6 +1,6 @@
 //! How many entries of a history are firm.
 
-ghost use Rattle.std.specs.Prelude.{◌≡◌};
+ghost use Rattle.std.specs.Prelude.{◌≡◌, ◌∷◌, []};
 ghost use Rattle.fdp_base.specs.declared.entry.Entry.{Entry};
 ghost use Rattle.fdp_durability.specs.Saved.{firm_renewed, firm_with};
 
@@ -10,7 +10,7 @@ use fdp_flash::Wrote;
 
 /// So many after the saving of an entry: all with it, or those that were.
 pub fn firm_saved(book: &Book, firm: u64, saved: Saved) -> u64
-    ensures { (e : Entry) → result ≡ firm_with book.now.entries e firm saved }
+    ensures { (e : Entry) → result ≡ firm_with book.now.entries (e ∷ []) firm saved }
 {
     match saved {
         Saved::Done => book.entries().len() as u64 + 1,

@@ -1,9 +1,9 @@
 //! The savings of a saver, with the outline and the pages of a drive.
 
-ghost use Rattle.std.specs.Prelude.{◌≡◌, IsTrue};
+ghost use Rattle.std.specs.Prelude.{◌≡◌, ◌∷◌, [], IsTrue};
 ghost use Rattle.fdp_base.specs.declared.entry.Entry.{Entry};
 ghost use Rattle.fdp_book.specs.Book.{point_in};
-ghost use Rattle.fdp_durability.specs.Saved.{SavesDrive, SavesEntry, SettlesDrive};
+ghost use Rattle.fdp_durability.specs.Saved.{SavesDrive, SavesEntries, SettlesDrive};
 ghost use Rattle.fdp_keeper.specs.Keeper.{CanGive};
 ghost use Rattle.fdp_durability.specs.fdp_readings.Changes.{FitsDrawn, Saves};
 ghost use Rattle.fdp_records.specs.Borrowed.{change_of};
@@ -28,7 +28,7 @@ pub fn save<F: Flash>(
 ) -> Saved
     requires limits { IsTrue (is_within_limits (change_of change)) }
     requires given { CanGive book.now saver.old outline.now (F.state flash.old) }
-    ensures saves { (e : Entry) → Saves book.now.config (point_in book.now) (change_of change.entry) e → FitsDrawn book.now.config (point_in book.now) (change_of change.entry) e → totals.now ≡ totals_with (point_in book.now).totals e → SavesEntry book.now.config book.now.found book.now.entries e saver.old saver.new (F.state flash.old) (F.state flash.new) result }
+    ensures saves { (e : Entry) → Saves book.now.config (point_in book.now) (change_of change.entry) e → FitsDrawn book.now.config (point_in book.now) (change_of change.entry) e → totals.now ≡ totals_with (point_in book.now).totals e → SavesEntries book.now.config book.now.found book.now.entries (e ∷ []) saver.old saver.new (F.state flash.old) (F.state flash.new) result }
     ensures geometry { saver.new.geometry ≡ saver.old.geometry }
 {
     book.known(); // proof

@@ -1,10 +1,11 @@
 -- What sound images say, and what they cannot be.
-use Rattle.std.proofs.Common.{◌≡◌, ◌⊎◌, ℕ, zero, suc, true, false, List, [], ◌∷◌, length, take, Option, Some, None, refl, sym, ap, ◌∙◌, arith, inl, inr}
-use Rattle.std.specs.Prelude.{◌&&◌, ◌==◌, fold, map, nat_lt, option_map, slice_get}
+use Rattle.std.proofs.Common.{◌≡◌, ◌⊎◌, ℕ, zero, suc, true, false, List, [], ◌∷◌, ◌++◌, length, take, Option, Some, None, refl, sym, ap, ◌∙◌, arith, inl, inr}
+use Rattle.std.specs.Prelude.{◌&&◌, ◌==◌, nat_lt, option_map, slice_get}
 use Rattle.std.specs.List.{concat}
 use Rattle.std.specs.Option.{option_and_then, option_map_or}
 use Rattle.std.proofs.lemmas.Bool.Decides.{nat_tests}
 use Rattle.std.proofs.lemmas.List.{take_all}
+use Rattle.std.proofs.lemmas.List.Sums.{fold-append}
 use Rattle.fdp_base.specs.declared.config.DriveConfig.{DriveConfig}
 use Rattle.fdp_base.specs.declared.entry.Totals.{Totals}
 use Rattle.fdp_base.specs.declared.spare.DataSpare.{DataSpare}
@@ -12,17 +13,16 @@ use Rattle.fdp_base.specs.Placement.{geometry_of}
 use Rattle.fdp_checkpoint.proofs.OfImage.{none_found}
 use Rattle.fdp_flash.specs.declared.cell.Cell.{Cell}
 use Rattle.fdp_flash.specs.declared.cell.Cell.TheVariants.{Blank, Torn, Whole}
-use Rattle.fdp_image.specs.Applied.{applied}
+use Rattle.fdp_image.specs.Applied.{applied, with_changes}
 use Rattle.fdp_image.specs.Areas.{Sealed, current_area, data_pages}
 use Rattle.fdp_image.specs.Checkpoint.{said_by_checkpoint}
 use Rattle.fdp_image.specs.Fits.{all_fit, fits}
 use Rattle.fdp_image.specs.Reading.{Reading, group_of_page}
-use Rattle.fdp_image.specs.Reads.{all_of, changes_in, reads_as, said_by_area}
+use Rattle.fdp_image.specs.Reads.{changes_in, reads_as, said_by_area, told_by}
 use Rattle.fdp_image.specs.Valid.{is_named}
-use Rattle.fdp_image.proofs.Fitting.{said_by-made, said_by-parts, sound-made, sound-parts}
+use Rattle.fdp_image.proofs.Fitting.{all_fit-first, all_fit-rest, said_by-made, said_by-parts, sound-made, sound-parts}
 use Rattle.fdp_image.proofs.NextRecord.{read_by}
 use Rattle.fdp_records.specs.declared.change.Change.{Change}
-use Rattle.fdp_records.specs.Reading.{decoded}
 use Rattle.fdp_records.specs.Spares.{said_by_data}
 use Rattle.fdp_state.specs.fdp_replay.Replay.{IsBadAt, IsReplayed, IsUnfitAt}
 use Rattle.fdp_state.specs.Parts.{handles_at}
@@ -127,59 +127,60 @@ kept_apart c cells r kept nsid lba other_nsid other_lba page there other =
 
 -- the first page of a journal whose changes are told, and the pages behind it
 record IsTold (page : List ℕ) (pages : List (List ℕ)) (changes : List (Change × Totals)) : Type 0 where
-  pub first : Change × Totals
+  pub first : List (Change × Totals)
   pub rest : List (Change × Totals)
-  pub here : decoded page ≡ Some first
-  pub behind : all_of (map decoded pages) ≡ Some rest
-  pub are : changes ≡ first ∷ rest
+  pub here : told_by page ≡ Some first
+  pub behind : changes_in pages ≡ Some rest
+  pub are : changes ≡ first ++ rest
 
-told_first : (page : List ℕ) (pages : List (List ℕ)) (changes : List (Change × Totals)) → all_of (map decoded (page ∷ pages)) ≡ Some changes → IsTold page pages changes
-unfolding all_of
-told_first page pages changes told = of_page (decoded page) refl (all_of (map decoded pages)) refl told where
-  of_page : (o : Option (Change × Totals)) → decoded page ≡ o → (rest : Option (List (Change × Totals))) → all_of (map decoded pages) ≡ rest
-      → option_and_then (λ (y : Change × Totals). option_map (λ (ys : List (Change × Totals)). y ∷ ys) rest) o ≡ Some changes → IsTold page pages changes
+told_first : (page : List ℕ) (pages : List (List ℕ)) (changes : List (Change × Totals)) → changes_in (page ∷ pages) ≡ Some changes → IsTold page pages changes
+unfolding changes_in
+told_first page pages changes told = of_page (told_by page) refl (changes_in pages) refl told where
+  of_page : (o : Option (List (Change × Totals))) → told_by page ≡ o → (rest : Option (List (Change × Totals))) → changes_in pages ≡ rest
+      → option_and_then (λ (xs : List (Change × Totals)). option_map (λ (ys : List (Change × Totals)). xs ++ ys) rest) o ≡ Some changes → IsTold page pages changes
   of_page None is rest behind told = absurd cc
   of_page (Some x) is None behind told = absurd cc
-  of_page (Some x) is (Some xs) behind told = let same : changes ≡ x ∷ xs = cc in record { first = x; rest = xs; here = is; behind = behind; are = same }
+  of_page (Some x) is (Some xs) behind told = let same : changes ≡ x ++ xs = cc in record { first = x; rest = xs; here = is; behind = behind; are = same }
 
--- each of its pages tells a change
-none_untold : (journal : List (List ℕ)) (changes : List (Change × Totals)) (n : ℕ) (bytes : List ℕ) → all_of (map decoded journal) ≡ Some changes → slice_get journal n ≡ Some bytes → decoded bytes ≡ None → ⊥
+-- each of its pages tells changes
+none_untold : (journal : List (List ℕ)) (changes : List (Change × Totals)) (n : ℕ) (bytes : List ℕ) → changes_in journal ≡ Some changes → slice_get journal n ≡ Some bytes → told_by bytes ≡ None → ⊥
 none_untold [] changes n bytes told at none = cc
 none_untold (page ∷ pages) changes zero bytes told at none =
     let h = told_first page pages changes told in
     let same : page ≡ bytes = cc in
-    let e : Some h.first ≡ None = sym h.here ∙ ap decoded same ∙ none in
+    let e : Some h.first ≡ None = sym h.here ∙ ap told_by same ∙ none in
     cc
 none_untold (page ∷ pages) changes (suc n) bytes told at none = let h = told_first page pages changes told in none_untold pages h.rest n bytes h.behind at none
 
+-- of no page
+none_before : (before : List (Change × Totals)) → changes_in [] ≡ Some before → before ≡ []
+unfolding changes_in
+none_before before e = let none : [] ≡ before = cc in sym none
+
 -- nor does one not fit, where all fit
-none_unfit : (c : DriveConfig) (journal : List (List ℕ)) (changes before : List (Change × Totals)) (n : ℕ) (bytes : List ℕ) (change : Change × Totals) (base said : Reading)
-    → all_of (map decoded journal) ≡ Some changes → all_of (map decoded (take n journal)) ≡ Some before → said ≡ fold (applied c) base before → all_fit fits c base changes ≡ true
-    → slice_get journal n ≡ Some bytes → decoded bytes ≡ Some change → fits c said change ≡ false → ⊥
-unfolding all_of all_fit
-none_unfit c [] changes before n bytes change base said told earlier is fit at here unfit = cc
-none_unfit c (page ∷ pages) changes before zero bytes change base said told earlier is fit at here unfit =
+none_unfit : (c : DriveConfig) (journal : List (List ℕ)) (changes before : List (Change × Totals)) (n : ℕ) (bytes : List ℕ) (more : List (Change × Totals)) (base said : Reading)
+    → changes_in journal ≡ Some changes → changes_in (take n journal) ≡ Some before → said ≡ with_changes c base before → all_fit fits c base changes ≡ true
+    → slice_get journal n ≡ Some bytes → told_by bytes ≡ Some more → all_fit fits c said more ≡ false → ⊥
+none_unfit c [] changes before n bytes more base said told earlier is fit at here unfit = cc
+none_unfit c (page ∷ pages) changes before zero bytes more base said told earlier is fit at here unfit =
     let h = told_first page pages changes told in
     let same : page ≡ bytes = cc in
-    let first : h.first ≡ change = let e : Some h.first ≡ Some change = sym h.here ∙ ap decoded same ∙ here in cc in
-    let none : before ≡ [] = cc in
-    let start : said ≡ base = is ∙ ap (fold (applied c) base) none in
-    let all : (fits c base h.first && all_fit fits c (applied c base h.first) h.rest) ≡ true = sym (ap (all_fit fits c base) h.are) ∙ fit in
-    let good = (and_true (fits c base h.first) (all_fit fits c (applied c base h.first) h.rest) all).0 in
-    let bad : fits c base h.first ≡ false = ap (fits c base) first ∙ ap (λ (r : Reading). fits c r change) (sym start) ∙ unfit in
+    let first : h.first ≡ more = let e : Some h.first ≡ Some more = sym h.here ∙ ap told_by same ∙ here in cc in
+    let start : said ≡ base = is ∙ ap (with_changes c base) (none_before before earlier) in
+    let good = all_fit-first fits c base h.first h.rest (sym (ap (all_fit fits c base) h.are) ∙ fit) in
+    let bad : all_fit fits c base h.first ≡ false = ap (all_fit fits c base) first ∙ ap (λ (r : Reading). all_fit fits c r more) (sym start) ∙ unfit in
     let e : true ≡ false = sym good ∙ bad in
     cc
-none_unfit c (page ∷ pages) changes before (suc n) bytes change base said told earlier is fit at here unfit =
+none_unfit c (page ∷ pages) changes before (suc n) bytes more base said told earlier is fit at here unfit =
     let h = told_first page pages changes told in
     let k = told_first page (take n pages) before earlier in
     let first : k.first ≡ h.first = let e : Some k.first ≡ Some h.first = sym k.here ∙ h.here in cc in
-    let all : (fits c base h.first && all_fit fits c (applied c base h.first) h.rest) ≡ true = sym (ap (all_fit fits c base) h.are) ∙ fit in
-    let start : said ≡ fold (applied c) (applied c base h.first) k.rest = is ∙ ap (fold (applied c) base) k.are ∙ ap (λ (x : Change × Totals). fold (applied c) (applied c base x) k.rest) first in
-    none_unfit c pages h.rest k.rest n bytes change (applied c base h.first) said h.behind k.behind start
-    ((and_true (fits c base h.first) (all_fit fits c (applied c base h.first) h.rest) all).1) at here unfit
+    let start : said ≡ with_changes c (with_changes c base h.first) k.rest =
+    is ∙ ap (with_changes c base) k.are ∙ fold-append (applied c) base k.first k.rest ∙ ap (λ (xs : List (Change × Totals)). with_changes c (with_changes c base xs) k.rest) first in
+    none_unfit c pages h.rest k.rest n bytes more (with_changes c base h.first) said h.behind k.behind start
+    (all_fit-rest fits c base h.first h.rest (sym (ap (all_fit fits c base) h.are) ∙ fit)) at here unfit
 
 no_bad_record : (c : DriveConfig) (area : ℕ) (z : Sealed) (page : ℕ) (r : Reading) → IsBadRecord c area z page → IsSoundArea c z r → ⊥
-unfolding changes_in
 no_bad_record c area z page r b h = of_bad b.bad where
   base : Reading
   base = said_by_checkpoint (concat z.checkpoint)
@@ -187,7 +188,7 @@ no_bad_record c area z page r b h = of_bad b.bad where
   of_bad : IsBadAt z.journal b.number ⊎ IsUnfitAt fits c z.journal b.number b.said → ⊥
   of_bad (inl bad) = none_untold z.journal h.journal.changes b.number bad.bytes (whole_journal_told c z.journal base r h.journal) bad.page bad.none
   of_bad (inr bad) =
-      none_unfit c z.journal h.journal.changes b.before.changes b.number bad.bytes bad.unfit.change base b.said (whole_journal_told c z.journal base r h.journal) b.before.told b.before.reading h.journal.fit bad.page bad.unfit.told bad.unfit.unfit
+      none_unfit c z.journal h.journal.changes b.before.changes b.number bad.bytes bad.unfit.changes base b.said (whole_journal_told c z.journal base r h.journal) b.before.told b.before.reading h.journal.fit bad.page bad.unfit.told bad.unfit.unfit
 
 -- two readings of a sound area are one
 one_reading : (c : DriveConfig) (z : Sealed) (r s : Reading) → IsSoundArea c z r → IsSoundArea c z s → r ≡ s

@@ -1,5 +1,5 @@
 -- A step that rests: the book is as it was, and no call was made; what is saved behind it was saved before it.
-use Rattle.std.proofs.Common.{◌≡◌, ℕ, ◌<◌, ◌≤◌, Bool, IsTrue, List, [], sym, ◌∙◌, ap, subst, arith, slice_get}
+use Rattle.std.proofs.Common.{◌≡◌, ℕ, ◌<◌, ◌≤◌, Bool, IsTrue, List, [], ◌∷◌, sym, ◌∙◌, ap, subst, arith, slice_get}
 use Rattle.std.specs.Prelude.{All, slice_set}
 use Rattle.std.proofs.lemmas.List.{append-nil, set-get_or}
 use Rattle.fdp_base.specs.declared.config.DriveConfig.{DriveConfig}
@@ -13,7 +13,7 @@ use Rattle.fdp_calls.proofs.Made.{calls-joined, counted_more-none}
 use Rattle.fdp_keeper.specs.fdp_collector.declared.step.Step.{Step}
 use Rattle.fdp_keeper.specs.fdp_collector.Ready.{Relocation}
 use Rattle.fdp_keeper.specs.fdp_collector.Step.{IsUncalled}
-use Rattle.fdp_keeper.specs.fdp_durability.Saved.{SavesEntry, SettlesDrive}
+use Rattle.fdp_keeper.specs.fdp_durability.Saved.{SavesEntries, SettlesDrive}
 use Rattle.fdp_flash.specs.declared.answer.Wrote.{Wrote}
 use Rattle.fdp_flash.specs.declared.answer.Wrote.TheVariants as wrote
 use Rattle.fdp_flash.specs.declared.cell.Cell.{Cell}
@@ -156,17 +156,18 @@ module _ (a b n : FlashState) (h : StaysUncalled a b) where
       ends = checkpoint-earlier answer x.ends;
     }
 
-    pub saves-earlier : (e : Entry) (answer : Saved) → SavesEntry c f es e s now b n answer → SavesEntry c f es e s now a n answer
+    pub saves-earlier : (e : Entry) (answer : Saved) → SavesEntries c f es (e ∷ []) s now b n answer → SavesEntries c f es (e ∷ []) s now a n answer
     saves-earlier e answer x = record {
       given = x.given;
-      change = x.change;
+      first = x.first;
+      rest = x.rest;
       drive = x.drive;
       is_of = x.is_of;
       saves = x.saves;
       saver_is = x.saver_is;
       stands = λ told. x.stands (told-there told);
       stops = λ own tried say sure.
-          holds-earlier c (within_saved c (needs_checkpoint s) own tried x.given (x.change, totals_with (point_of c f es).totals e) answer)
+          holds-earlier c (within_saved c (needs_checkpoint s) own tried x.given (x.first ∷ x.rest) answer)
           (x.stops own tried (say-there c s own tried say) (λ told. sure (sym h.run.told ∙ told)));
       said = λ own tried told say sure. x.said own tried (told-there told) (say-there c s own tried (λ again. say) (told-there told)) sure;
       calls = calls-earlier _ x.calls;

@@ -1,5 +1,5 @@
 -- What is saved leaves the pages of data as they were, so that the flash holds what was written.
-use Rattle.std.proofs.Common.{◌≡◌, ℕ, ◌+◌, ◌*◌, ◌<◌, IsTrue, List, inl, inr, sym, ◌∙◌, subst, arith, slice_get}
+use Rattle.std.proofs.Common.{◌≡◌, ℕ, ◌+◌, ◌*◌, ◌<◌, IsTrue, List, [], ◌∷◌, inl, inr, sym, ◌∙◌, subst, arith, slice_get}
 use Rattle.std.proofs.lemmas.Nat.{mul-le}
 use Rattle.fdp_base.specs.declared.config.DriveConfig.{DriveConfig}
 use Rattle.fdp_base.specs.declared.config.Geometry.{Geometry}
@@ -7,7 +7,7 @@ use Rattle.fdp_base.specs.declared.entry.Entry.{Entry}
 use Rattle.fdp_base.specs.declared.entry.Spot.{Spot}
 use Rattle.fdp_base.specs.Placement.{geometry_of}
 use Rattle.fdp_keeper.specs.fdp_book.Book.{BookSeen, state_in, written_in}
-use Rattle.fdp_keeper.specs.fdp_durability.Saved.{SavesEntry, SettlesDrive}
+use Rattle.fdp_keeper.specs.fdp_durability.Saved.{SavesEntries, SettlesDrive}
 use Rattle.fdp_flash.specs.declared.answer.Wrote.{Wrote}
 use Rattle.fdp_flash.specs.declared.cell.Cell.{Cell}
 use Rattle.fdp_flash.specs.FlashState.{FlashState}
@@ -56,7 +56,7 @@ settled-same b k l old new answer said saved told =
     let h = said told in
     ((saved.stops h.own h.tried (λ again. h.say)).cells told).data_pages_same
 
-saved-same : (b : BookSeen) (e : Entry) (k l : KeeperSeen) (old new : FlashState) (answer : Saved) → (IsTrue old.told → AreasTell b k old.cells) → SavesEntry b.config b.found b.entries e k.saver l.saver old new answer → IsTrue old.told → SameDataPages b.config old.cells new.cells
+saved-same : (b : BookSeen) (e : Entry) (k l : KeeperSeen) (old new : FlashState) (answer : Saved) → (IsTrue old.told → AreasTell b k old.cells) → SavesEntries b.config b.found b.entries (e ∷ []) k.saver l.saver old new answer → IsTrue old.told → SameDataPages b.config old.cells new.cells
 saved-same b e k l old new answer said saved told =
     let h = said told in
     ((saved.stops h.own h.tried (λ again. h.say) (λ again. h.sure)).cells told).data_pages_same

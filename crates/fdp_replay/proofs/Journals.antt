@@ -1,6 +1,7 @@
 -- The pages of a journal that were read, and what the next page makes of them.
 use Rattle.std.proofs.Common.{◌≡◌, ℕ, zero, suc, ◌+◌, ◌≤◌, Bool, true, false, IsTrue, List, [], ◌∷◌, ◌++◌, ◌-◌, drop, length, take, Option, Some, None, refl, sym, ap, ◌∙◌, subst, arith, zero-add, length-drop}
-use Rattle.std.specs.Prelude.{bytes_eq, if◌then◌else◌, map, slice_get}
+use Rattle.std.specs.Prelude.{bytes_eq, if◌then◌else◌, slice_get}
+use Rattle.std.proofs.lemmas.List.Sums.{fold-append}
 use Rattle.fdp_base.specs.declared.config.DriveConfig.{DriveConfig}
 use Rattle.fdp_base.specs.declared.config.Geometry.{Geometry}
 use Rattle.fdp_base.specs.declared.entry.Totals.{Totals}
@@ -13,18 +14,18 @@ use Rattle.fdp_records.specs.declared.spare.SystemKind.{SystemKind}
 use Rattle.fdp_records.specs.declared.spare.SystemKind.TheVariants as kinds
 use Rattle.fdp_records.specs.Reading.{decoded}
 use Rattle.fdp_records.specs.Spares.{system_spare}
-use Rattle.fdp_image.specs.Applied.{applied}
+use Rattle.fdp_image.specs.Applied.{applied, with_changes}
 use Rattle.fdp_image.specs.Areas.{Sealed, area_of, current_area, leading, more, page_bytes}
 use Rattle.fdp_image.specs.Fits.{Fitting, all_fit}
 use Rattle.fdp_image.specs.Reading.{Reading}
-use Rattle.fdp_image.specs.Reads.{all_of, changes_in}
-use Rattle.fdp_image.proofs.Fitting.{all_fit-push}
+use Rattle.fdp_image.specs.Reads.{changes_in}
+use Rattle.fdp_image.proofs.Fitting.{all_fit-append, fit_one, unfit_one}
 use Rattle.fdp_image.proofs.Journaling.{journal_read, slice_get-drop}
-use Rattle.fdp_image.proofs.NextRecord.{all-push, area_long, current_sealed, fold-push, map-push}
+use Rattle.fdp_image.proofs.NextRecord.{area_long, current_sealed, told-push, told_one}
 use Rattle.fdp_areas.specs.declared.seal.Current.{Current}
 use Rattle.fdp_areas.specs.Seals.{IsCurrentSeal}
 use Rattle.fdp_image.proofs.Leading.{leading_ends, leading_most, leading_next}
-use Rattle.fdp_replay.specs.Records.{IsTaken}
+use Rattle.fdp_replay.specs.Records.{IsTaken, IsUnfit}
 use Rattle.fdp_replay.specs.Replay.{IsReplayed}
 
 -- the pages behind the seal
@@ -66,23 +67,27 @@ take-one_more (y ∷ ys) (suc i) x at =
     let n : suc i + 1 ≡ suc (i + 1) = omega arith in
     ap (λ (k : ℕ). take k (y ∷ ys)) n ∙ ap (λ (zs : List (List ℕ)). y ∷ zs) (take-one_more ys i x at)
 
+-- a page of one change, taken
+pub taken_one : (fits : Fitting) (c : DriveConfig) (bytes : List ℕ) (x : Change × Totals) (old new : Reading) → decoded bytes ≡ Some x → IsTrue (fits c old x) → new ≡ applied c old x → IsTaken fits c bytes old new
+taken_one fits c bytes x old new told fit reading = record { changes = x ∷ []; told = told_one bytes x told; fit = fit_one fits c old x fit; reading = reading }
+
+-- and one that does not fit
+pub unfit_page : (fits : Fitting) (c : DriveConfig) (bytes : List ℕ) (x : Change × Totals) (old : Reading) → decoded bytes ≡ Some x → fits c old x ≡ false → IsUnfit fits c bytes old
+unfit_page fits c bytes x old told unfit = record { changes = x ∷ []; told = told_one bytes x told; unfit = unfit_one fits c old x unfit }
+
 -- no page was read
 pub replayed_none : (fits : Fitting) (c : DriveConfig) (journal : List (List ℕ)) (r : Reading) → IsReplayed fits c journal 0 r r
-unfolding changes_in all_of all_fit
+unfolding changes_in all_fit
 replayed_none fits c journal r = record { changes = []; told = refl; fit = refl; reading = refl }
 
 -- one page more was read
 pub replayed_more : (fits : Fitting) (c : DriveConfig) (journal : List (List ℕ)) (i : ℕ) (bytes : List ℕ) (start old new : Reading) → slice_get journal i ≡ Some bytes
     → IsReplayed fits c journal i start old → IsTaken fits c bytes old new → IsReplayed fits c journal (i + 1) start new
-unfolding changes_in
 replayed_more fits c journal i bytes start old new at p taken = record {
-  changes = p.changes ++ taken.change ∷ [];
-  told =
-      ap (λ (pages : List (List ℕ)). all_of (map decoded pages)) (take-one_more journal i bytes at)
-      ∙ ap all_of (map-push (take i journal) bytes ∙ ap (λ (o : Option (Change × Totals)). map decoded (take i journal) ++ o ∷ []) taken.told)
-      ∙ all-push (map decoded (take i journal)) p.changes taken.change p.told;
-  fit = all_fit-push fits c start p.changes taken.change p.fit (subst (λ (r : Reading). IsTrue (fits c r taken.change)) p.reading taken.fit);
-  reading = taken.reading ∙ ap (λ (r : Reading). applied c r taken.change) p.reading ∙ sym (fold-push (applied c) start p.changes taken.change);
+  changes = p.changes ++ taken.changes;
+  told = ap changes_in (take-one_more journal i bytes at) ∙ told-push (take i journal) bytes p.changes taken.changes p.told taken.told;
+  fit = all_fit-append fits c start p.changes taken.changes p.fit (subst (λ (r : Reading). IsTrue (all_fit fits c r taken.changes)) p.reading taken.fit);
+  reading = taken.reading ∙ ap (λ (r : Reading). with_changes c r taken.changes) p.reading ∙ sym (fold-append (applied c) start p.changes taken.changes);
 }
 
 -- the journal of the current area stands behind its seal

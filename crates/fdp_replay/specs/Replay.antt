@@ -1,5 +1,5 @@
 -- A journal that is read page by page.
-use Rattle.std.specs.Prelude.{◌≡◌, ℕ, suc, ◌+◌, ◌<◌, IsTrue, List, fold, length, Some, None, Result, Ok, Err, slice_get, take}
+use Rattle.std.specs.Prelude.{◌≡◌, ℕ, suc, ◌+◌, ◌<◌, IsTrue, List, length, Some, None, Result, Ok, Err, slice_get, take}
 use Rattle.fdp_base.specs.declared.config.DriveConfig.{DriveConfig}
 use Rattle.fdp_base.specs.declared.config.Geometry.{Geometry}
 use Rattle.fdp_base.specs.declared.entry.Totals.{Totals}
@@ -7,12 +7,11 @@ use Rattle.fdp_base.specs.Geometry.{area_pages}
 use Rattle.fdp_areas.specs.declared.seal.Current.{Current}
 use Rattle.fdp_flash.specs.FlashState.{FlashState}
 use Rattle.fdp_records.specs.declared.change.Change.{Change}
-use Rattle.fdp_records.specs.Reading.{decoded}
-use Rattle.fdp_image.specs.Applied.{applied}
+use Rattle.fdp_image.specs.Applied.{with_changes}
 use Rattle.fdp_flash.specs.Failing.{FailsLast}
 use Rattle.fdp_image.specs.Fits.{Fitting, all_fit}
 use Rattle.fdp_image.specs.Reading.{Reading}
-use Rattle.fdp_image.specs.Reads.{changes_in}
+use Rattle.fdp_image.specs.Reads.{changes_in, told_by}
 use Rattle.fdp_replay.specs.declared.replayed.ReplayFault.{ReplayFault}
 use Rattle.fdp_replay.specs.declared.replayed.ReplayFault.TheVariants as faults
 use Rattle.fdp_replay.specs.Records.{IsUnfit}
@@ -22,15 +21,15 @@ pub record IsReplayed (fits : Fitting) (c : DriveConfig) (journal : List (List �
   pub changes : List (Change × Totals)
   pub told : changes_in (take count journal) ≡ Some changes
   pub fit : IsTrue (all_fit fits c old changes)
-  pub reading : new ≡ fold (applied c) old changes
+  pub reading : new ≡ with_changes c old changes
 
 -- the page of a journal with this number tells no change
 pub record IsBadAt (journal : List (List ℕ)) (number : ℕ) : Type 0 where
   pub bytes : List ℕ
   pub page : slice_get journal number ≡ Some bytes
-  pub none : decoded bytes ≡ None
+  pub none : told_by bytes ≡ None
 
--- the page of a journal with this number tells a change that does not fit what was said before it
+-- the page of a journal with this number tells changes of which one does not fit what was said before it
 pub record IsUnfitAt (fits : Fitting) (c : DriveConfig) (journal : List (List ℕ)) (number : ℕ) (r : Reading) : Type 0 where
   pub bytes : List ℕ
   pub page : slice_get journal number ≡ Some bytes

@@ -1,5 +1,5 @@
 ghost use Rattle.std.specs.Prelude.{◌≡◌, Err, OnErr, OnOk, None};
-ghost use Rattle.fdp_records.specs.Reading.{decoded};
+ghost use Rattle.fdp_image.specs.Reads.{told_by};
 ghost use Rattle.fdp_replay.specs.Records.{IsTaken, IsUnfit};
 
 use crate::replayed::{Refusal, Replayed};
@@ -14,7 +14,8 @@ pub enum RecordFault {
     NoMemory,
 }
 
-/// Applies the change whose record these bytes are.
+/// Applies the changes that a page with these bytes tells.
+#[tactic(auto, using(crate::proofs::Journals::taken_one, crate::proofs::Journals::unfit_page, fdp_image::proofs::NextRecord::told_none))]
 pub fn take_record<R: Replayed>(
     alloc: Global,
     bytes: &[u8],
@@ -22,7 +23,7 @@ pub fn take_record<R: Replayed>(
 ) -> Result<(), RecordFault>
     ensures config { R.config state.new ≡ R.config state.old }
     ensures taken { OnOk result (IsTaken R.fits (R.config state.old) bytes.now (R.reading state.old) (R.reading state.new)) }
-    ensures bad { result ≡ Err RecordFault.Bad → decoded bytes.now ≡ None }
+    ensures bad { result ≡ Err RecordFault.Bad → told_by bytes.now ≡ None }
     ensures unfit { result ≡ Err RecordFault.Unfit → IsUnfit R.fits (R.config state.old) bytes.now (R.reading state.old) }
     ensures refused { OnErr result (state.new ≡ state.old) }
 {

@@ -11,7 +11,7 @@ use Rattle.fdp_base.specs.Placement.{geometry_of}
 use Rattle.fdp_book.specs.Book.{BookSeen, IsLonger, point_in, written_in}
 use Rattle.fdp_book.proofs.Longer.{point-one}
 use Rattle.fdp_durability.specs.Durable.{IsDurable, SaysDrawn}
-use Rattle.fdp_durability.specs.Saved.{SavesDrive, SavesEntry, SettlesDrive}
+use Rattle.fdp_durability.specs.Saved.{SavesDrive, SavesEntries, SettlesDrive}
 use Rattle.fdp_durability.proofs.Durable.{durable-program}
 use Rattle.fdp_durability.proofs.Empty.{drawn-empty}
 use Rattle.fdp_durability.proofs.Stepping.{durable-step}
@@ -19,7 +19,7 @@ use Rattle.fdp_durability.specs.fdp_collector.Copying.{IsDataPage}
 use Rattle.fdp_durability.specs.fdp_collector.Leaving.{StepMayLeave}
 use Rattle.fdp_durability.specs.fdp_journal.JournalState.{JournalState}
 use Rattle.fdp_durability.specs.fdp_readings.Drawn.{drawn}
-use Rattle.fdp_durability.proofs.fdp_readings.Saving.{forgets}
+use Rattle.fdp_durability.proofs.Said.{base-saved}
 use Rattle.fdp_durability.specs.fdp_saving.declared.saved.Saved.{Saved}
 use Rattle.fdp_durability.specs.fdp_saving.declared.saved.Saved.TheVariants as answers
 use Rattle.fdp_durability.specs.fdp_saving.Said.{AreasSay, ReadsAsOneOf}
@@ -35,13 +35,14 @@ use Rattle.fdp_flash.specs.Layout.{page_number}
 use Rattle.fdp_flash.specs.Runs.{Holds, Runs}
 use Rattle.fdp_flash.proofs.Runs.{runs_weakened}
 use Rattle.fdp_history.specs.Standing.{IsStanding}
-use Rattle.fdp_image.specs.Applied.{applied}
+use Rattle.fdp_image.specs.Applied.{with_changes}
 use Rattle.fdp_image.specs.Checkpoint.{reading_of_state}
 use Rattle.fdp_image.specs.Reading.{Reading}
 use Rattle.fdp_isolation.specs.Laned.{IsKnown}
 use Rattle.fdp_rules.specs.Point.{Point}
-use Rattle.fdp_rules.specs.Next.{totals_with}
+use Rattle.fdp_base.specs.declared.entry.Totals.{Totals}
 use Rattle.fdp_records.specs.declared.change.Change.{Change}
+use Rattle.fdp_rules.proofs.Pushes.{point_of-push}
 use Rattle.fdp_snapshot.specs.declared.state.State.{State}
 use Rattle.fdp_units.specs.UnitTable.{UnitTable, cut_of}
 use Rattle.fdp_roominess.specs.Room.{HaveRoom}
@@ -154,40 +155,33 @@ module _ (b : BookSeen) (known : IsKnown b) (room : HaveRoom b.pages) (s : Journ
         (λ told. let h = durable told in (h.own, said-own told, h.sure, three b.config h.own h.own (base_of s.in_doubt h.own saved.given) (own-leaves old.cells h) (own-leaves old.cells h) (base-leaves s.in_doubt saved.given saved.drive told)))
 
     -- an entry is saved, behind which the drive has room too
-    pub roomy-saving : (e : Entry) (new : BookSeen) → IsKnown new → HaveRoom new.pages → IsLonger b new (e ∷ []) → (then' : JournalState) (answer : Saved) → SavesEntry b.config b.found b.entries e s then' old now answer → Runs old now (λ m image. IsRoomyImage b.config image)
+    pub roomy-saving : (e : Entry) (new : BookSeen) → IsKnown new → HaveRoom new.pages → IsLonger b new (e ∷ []) → (then' : JournalState) (answer : Saved) → SavesEntries b.config b.found b.entries (e ∷ []) s then' old now answer → Runs old now (λ m image. IsRoomyImage b.config image)
     roomy-saving e new then_known then_room longer then' answer saved =
         stops-roomy b.config (point_in b) s old now (λ own tried. within_saved b.config (needs_checkpoint s) own tried saved.given x answer) saved.stops
         (λ told. let h = durable told in (h.own, said-own told, h.sure, within told answer)) where
-          x : Change × Totals
-          x = (saved.change, totals_with (point_in b).totals e)
+          x : List (Change × Totals)
+          x = saved.first ∷ saved.rest
 
-          -- with the change what is said is what is drawn behind the entry
-          drawn-then : applied b.config (drawn b.config (point_in b)) (saved.change, totals_with (point_in b).totals e) ≡ drawn b.config (point_in new)
-          drawn-then = saved.saves ∙ ap (drawn b.config) (sym (point-one b new e longer))
+          -- with the changes what is said is what is drawn behind the entry
+          applied-base : (told : IsTrue old.told) → with_changes b.config (base_of (needs_checkpoint s) (durable told).own saved.given) x ≡ drawn b.config (point_in new)
+          applied-base told = base-saved b.config b.found b.entries (e ∷ []) s (durable told).own saved.given saved.first saved.rest saved.drive (durable told).sure saved.saves ∙ ap (drawn b.config) (point_of-push b.config b.found b.entries e ∙ sym (point-one b new e longer))
 
-          applied-base : (wanted : Bool) (told : IsTrue old.told) → applied b.config (base_of wanted (durable told).own saved.given) (saved.change, totals_with (point_in b).totals e) ≡ drawn b.config (point_in new)
-          applied-base true told = ap (λ (r : Reading). applied b.config r (saved.change, totals_with (point_in b).totals e)) saved.drive ∙ drawn-then
-          applied-base false told =
-              ap (λ (r : Reading). applied b.config r (saved.change, totals_with (point_in b).totals e)) ((durable told).sure sure)
-              ∙ forgets b.config (drawn b.config (point_in b)) (durable told).own.totals (saved.change, totals_with (point_in b).totals e)
-              ∙ drawn-then
-
-          with-leaves : (told : IsTrue old.told) → LeavesRoom b.config (applied b.config (base_of (needs_checkpoint s) (durable told).own saved.given) (saved.change, totals_with (point_in b).totals e))
+          with-leaves : (told : IsTrue old.told) → LeavesRoom b.config (with_changes b.config (base_of (needs_checkpoint s) (durable told).own saved.given) x)
           with-leaves told =
-              subst (λ (c : DriveConfig). LeavesRoom c (applied b.config (base_of (needs_checkpoint s) (durable told).own saved.given) (saved.change, totals_with (point_in b).totals e))) longer.config_is
-              (drawn-room new then_known (applied b.config (base_of (needs_checkpoint s) (durable told).own saved.given) (saved.change, totals_with (point_in b).totals e)) (ap (λ (r : Reading). r.pages) (applied-base (needs_checkpoint s) told ∙ ap (λ (c : DriveConfig). drawn c (point_in new)) (sym longer.config_is))) then_room)
+              subst (λ (c : DriveConfig). LeavesRoom c (with_changes b.config (base_of (needs_checkpoint s) (durable told).own saved.given) x)) longer.config_is
+              (drawn-room new then_known (with_changes b.config (base_of (needs_checkpoint s) (durable told).own saved.given) x) (ap (λ (r : Reading). r.pages) (applied-base told ∙ ap (λ (c : DriveConfig). drawn c (point_in new)) (sym longer.config_is))) then_room)
 
-          four : (told : IsTrue old.told) → All (LeavesRoom b.config) ((durable told).own ∷ (durable told).own ∷ base_of (needs_checkpoint s) (durable told).own saved.given ∷ applied b.config (base_of (needs_checkpoint s) (durable told).own saved.given) (saved.change, totals_with (point_in b).totals e) ∷ [])
+          four : (told : IsTrue old.told) → All (LeavesRoom b.config) ((durable told).own ∷ (durable told).own ∷ base_of (needs_checkpoint s) (durable told).own saved.given ∷ with_changes b.config (base_of (needs_checkpoint s) (durable told).own saved.given) x ∷ [])
           four told =
               let P : Reading → Type 0 = LeavesRoom b.config in
               let own = (durable told).own in
               let base = base_of (needs_checkpoint s) own saved.given in
-              let with = applied b.config base (saved.change, totals_with (point_in b).totals e) in
+              let with = with_changes b.config base x in
               All-cons P own (own ∷ base ∷ with ∷ []) (own-leaves old.cells (durable told))
               (All-cons P own (base ∷ with ∷ []) (own-leaves old.cells (durable told))
               (All-cons P base (with ∷ []) (base-leaves (needs_checkpoint s) saved.given saved.drive told) (All-cons P with [] (with-leaves told) (All-nil P))))
 
-          within : (told : IsTrue old.told) (answer : Saved) → All (LeavesRoom b.config) (within_saved b.config (needs_checkpoint s) (durable told).own (durable told).own saved.given (saved.change, totals_with (point_in b).totals e) answer)
+          within : (told : IsTrue old.told) (answer : Saved) → All (LeavesRoom b.config) (within_saved b.config (needs_checkpoint s) (durable told).own (durable told).own saved.given x answer)
           within told answers.Done = four told
           within told (answers.Doubtful moment) = four told
           within told (answers.Unsaved moment) = three b.config (durable told).own (durable told).own (reading_of_state saved.given) (own-leaves old.cells (durable told)) (own-leaves old.cells (durable told)) (given-leaves saved.given saved.drive)

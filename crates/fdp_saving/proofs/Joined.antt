@@ -15,7 +15,7 @@ use Rattle.fdp_flash.proofs.Held.{holds_at_start, holds_joined, holds_weakened}
 use Rattle.fdp_records.specs.declared.change.Change.{Change}
 use Rattle.fdp_snapshot.specs.declared.state.State.{State}
 use Rattle.fdp_snapshot.specs.declared.state.Summary.{Summary}
-use Rattle.fdp_image.specs.Applied.{applied}
+use Rattle.fdp_image.specs.Applied.{with_changes}
 use Rattle.fdp_image.specs.Checkpoint.{reading_of_state}
 use Rattle.fdp_image.specs.Reading.{Reading}
 use Rattle.fdp_image.specs.Reads.{reads_as}
@@ -110,26 +110,26 @@ ready_read c s now summary base flash h told =
 
 -- ---- what may be read
 
-saving_first : (c : DriveConfig) (wanted : Bool) (own tried : Reading) (given : State) (x : Change × Totals) (old new : FlashState)
-    → Holds (ReadsAsOneOf c old.cells (within_renewal wanted own tried given)) old new → Holds (ReadsAsOneOf c old.cells (within_saving c wanted own tried given x)) old new
-saving_first c wanted own tried given x old new held =
+saving_first : (c : DriveConfig) (wanted : Bool) (own tried : Reading) (given : State) (xs : List (Change × Totals)) (old new : FlashState)
+    → Holds (ReadsAsOneOf c old.cells (within_renewal wanted own tried given)) old new → Holds (ReadsAsOneOf c old.cells (within_saving c wanted own tried given xs)) old new
+saving_first c wanted own tried given xs old new held =
     let base = base_of wanted own given in
-    holds_weakened (ReadsAsOneOf c old.cells (within_renewal wanted own tried given)) (ReadsAsOneOf c old.cells (within_saving c wanted own tried given x)) old new held
+    holds_weakened (ReadsAsOneOf c old.cells (within_renewal wanted own tried given)) (ReadsAsOneOf c old.cells (within_saving c wanted own tried given xs)) old new held
     (λ told cells r. record {
       reading = r.reading;
       reads = r.reads;
-      among = Contains-append_left (own ∷ tried ∷ base ∷ []) (applied c base x ∷ []) r.reading r.among;
+      among = Contains-append_left (own ∷ tried ∷ base ∷ []) (with_changes c base xs ∷ []) r.reading r.among;
       data_pages_same = r.data_pages_same;
     })
 
-pub saving_stops : (c : DriveConfig) (wanted : Bool) (own tried : Reading) (given : State) (x : Change × Totals) (a b d : FlashState)
-    → Holds (ReadsAsOneOf c a.cells (within_renewal wanted own tried given)) a b → Holds (ReadsAsOneOf c b.cells (within_append c (base_of wanted own given) x)) b d
-    → Holds (ReadsAsOneOf c a.cells (within_saving c wanted own tried given x)) a d
-saving_stops c wanted own tried given x a b d p q =
+pub saving_stops : (c : DriveConfig) (wanted : Bool) (own tried : Reading) (given : State) (xs : List (Change × Totals)) (a b d : FlashState)
+    → Holds (ReadsAsOneOf c a.cells (within_renewal wanted own tried given)) a b → Holds (ReadsAsOneOf c b.cells (within_append c (base_of wanted own given) xs)) b d
+    → Holds (ReadsAsOneOf c a.cells (within_saving c wanted own tried given xs)) a d
+saving_stops c wanted own tried given xs a b d p q =
     let base = base_of wanted own given in
-    let more = applied c base x in
-    holds_joined (ReadsAsOneOf c a.cells (within_saving c wanted own tried given x)) a b d (saving_first c wanted own tried given x a b p)
-    (holds_weakened (ReadsAsOneOf c b.cells (within_append c base x)) (ReadsAsOneOf c a.cells (within_saving c wanted own tried given x)) b d q
+    let more = with_changes c base xs in
+    holds_joined (ReadsAsOneOf c a.cells (within_saving c wanted own tried given xs)) a b d (saving_first c wanted own tried given xs a b p)
+    (holds_weakened (ReadsAsOneOf c b.cells (within_append c base xs)) (ReadsAsOneOf c a.cells (within_saving c wanted own tried given xs)) b d q
     (λ told cells r.
     let before = p.cells (subst IsTrue p.run.told told) in
     record {

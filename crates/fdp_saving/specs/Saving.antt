@@ -10,7 +10,7 @@ use Rattle.fdp_flash.specs.Failing.{FailsLast}
 use Rattle.fdp_flash.specs.FlashState.{FlashState}
 use Rattle.fdp_records.specs.declared.change.Change.{Change}
 use Rattle.fdp_snapshot.specs.declared.state.State.{State}
-use Rattle.fdp_image.specs.Applied.{applied}
+use Rattle.fdp_image.specs.Applied.{with_changes}
 use Rattle.fdp_image.specs.Checkpoint.{reading_of_state}
 use Rattle.fdp_image.specs.Reading.{Reading}
 use Rattle.fdp_image.specs.Replacing.{IsSavedBy}
@@ -36,19 +36,19 @@ within_checkpoint own tried given = own ∷ tried ∷ reading_of_state given ∷
 abbrev pub within_renewal : Bool → Reading → Reading → State → List Reading
 within_renewal wanted own tried given = own ∷ tried ∷ base_of wanted own given ∷ []
 
--- what may be read while the record of a change is appended to what is read
-abbrev pub within_append : DriveConfig → Reading → Change × Totals → List Reading
-within_append c own x = own ∷ applied c own x ∷ []
+-- what may be read while a page of changes is appended to what is read
+abbrev pub within_append : DriveConfig → Reading → List (Change × Totals) → List Reading
+within_append c own xs = own ∷ with_changes c own xs ∷ []
 
--- what may be read while a change is saved
-abbrev pub within_saving : DriveConfig → Bool → Reading → Reading → State → Change × Totals → List Reading
-within_saving c wanted own tried given x = own ∷ tried ∷ base_of wanted own given ∷ applied c (base_of wanted own given) x ∷ []
+-- what may be read while changes are saved
+abbrev pub within_saving : DriveConfig → Bool → Reading → Reading → State → List (Change × Totals) → List Reading
+within_saving c wanted own tried given xs = own ∷ tried ∷ base_of wanted own given ∷ with_changes c (base_of wanted own given) xs ∷ []
 
--- what may be read while a change is saved, by the answer: where the checkpoint before it failed, nothing more than while that was written
-abbrev pub within_saved : DriveConfig → Bool → Reading → Reading → State → Change × Totals → Saved → List Reading
-within_saved c wanted own tried given x answers.Done = within_saving c wanted own tried given x
-within_saved c wanted own tried given x (answers.Doubtful moment) = within_saving c wanted own tried given x
-within_saved c wanted own tried given x (answers.Unsaved moment) = within_checkpoint own tried given
+-- what may be read while changes are saved, by the answer: where the checkpoint before it failed, nothing more than while that was written
+abbrev pub within_saved : DriveConfig → Bool → Reading → Reading → State → List (Change × Totals) → Saved → List Reading
+within_saved c wanted own tried given xs answers.Done = within_saving c wanted own tried given xs
+within_saved c wanted own tried given xs (answers.Doubtful moment) = within_saving c wanted own tried given xs
+within_saved c wanted own tried given xs (answers.Unsaved moment) = within_checkpoint own tried given
 
 -- what the areas say after a checkpoint, by its answer: the state that was given, or what they said; where it failed, the other area may say
 -- that state, or what it said
@@ -61,17 +61,17 @@ abbrev pub SayAfterRenewal : DriveConfig → JournalState → List Cell → Read
 SayAfterRenewal c s cells own tried given base wrote.Done = AreasSay c s cells base base
 SayAfterRenewal c s cells own tried given base wrote.Failed = SayAfterCheckpoint c s cells own tried given wrote.Failed
 
--- what the areas say after the program of a record upon a reading, by its answer
-abbrev pub SayAfterAppend : DriveConfig → JournalState → List Cell → Reading → Change × Totals → Wrote → Type 0
-SayAfterAppend c s cells base x wrote.Done = AreasSay c s cells (applied c base x) (applied c base x)
-SayAfterAppend c s cells base x wrote.Failed = AreasSayOneOf c s cells (within_append c base x) (within_append c base x)
+-- what the areas say after the program of a page of changes upon a reading, by its answer
+abbrev pub SayAfterAppend : DriveConfig → JournalState → List Cell → Reading → List (Change × Totals) → Wrote → Type 0
+SayAfterAppend c s cells base xs wrote.Done = AreasSay c s cells (with_changes c base xs) (with_changes c base xs)
+SayAfterAppend c s cells base xs wrote.Failed = AreasSayOneOf c s cells (within_append c base xs) (within_append c base xs)
 
--- what the areas say after a saving upon a reading, by its answer: that with the change; that with the change or without; or, where the
+-- what the areas say after a saving upon a reading, by its answer: that with the changes; that with them or without; or, where the
 -- checkpoint before it failed, what they say then
-abbrev pub SayAfterSaving : DriveConfig → JournalState → List Cell → Reading → Reading → State → Reading → Change × Totals → Saved → Type 0
-SayAfterSaving c s cells own tried given base x answers.Done = SayAfterAppend c s cells base x wrote.Done
-SayAfterSaving c s cells own tried given base x (answers.Doubtful moment) = SayAfterAppend c s cells base x wrote.Failed
-SayAfterSaving c s cells own tried given base x (answers.Unsaved moment) = SayAfterCheckpoint c s cells own tried given wrote.Failed
+abbrev pub SayAfterSaving : DriveConfig → JournalState → List Cell → Reading → Reading → State → Reading → List (Change × Totals) → Saved → Type 0
+SayAfterSaving c s cells own tried given base xs answers.Done = SayAfterAppend c s cells base xs wrote.Done
+SayAfterSaving c s cells own tried given base xs (answers.Doubtful moment) = SayAfterAppend c s cells base xs wrote.Failed
+SayAfterSaving c s cells own tried given base xs (answers.Unsaved moment) = SayAfterCheckpoint c s cells own tried given wrote.Failed
 
 -- a saving fails only where its last call did, at the moment that it tells; else no fault was counted
 abbrev pub EndsSaving : FlashState → FlashState → Saved → Type 0

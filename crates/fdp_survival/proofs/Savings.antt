@@ -7,7 +7,7 @@ use Rattle.fdp_base.specs.Placement.{geometry_of}
 use Rattle.fdp_durability.specs.Beginnings.{CanBeSaved}
 use Rattle.fdp_durability.specs.Durable.{IsDurable}
 use Rattle.fdp_durability.specs.Firm.{completes}
-use Rattle.fdp_durability.specs.Saved.{SavesDrive, SavesEntry, SettlesDrive, firm_renewed, firm_with, with_saved}
+use Rattle.fdp_durability.specs.Saved.{SavesDrive, SavesEntries, SettlesDrive, firm_renewed, firm_with, with_saved}
 use Rattle.fdp_durability.proofs.Durable.{durable-doubted}
 use Rattle.fdp_durability.proofs.Owed.{all-firm, firm-on}
 use Rattle.fdp_durability.proofs.Savings.{checkpoint-done, checkpoint-holds, saving-done, saving-holds, settling-done, settling-holds, unsaved-done, unsaved-holds}
@@ -67,53 +67,53 @@ safe-behind c f es now_es t s now firm now_firm old new was on durable firmed wi
 
 -- an entry that was saved was made, whatever the answer
 made-durable : (c : DriveConfig) (f : Found) (es : List Entry) (e : Entry) (firm : ℕ) (s now : JournalState) (t : UnitTable) (cells : List Cell) (summary : Summary) (answer : Saved) → now ≡ after_saving s summary answer
-    → IsDurable c f (with_saved es e answer) (firm_with es e firm answer) now t cells → IsDurable c f (es ++ e ∷ []) (firm_with es e firm answer) now t cells
+    → IsDurable c f (with_saved es (e ∷ []) answer) (firm_with es (e ∷ []) firm answer) now t cells → IsDurable c f (es ++ e ∷ []) (firm_with es (e ∷ []) firm answer) now t cells
 made-durable c f es e firm s now t cells summary answers.Done is h = h
 made-durable c f es e firm s now t cells summary (answers.Doubtful moment) is h = h
 made-durable c f es e firm s now t cells summary (answers.Unsaved moment) is h = durable-doubted c f es (e ∷ []) firm now t cells (ap (λ (k : JournalState). k.in_doubt) is) h
 
-made-firm : (es : List Entry) (e : Entry) (firm : ℕ) (answer : Saved) → (answer ≢ answers.Done → IsFalse (completes e)) → AreFirm es firm → AreFirm (es ++ e ∷ []) (firm_with es e firm answer)
+made-firm : (es : List Entry) (e : Entry) (firm : ℕ) (answer : Saved) → (answer ≢ answers.Done → IsFalse (completes e)) → AreFirm es firm → AreFirm (es ++ e ∷ []) (firm_with es (e ∷ []) firm answer)
 made-firm es e firm answers.Done none firmed = all-firm (es ++ e ∷ [])
 made-firm es e firm (answers.Doubtful moment) none firmed = firm-on es (e ∷ []) firm firmed (one-none e (none (λ same. cc)))
 made-firm es e firm (answers.Unsaved moment) none firmed = firm-on es (e ∷ []) firm firmed (one-none e (none (λ same. cc)))
 
-made-within : (es : List Entry) (e : Entry) (firm : ℕ) (answer : Saved) → firm ≤ length es → firm_with es e firm answer ≤ length (es ++ e ∷ [])
+made-within : (es : List Entry) (e : Entry) (firm : ℕ) (answer : Saved) → firm ≤ length es → firm_with es (e ∷ []) firm answer ≤ length (es ++ e ∷ [])
 made-within es e firm answers.Done low = omega arith
 made-within es e firm (answers.Doubtful moment) low = within-on es (e ∷ []) firm low
 made-within es e firm (answers.Unsaved moment) low = within-on es (e ∷ []) firm low
 
 module _ (c : DriveConfig) (f : Found) (es : List Entry) (e : Entry) (t : UnitTable) (s now : JournalState) (firm : ℕ) (old new : FlashState) (was : IsSafeAt c f es t s firm old) (can : IsTrue old.told → CanBeSaved c (point_of c f es) t old.cells) (can_then : IsTrue old.told → CanBeSaved c (point_of c f (es ++ e ∷ [])) t old.cells) where
   -- each image of the saving stands for a beginning of the history behind it
-  pub survives-saving : (answer : Saved) → SavesEntry c f es e s now old new answer → Runs old new (λ m image. StandsForBeginning c f (with_saved es e answer) firm image)
-  survives-saving answer saved = (saving-holds c f es e firm s now t old new answer saved was.durable can can_then).run
+  pub survives-saving : (answer : Saved) → SavesEntries c f es (e ∷ []) s now old new answer → Runs old new (λ m image. StandsForBeginning c f (with_saved es (e ∷ []) answer) firm image)
+  survives-saving answer saved = (saving-holds c f es (e ∷ []) firm s now t old new answer saved was.durable can can_then).run
 
-  told-before : (answer : Saved) → SavesEntry c f es e s now old new answer → IsTrue new.told → IsTrue old.told
+  told-before : (answer : Saved) → SavesEntries c f es (e ∷ []) s now old new answer → IsTrue new.told → IsTrue old.told
   told-before answer saved told = subst IsTrue saved.calls.made.run.told told
 
   -- the entry was made
-  pub safe-made : (answer : Saved) → SavesEntry c f es e s now old new answer → (answer ≢ answers.Done → IsFalse (completes e)) → IsSafeAt c f (es ++ e ∷ []) t now (firm_with es e firm answer) new
+  pub safe-made : (answer : Saved) → SavesEntries c f es (e ∷ []) s now old new answer → (answer ≢ answers.Done → IsFalse (completes e)) → IsSafeAt c f (es ++ e ∷ []) t now (firm_with es (e ∷ []) firm answer) new
   safe-made answer saved none =
-      safe-behind c f es (es ++ e ∷ []) t s now firm (firm_with es e firm answer) old new was (subst (GoesOn s) (sym saved.saver_is) (saved-on s saved.given.summary answer))
-      (λ told. made-durable c f es e firm s now t new.cells saved.given.summary answer saved.saver_is (saving-done c f es e firm s now t old new answer saved was.durable can can_then (told-before answer saved told)))
+      safe-behind c f es (es ++ e ∷ []) t s now firm (firm_with es (e ∷ []) firm answer) old new was (subst (GoesOn s) (sym saved.saver_is) (saved-on s saved.given.summary answer))
+      (λ told. made-durable c f es e firm s now t new.cells saved.given.summary answer saved.saver_is (saving-done c f es (e ∷ []) firm s now t old new answer saved was.durable can can_then (told-before answer saved told)))
       (made-firm es e firm answer none was.firm_is) (made-within es e firm answer was.within)
 
 -- ---- an entry that was not saved, and not made
 
 module _ (c : DriveConfig) (f : Found) (es : List Entry) (e : Entry) (t : UnitTable) (s now : JournalState) (firm : ℕ) (old new : FlashState) (moment : ℕ) (was : IsSafeAt c f es t s firm old) (can : IsTrue old.told → CanBeSaved c (point_of c f es) t old.cells)
-    (saved : SavesEntry c f es e s now old new (answers.Unsaved moment)) where
+    (saved : SavesEntries c f es (e ∷ []) s now old new (answers.Unsaved moment)) where
   pub safe-unsaved : IsSafeAt c f es t now firm new
   safe-unsaved =
       safe-behind c f es es t s now firm firm old new was (subst (GoesOn s) (sym saved.saver_is) (saved-on s saved.given.summary (answers.Unsaved moment)))
-      (λ told. unsaved-done c f es e firm s now t old new moment was.durable can saved (subst IsTrue saved.calls.made.run.told told))
+      (λ told. unsaved-done c f es (e ∷ []) firm s now t old new moment was.durable can saved (subst IsTrue saved.calls.made.run.told told))
       was.firm_is was.within
 
   pub survives-unsaved : Runs old new (λ m image. StandsForBeginning c f es firm image)
-  survives-unsaved = (unsaved-holds c f es e firm s now t old new moment was.durable can saved).run
+  survives-unsaved = (unsaved-holds c f es (e ∷ []) firm s now t old new moment was.durable can saved).run
 
 -- ---- the data pages
 
 -- no saving changes a page of data
-pub saving-same : (c : DriveConfig) (f : Found) (es : List Entry) (e : Entry) (t : UnitTable) (s now : JournalState) (firm : ℕ) (old new : FlashState) (answer : Saved) → IsSafeAt c f es t s firm old → SavesEntry c f es e s now old new answer → IsTrue old.told → SameDataPages c old.cells new.cells
+pub saving-same : (c : DriveConfig) (f : Found) (es : List Entry) (e : Entry) (t : UnitTable) (s now : JournalState) (firm : ℕ) (old new : FlashState) (answer : Saved) → IsSafeAt c f es t s firm old → SavesEntries c f es (e ∷ []) s now old new answer → IsTrue old.told → SameDataPages c old.cells new.cells
 saving-same c f es e t s now firm old new answer was saved told = let h = was.durable told in ((saved.stops h.own h.tried (λ again. h.say) (λ again. h.sure)).cells told).data_pages_same
 
 pub checkpoint-same : (c : DriveConfig) (f : Found) (es : List Entry) (t : UnitTable) (s now : JournalState) (firm : ℕ) (old new : FlashState) (answer : Wrote) → IsSafeAt c f es t s firm old → SavesDrive c f es s now old new answer → IsTrue old.told → SameDataPages c old.cells new.cells
@@ -123,7 +123,7 @@ pub settling-same : (c : DriveConfig) (f : Found) (es : List Entry) (t : UnitTab
 settling-same c f es t s now firm old new answer was saved told = let h = was.durable told in ((saved.stops h.own h.tried (λ again. h.say)).cells told).data_pages_same
 
 -- nor does a stop within it
-pub saving-stopped : (c : DriveConfig) (f : Found) (es : List Entry) (e : Entry) (t : UnitTable) (s now : JournalState) (firm : ℕ) (old new : FlashState) (answer : Saved) → IsSafeAt c f es t s firm old → SavesEntry c f es e s now old new answer → IsTrue old.told
+pub saving-stopped : (c : DriveConfig) (f : Found) (es : List Entry) (e : Entry) (t : UnitTable) (s now : JournalState) (firm : ℕ) (old new : FlashState) (answer : Saved) → IsSafeAt c f es t s firm old → SavesEntries c f es (e ∷ []) s now old new answer → IsTrue old.told
     → (m : ℕ) (image : List Cell) → old.moment < m → m ≤ new.moment → new.during m image → SameDataPages c old.cells image
 saving-stopped c f es e t s now firm old new answer was saved told m image above most during = let h = was.durable told in ((saved.stops h.own h.tried (λ again. h.say) (λ again. h.sure)).run.images told m image above most during).data_pages_same
 

@@ -5,25 +5,24 @@ use Rattle.std.proofs.lemmas.List.Elements.{All-cons, All-nil}
 use Rattle.fdp_base.specs.declared.config.DriveConfig.{DriveConfig}
 use Rattle.fdp_base.specs.declared.entry.Entry.{Entry}
 use Rattle.fdp_base.specs.declared.entry.Entry.TheVariants as entries
+use Rattle.fdp_base.specs.declared.entry.Totals.{Totals}
 use Rattle.fdp_durability.specs.fdp_journal.JournalState.{JournalState}
-use Rattle.fdp_durability.specs.fdp_readings.Changes.{Saves}
 use Rattle.fdp_durability.specs.fdp_readings.Drawn.{drawn}
-use Rattle.fdp_durability.proofs.fdp_readings.Saving.{forgets}
+use Rattle.fdp_durability.proofs.Said.{base-saved}
 use Rattle.fdp_durability.specs.fdp_saving.declared.saved.Saved.{Saved}
 use Rattle.fdp_durability.specs.fdp_saving.declared.saved.Saved.TheVariants as answers
 use Rattle.fdp_durability.specs.fdp_saving.Said.{ReadsAsOneOf}
 use Rattle.fdp_durability.specs.fdp_saving.Saver.{needs_checkpoint}
 use Rattle.fdp_durability.specs.fdp_saving.Saving.{SayAfterCheckpoint, SayAfterRenewal, SayAfterSaving, base_of, within_renewal, within_saved}
-use Rattle.fdp_durability.proofs.fdp_saving.Joined.{sure_of}
 use Rattle.fdp_durability.specs.Beginnings.{CanBeSaved}
 use Rattle.fdp_durability.specs.Durable.{IsDurable}
-use Rattle.fdp_durability.specs.Saved.{SavesDrive, SavesEntry, SettlesDrive}
+use Rattle.fdp_durability.specs.Saved.{SavesAll, SavesDrive, SavesEntries, SettlesDrive}
 use Rattle.fdp_flash.specs.declared.answer.Wrote.{Wrote}
 use Rattle.fdp_flash.specs.declared.answer.Wrote.TheVariants as wrote
 use Rattle.fdp_flash.specs.declared.cell.Cell.{Cell}
 use Rattle.fdp_flash.specs.FlashState.{FlashState}
 use Rattle.fdp_flash.specs.Runs.{Holds}
-use Rattle.fdp_image.specs.Applied.{applied}
+use Rattle.fdp_image.specs.Applied.{with_changes}
 use Rattle.fdp_image.specs.Checkpoint.{reading_of_state}
 use Rattle.fdp_image.specs.Outline.{state_with}
 use Rattle.fdp_image.specs.Reading.{Reading}
@@ -38,7 +37,6 @@ use Rattle.fdp_rules.specs.History.{Found, point_of}
 use Rattle.fdp_rules.specs.Next.{next, totals_with}
 use Rattle.fdp_rules.specs.Point.{Point}
 use Rattle.fdp_rules.specs.Sites.{traced_by}
-use Rattle.fdp_rules.proofs.Pushes.{point_of-push}
 use Rattle.fdp_snapshot.specs.declared.state.State.{State}
 use Rattle.fdp_survival.specs.Apart.{AreSaidApart, StandsApart}
 use Rattle.fdp_survival.proofs.Apart.{IsDurableApart, durable-apart, reads-apart-in, reads-stand-apart, said-of, said-one-of}
@@ -96,41 +94,28 @@ module _ (c : DriveConfig) (f : Found) (es : List Entry) (firm : ℕ) (s : Journ
   checkpoint-said now new wrote.Done same says = renewal-said true now new wrote.Done same says
   checkpoint-said now new wrote.Failed same says = failed-said now new same says
 
-  -- an entry that is saved
-  module _ (e : Entry) (change : Change) (saves : Saves c (point_of c f es) change e) (draws_then : ReadsApart c old (drawn c (point_of c f (es ++ e ∷ [])))) where
-    abbrev then' : List Entry
-    then' = es ++ e ∷ []
-
+  -- entries that are saved
+  module _ (added : List Entry) (first : Change × Totals) (rest : List (Change × Totals)) (saves : SavesAll c f es added (first ∷ rest)) (draws_then : ReadsApart c old (drawn c (point_of c f (es ++ added)))) where
     abbrev base : Reading
     base = base_of (needs_checkpoint s) own given
 
     abbrev with : Reading
-    with = applied c base (change, totals_with (point_of c f es).totals e)
-
-    from-drawn : applied c (drawn c (point_of c f es)) (change, totals_with (point_of c f es).totals e) ≡ drawn c (point_of c f then')
-    from-drawn = saves ∙ ap (drawn c) (sym (point_of-push c f es e))
-
-    from-base : (wanted : Bool) → (wanted ≡ false → s.in_doubt ≡ false) → applied c (base_of wanted own given) (change, totals_with (point_of c f es).totals e) ≡ drawn c (point_of c f then')
-    from-base true sure = ap (λ (r : Reading). applied c r (change, totals_with (point_of c f es).totals e)) drive ∙ from-drawn
-    from-base false sure =
-        ap (λ (r : Reading). applied c r (change, totals_with (point_of c f es).totals e)) (d.durable.sure (sure refl))
-        ∙ forgets c (drawn c (point_of c f es)) own.totals (change, totals_with (point_of c f es).totals e)
-        ∙ from-drawn
+    with = with_changes c base (first ∷ rest)
 
     with-apart : ReadsApart c old with
-    with-apart = subst (ReadsApart c old) (sym (from-base (needs_checkpoint s) (λ none. sure_of s none))) draws_then
+    with-apart = subst (ReadsApart c old) (sym (base-saved c f es added s own given first rest drive d.durable.sure saves)) draws_then
 
     all-within : All (ReadsApart c old) (own ∷ tried ∷ base ∷ with ∷ [])
     all-within =
         let P : Reading → Type 0 = ReadsApart c old in
         All-cons P own (tried ∷ base ∷ with ∷ []) d.own (All-cons P tried (base ∷ with ∷ []) d.tried (two P base with (base-apart (needs_checkpoint s)) with-apart))
 
-    saving-within : (answer : Saved) → All (ReadsApart c old) (within_saved c (needs_checkpoint s) own tried given (change, totals_with (point_of c f es).totals e) answer)
+    saving-within : (answer : Saved) → All (ReadsApart c old) (within_saved c (needs_checkpoint s) own tried given (first ∷ rest) answer)
     saving-within answers.Done = all-within
     saving-within (answers.Doubtful moment) = all-within
     saving-within (answers.Unsaved moment) = renewal-within true
 
-    saving-said : (now : JournalState) (new : List Cell) (answer : Saved) → SameDataPages c old new → SayAfterSaving c now new own tried given base (change, totals_with (point_of c f es).totals e) answer → AreSaidApart c now new
+    saving-said : (now : JournalState) (new : List Cell) (answer : Saved) → SameDataPages c old new → SayAfterSaving c now new own tried given base (first ∷ rest) answer → AreSaidApart c now new
     saving-said now new answers.Done same says = let there = reads-apart-in c old new with same with-apart in said-of c now new with with says there there
     saving-said now new (answers.Doubtful moment) same says =
         let P : Reading → Type 0 = ReadsApart c new in
@@ -161,21 +146,21 @@ module _ (c : DriveConfig) (f : Found) (es : List Entry) (firm : ℕ) (s now : J
   image-apart : (rs : List Reading) → All (ReadsApart c old.cells) rs → Holds (ReadsAsOneOf c old.cells rs) old new → (m : ℕ) (image : List Cell) → old.moment < m → m ≤ new.moment → new.during m image → StandsApart c f es (length es) image
   image-apart rs all held m image above most during = reads-stand-apart c f es old.cells image rs all (held.run.images h.told m image above most during) h.isolated
 
-  -- an entry is saved
-  module _ (e : Entry) (answer : Saved) (saved : SavesEntry c f es e s now old new answer) (draws_then : ReadsApart c old.cells (drawn c (point_of c f (es ++ e ∷ [])))) where
-    abbrev stopped : Holds (ReadsAsOneOf c old.cells (within_saved c (needs_checkpoint s) h.apart.durable.own h.apart.durable.tried saved.given (saved.change, totals_with (point_of c f es).totals e) answer)) old new
+  -- entries are saved
+  module _ (added : List Entry) (answer : Saved) (saved : SavesEntries c f es added s now old new answer) (draws_then : ReadsApart c old.cells (drawn c (point_of c f (es ++ added)))) where
+    abbrev stopped : Holds (ReadsAsOneOf c old.cells (within_saved c (needs_checkpoint s) h.apart.durable.own h.apart.durable.tried saved.given (saved.first ∷ saved.rest) answer)) old new
     stopped = saved.stops h.apart.durable.own h.apart.durable.tried (λ again. h.apart.durable.say) (λ again. h.apart.durable.sure)
 
     pub entry-said : AreSaidApart c now new.cells
     entry-said =
-        saving-said c f es firm s t old.cells saved.given saved.drive h.apart h.draws e saved.change saved.saves draws_then now new.cells answer (stopped.cells h.told).data_pages_same
+        saving-said c f es firm s t old.cells saved.given saved.drive h.apart h.draws added saved.first saved.rest saved.saves draws_then now new.cells answer (stopped.cells h.told).data_pages_same
         (saved.said h.apart.durable.own h.apart.durable.tried h.told h.apart.durable.say h.apart.durable.sure)
 
     pub entry-image : (m : ℕ) (image : List Cell) → old.moment < m → m ≤ new.moment → new.during m image → StandsApart c f es (length es) image
-    entry-image = image-apart _ (saving-within c f es firm s t old.cells saved.given saved.drive h.apart h.draws e saved.change saved.saves draws_then answer) stopped
+    entry-image = image-apart _ (saving-within c f es firm s t old.cells saved.given saved.drive h.apart h.draws added saved.first saved.rest saved.saves draws_then answer) stopped
 
-  -- an entry is not saved
-  module _ (e : Entry) (moment : ℕ) (saved : SavesEntry c f es e s now old new (answers.Unsaved moment)) where
+  -- entries are not saved
+  module _ (added : List Entry) (moment : ℕ) (saved : SavesEntries c f es added s now old new (answers.Unsaved moment)) where
     pub unsaved-said : AreSaidApart c now new.cells
     unsaved-said =
         failed-said c f es firm s t old.cells saved.given saved.drive h.apart h.draws now new.cells

@@ -30,7 +30,7 @@ use Rattle.fdp_durability.specs.fdp_collector.Leaving.{StepMayLeave}
 use Rattle.fdp_durability.specs.Beginnings.{CanBeSaved}
 use Rattle.fdp_durability.specs.Durable.{IsDurable, UnitsMoveOn}
 use Rattle.fdp_durability.specs.Firm.{completes}
-use Rattle.fdp_durability.specs.Saved.{SavesDrive, SavesEntry, SettlesDrive, firm_renewed, firm_with, with_saved}
+use Rattle.fdp_durability.specs.Saved.{SavesDrive, SavesEntries, SettlesDrive, firm_renewed, firm_with, with_saved}
 use Rattle.fdp_durability.proofs.Beginnings.{can-in}
 use Rattle.fdp_durability.proofs.Durable.{durable-stands}
 use Rattle.fdp_durability.proofs.Owed.{run-kept}
@@ -344,7 +344,7 @@ before b t s firm old can isolated was told opened = before-saving b.config b.fo
 
 -- one that goes on with an entry that is saved: before the saving, and with the entry
 module _ (b new : BookSeen) (e : Entry) (s now : JournalState) (firm : ℕ) (old behind : FlashState) (answer : Saved) (order : IsInOrder b) (geometry : old.geometry ≡ geometry_of b.config) (stored : HoldsBook b old) (isolated_before : KeepsIsolated old b) (was : IsSafe b s firm old)
-    (saved : SavesEntry b.config b.found b.entries e s now old behind answer) (then_order : IsInOrder new) (longer : IsLonger b new (e ∷ [])) (go : GoOn b.pages.units new.pages.units) (then_stored : HoldsBook new behind) (then_isolated : KeepsIsolated behind new) where
+    (saved : SavesEntries b.config b.found b.entries (e ∷ []) s now old behind answer) (then_order : IsInOrder new) (longer : IsLonger b new (e ∷ [])) (go : GoOn b.pages.units new.pages.units) (then_stored : HoldsBook new behind) (then_isolated : KeepsIsolated behind new) where
   moved-on : IsSafeApart b.config b.found b.opened b.entries new.pages.units s firm old
   moved-on = record { at = safe-moved b.config b.found b.entries b.pages.units new.pages.units s firm old (moves b s new.pages.units go) was.at; apart = was.apart }
 
@@ -375,13 +375,13 @@ module _ (b new : BookSeen) (e : Entry) (s now : JournalState) (firm : ℕ) (old
   known-before = before b new.pages.units s firm old can-before isolated_before moved-on
 
   -- the entry was made
-  pub safe-saved : (answer ≢ answers.Done → IsFalse (completes e)) → IsSafe new now (firm_with b.entries e firm answer) behind
+  pub safe-saved : (answer ≢ answers.Done → IsFalse (completes e)) → IsSafe new now (firm_with b.entries (e ∷ []) firm answer) behind
   safe-saved none =
-      of-book b new (e ∷ []) new.pages.units now (firm_with b.entries e firm answer) behind longer (record {
+      of-book b new (e ∷ []) new.pages.units now (firm_with b.entries (e ∷ []) firm answer) behind longer (record {
         at = safe-made b.config b.found b.entries e new.pages.units s now firm old behind moved-on.at can-before can-behind answer saved none;
         apart = λ told opened.
             let told_before : IsTrue old.told = subst IsTrue saved.calls.made.run.told told in
-            entry-said b.config b.found b.entries firm s now new.pages.units old behind (known-before told_before opened) e answer saved (draws-behind told_before opened);
+            entry-said b.config b.found b.entries firm s now new.pages.units old behind (known-before told_before opened) (e ∷ []) answer saved (draws-behind told_before opened);
       })
 
   pub survives-saved : Survives new firm (length b.entries) old behind
@@ -391,9 +391,9 @@ module _ (b new : BookSeen) (e : Entry) (s now : JournalState) (firm : ℕ) (old
       (with-entry answer (survives-saving b.config b.found b.entries e new.pages.units s now firm old behind moved-on.at can-before can-behind answer saved))
       (λ told opened m image above most during.
       grown-apart b.config b.found b.entries (e ∷ []) (length b.entries) image
-      (entry-image b.config b.found b.entries firm s now new.pages.units old behind (known-before told opened) e answer saved (draws-behind told opened) m image above most during)))
+      (entry-image b.config b.found b.entries firm s now new.pages.units old behind (known-before told opened) (e ∷ []) answer saved (draws-behind told opened) m image above most during)))
     where
-      with-entry : (x : Saved) → Runs old behind (λ m image. StandsForBeginning b.config b.found (with_saved b.entries e x) firm image) → Runs old behind (λ m image. StandsForBeginning b.config b.found (b.entries ++ e ∷ []) firm image)
+      with-entry : (x : Saved) → Runs old behind (λ m image. StandsForBeginning b.config b.found (with_saved b.entries (e ∷ []) x) firm image) → Runs old behind (λ m image. StandsForBeginning b.config b.found (b.entries ++ e ∷ []) firm image)
       with-entry answers.Done run = run
       with-entry (answers.Doubtful moment) run = run
       with-entry (answers.Unsaved moment) run = survives-on b.config b.found b.entries (e ∷ []) firm old behind run
@@ -409,20 +409,20 @@ safe-unmoved b new rg s firm now order step none was =
 
 -- a write that was not saved is not made
 module _ (b : BookSeen) (e : Entry) (s now : JournalState) (firm : ℕ) (old behind : FlashState) (moment : ℕ) (order : IsInOrder b) (geometry : old.geometry ≡ geometry_of b.config) (stored : HoldsBook b old) (isolated_before : KeepsIsolated old b) (was : IsSafe b s firm old)
-    (saved : SavesEntry b.config b.found b.entries e s now old behind (answers.Unsaved moment)) where
+    (saved : SavesEntries b.config b.found b.entries (e ∷ []) s now old behind (answers.Unsaved moment)) where
   known-here : IsTrue old.told → OpenedApart b.config b.found b.opened → IsBefore b.config b.found b.entries firm s b.pages.units old
   known-here = before b b.pages.units s firm old (can-book b old order geometry stored) isolated_before was
 
   pub safe-not-saved : IsSafe b now firm behind
   safe-not-saved = record {
     at = safe-unsaved b.config b.found b.entries e b.pages.units s now firm old behind moment was.at (can-book b old order geometry stored) saved;
-    apart = λ told opened. unsaved-said b.config b.found b.entries firm s now b.pages.units old behind (known-here (subst IsTrue saved.calls.made.run.told told) opened) e moment saved;
+    apart = λ told opened. unsaved-said b.config b.found b.entries firm s now b.pages.units old behind (known-here (subst IsTrue saved.calls.made.run.told told) opened) (e ∷ []) moment saved;
   }
 
   pub survives-not-saved : Survives b firm (length b.entries) old behind
   survives-not-saved =
       run-safe b.config b.found b.opened b.entries firm (length b.entries) old behind (survives-unsaved b.config b.found b.entries e b.pages.units s now firm old behind moment was.at (can-book b old order geometry stored) saved)
-      (λ told opened. unsaved-image b.config b.found b.entries firm s now b.pages.units old behind (known-here told opened) e moment saved)
+      (λ told opened. unsaved-image b.config b.found b.entries firm s now b.pages.units old behind (known-here told opened) (e ∷ []) moment saved)
 
 -- ---- a handle that is shut, and its write that ends
 
@@ -436,7 +436,7 @@ can-failed b ticket g spot spare bytes old now order geometry stored goes same l
     (subst (λ (x : Geometry). ProgramMayLeave x old.cells spot spare bytes now.cells) geometry (left told)) (can-book b old order geometry stored told)
 
 module _ (b new : BookSeen) (ticket : Ticket) (g : Going) (spot : Spot) (status : Status) (moment : ℕ) (done : Done) (s now : JournalState) (firm : ℕ) (old behind : FlashState) (answer : Saved) (order : IsInOrder b) (can : IsTrue old.told → CanBeSaved b.config (point_in b) b.pages.units old.cells)
-    (isolated_before : KeepsIsolated old b) (was : IsSafe b s firm old) (saved : SavesEntry b.config b.found b.entries (entries.Shut (record { rg = g.rg; ruh = g.ruh })) s now old behind answer) (shuts : ShutsAndEnds b new ticket g spot status moment done) where
+    (isolated_before : KeepsIsolated old b) (was : IsSafe b s firm old) (saved : SavesEntries b.config b.found b.entries (entries.Shut (record { rg = g.rg; ruh = g.ruh }) ∷ []) s now old behind answer) (shuts : ShutsAndEnds b new ticket g spot status moment done) where
   abbrev shut : Entry
   shut = entries.Shut (record { rg = g.rg; ruh = g.ruh })
 
@@ -469,19 +469,19 @@ module _ (b new : BookSeen) (ticket : Ticket) (g : Going) (spot : Spot) (status 
   draws-there told opened = subst (λ (p : Point). ReadsApart b.config old.cells (drawn b.config p)) (sym pushed) (shut-reads b.config (point_in b) old.cells g.rg g.ruh (known-shut told opened).draws)
 
   -- both entries were made
-  pub safe-shut : IsFalse (is_completed g.command (bare status false)) → IsSafe new now (firm_with b.entries shut firm answer) behind
+  pub safe-shut : IsFalse (is_completed g.command (bare status false)) → IsSafe new now (firm_with b.entries (shut ∷ []) firm answer) behind
   safe-shut failed =
       let made = safe-made b.config b.found b.entries shut new.pages.units s now firm old behind shut-on.at can-here can-there answer saved (λ ne. refl) in
       let orderly = orderly-next true b.config (point_in b) shut order.known.config order.known.orderly (shuts.follows true) in
       let standing = standing-next true b.config (point_in b) shut order.known.orderly order.standing (shuts.follows true) in
       let both =
-      safe-still b.config b.found (b.entries ++ shut ∷ []) ended new.pages.units now (firm_with b.entries shut firm answer) behind refl failed (subst (IsOrderly b.config) (sym pushed) orderly) (subst (IsStanding b.config) (sym pushed) standing)
+      safe-still b.config b.found (b.entries ++ shut ∷ []) ended new.pages.units now (firm_with b.entries (shut ∷ []) firm answer) behind refl failed (subst (IsOrderly b.config) (sym pushed) orderly) (subst (IsStanding b.config) (sym pushed) standing)
       (λ wrong. absurd cc) made in
-      of-book b new (shut ∷ ended ∷ []) new.pages.units now (firm_with b.entries shut firm answer) behind shuts.completes.step (record {
-        at = subst (λ (xs : List Entry). IsSafeAt b.config b.found xs new.pages.units now (firm_with b.entries shut firm answer) behind) (append_assoc b.entries (shut ∷ []) (ended ∷ [])) both;
+      of-book b new (shut ∷ ended ∷ []) new.pages.units now (firm_with b.entries (shut ∷ []) firm answer) behind shuts.completes.step (record {
+        at = subst (λ (xs : List Entry). IsSafeAt b.config b.found xs new.pages.units now (firm_with b.entries (shut ∷ []) firm answer) behind) (append_assoc b.entries (shut ∷ []) (ended ∷ [])) both;
         apart = λ told opened.
             let told_before : IsTrue old.told = subst IsTrue saved.calls.made.run.told told in
-            entry-said b.config b.found b.entries firm s now new.pages.units old behind (known-shut told_before opened) shut answer saved (draws-there told_before opened);
+            entry-said b.config b.found b.entries firm s now new.pages.units old behind (known-shut told_before opened) (shut ∷ []) answer saved (draws-there told_before opened);
       })
 
   pub survives-shut : Survives new firm (length b.entries) old behind
@@ -491,9 +491,9 @@ module _ (b new : BookSeen) (ticket : Ticket) (g : Going) (spot : Spot) (status 
       (longer-run answer (survives-saving b.config b.found b.entries shut new.pages.units s now firm old behind shut-on.at can-here can-there answer saved))
       (λ told opened m image above most during.
       grown-apart b.config b.found b.entries (shut ∷ ended ∷ []) (length b.entries) image
-      (entry-image b.config b.found b.entries firm s now new.pages.units old behind (known-shut told opened) shut answer saved (draws-there told opened) m image above most during)))
+      (entry-image b.config b.found b.entries firm s now new.pages.units old behind (known-shut told opened) (shut ∷ []) answer saved (draws-there told opened) m image above most during)))
     where
-      longer-run : (x : Saved) → Runs old behind (λ m image. StandsForBeginning b.config b.found (with_saved b.entries shut x) firm image) → Runs old behind (λ m image. StandsForBeginning b.config b.found (b.entries ++ shut ∷ ended ∷ []) firm image)
+      longer-run : (x : Saved) → Runs old behind (λ m image. StandsForBeginning b.config b.found (with_saved b.entries (shut ∷ []) x) firm image) → Runs old behind (λ m image. StandsForBeginning b.config b.found (b.entries ++ shut ∷ ended ∷ []) firm image)
       longer-run answers.Done run =
           subst (λ (xs : List Entry). Runs old behind (λ m image. StandsForBeginning b.config b.found xs firm image)) (append_assoc b.entries (shut ∷ []) (ended ∷ [])) (survives-on b.config b.found (b.entries ++ shut ∷ []) (ended ∷ []) firm old behind run)
       longer-run (answers.Doubtful at) run =

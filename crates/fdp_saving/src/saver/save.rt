@@ -1,10 +1,10 @@
-ghost use Rattle.std.specs.Prelude.{◌≡◌, ◌+◌, ◌<◌, ◌^◌, suc, IsTrue, false};
+ghost use Rattle.std.specs.Prelude.{◌≡◌, ◌+◌, ◌<◌, ◌^◌, ◌∷◌, [], suc, IsTrue, false};
 ghost use Rattle.fdp_base.specs.Geometry.{area_pages};
 ghost use Rattle.fdp_base.specs.Placement.{geometry_of};
 ghost use Rattle.fdp_base.specs.declared.config.DriveConfig.{DriveConfig};
 ghost use Rattle.fdp_checkpoint.specs.Writing.{with_pages};
 ghost use Rattle.fdp_flash.specs.Runs.{Holds};
-ghost use Rattle.fdp_image.specs.Fits.{fits};
+ghost use Rattle.fdp_image.specs.Fits.{all_fit, fits};
 ghost use Rattle.fdp_image.specs.Reading.{Reading};
 ghost use Rattle.fdp_image.specs.Reads.{reads_as};
 ghost use Rattle.fdp_image.specs.Replacing.{pages_for};
@@ -48,8 +48,8 @@ impl Saver {
         requires saver { IsTrue (F.state flash.old).told → IsSaverIn (F.state flash.old).cells self.old }
         ensures saver { self.new ≡ after_saving self.old summary.now result }
         ensures stands { IsTrue (F.state flash.old).told → IsSaverIn (F.state flash.new).cells self.new }
-        ensures stops { (c : DriveConfig) (own tried : Reading) → IsOfDrive c self.old (with_pages summary.now pages.now) → (IsTrue (F.state flash.old).told → AreasSay c self.old (F.state flash.old).cells own tried) → (IsTrue (F.state flash.old).told → IsTrue (fits c (base_of (needs_checkpoint self.old) own (with_pages summary.now pages.now)) (change_of change.entry, totals.now))) → Holds (ReadsAsOneOf c (F.state flash.old).cells (within_saved c (needs_checkpoint self.old) own tried (with_pages summary.now pages.now) (change_of change.entry, totals.now) result)) (F.state flash.old) (F.state flash.new) }
-        ensures said { (c : DriveConfig) (own tried : Reading) → IsOfDrive c self.old (with_pages summary.now pages.now) → IsTrue (F.state flash.old).told → AreasSay c self.old (F.state flash.old).cells own tried → IsTrue (fits c (base_of (needs_checkpoint self.old) own (with_pages summary.now pages.now)) (change_of change.entry, totals.now)) → SayAfterSaving c self.new (F.state flash.new).cells own tried (with_pages summary.now pages.now) (base_of (needs_checkpoint self.old) own (with_pages summary.now pages.now)) (change_of change.entry, totals.now) result }
+        ensures stops { (c : DriveConfig) (own tried : Reading) → IsOfDrive c self.old (with_pages summary.now pages.now) → (IsTrue (F.state flash.old).told → AreasSay c self.old (F.state flash.old).cells own tried) → (IsTrue (F.state flash.old).told → IsTrue (all_fit fits c (base_of (needs_checkpoint self.old) own (with_pages summary.now pages.now)) ((change_of change.entry, totals.now) ∷ []))) → Holds (ReadsAsOneOf c (F.state flash.old).cells (within_saved c (needs_checkpoint self.old) own tried (with_pages summary.now pages.now) ((change_of change.entry, totals.now) ∷ []) result)) (F.state flash.old) (F.state flash.new) }
+        ensures said { (c : DriveConfig) (own tried : Reading) → IsOfDrive c self.old (with_pages summary.now pages.now) → IsTrue (F.state flash.old).told → AreasSay c self.old (F.state flash.old).cells own tried → IsTrue (all_fit fits c (base_of (needs_checkpoint self.old) own (with_pages summary.now pages.now)) ((change_of change.entry, totals.now) ∷ [])) → SayAfterSaving c self.new (F.state flash.new).cells own tried (with_pages summary.now pages.now) (base_of (needs_checkpoint self.old) own (with_pages summary.now pages.now)) ((change_of change.entry, totals.now) ∷ []) result }
         ensures calls { MakesSystemCalls (F.state flash.old) (F.state flash.new) (AreCallsOfSaving self.old summary.now result) }
         ensures ends { EndsSaving (F.state flash.old) (F.state flash.new) result }
     {
@@ -75,8 +75,8 @@ impl Saver {
         requires saver { IsTrue (F.state flash.old).told → IsSaverIn (F.state flash.old).cells self.old }
         ensures saver { self.new ≡ after_append self.old result }
         ensures stands { IsTrue (F.state flash.old).told → IsSaverIn (F.state flash.new).cells self.new }
-        ensures stops { (c : DriveConfig) (own : Reading) → geometry_of c ≡ self.old.geometry → (IsTrue (F.state flash.old).told → reads_as c (F.state flash.old).cells ≡ Some own) → (IsTrue (F.state flash.old).told → IsTrue (fits c own (change_of change.entry, totals.now))) → Holds (ReadsAsOneOf c (F.state flash.old).cells (within_append c own (change_of change.entry, totals.now))) (F.state flash.old) (F.state flash.new) }
-        ensures said { (c : DriveConfig) (own : Reading) → geometry_of c ≡ self.old.geometry → IsTrue (F.state flash.old).told → reads_as c (F.state flash.old).cells ≡ Some own → IsTrue (fits c own (change_of change.entry, totals.now)) → SayAfterAppend c self.new (F.state flash.new).cells own (change_of change.entry, totals.now) result }
+        ensures stops { (c : DriveConfig) (own : Reading) → geometry_of c ≡ self.old.geometry → (IsTrue (F.state flash.old).told → reads_as c (F.state flash.old).cells ≡ Some own) → (IsTrue (F.state flash.old).told → IsTrue (all_fit fits c own ((change_of change.entry, totals.now) ∷ []))) → Holds (ReadsAsOneOf c (F.state flash.old).cells (within_append c own ((change_of change.entry, totals.now) ∷ []))) (F.state flash.old) (F.state flash.new) }
+        ensures said { (c : DriveConfig) (own : Reading) → geometry_of c ≡ self.old.geometry → IsTrue (F.state flash.old).told → reads_as c (F.state flash.old).cells ≡ Some own → IsTrue (all_fit fits c own ((change_of change.entry, totals.now) ∷ [])) → SayAfterAppend c self.new (F.state flash.new).cells own ((change_of change.entry, totals.now) ∷ []) result }
         ensures calls { MakesSystemCalls (F.state flash.old) (F.state flash.new) (AreCallsOfAppend self.old result) }
         ensures ends { EndsCheckpoint (F.state flash.old) (F.state flash.new) result }
     {

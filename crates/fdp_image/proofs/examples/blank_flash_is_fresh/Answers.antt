@@ -21,9 +21,9 @@ use Rattle.fdp_image.specs.Outline.{state_with}
 use Rattle.fdp_image.specs.Reading.{blocks_on}
 use Rattle.fdp_image.specs.BadFields.{bad_field, bad_row, bad_space}
 use Rattle.fdp_image.specs.Fits.{all_fit, names_what_is}
-use Rattle.fdp_image.specs.Reads.{all_of, changes_in, fresh_reading, is_checkpoint_of, is_sound_checkpoint, reads_as, said_after, said_by_area, said_by_current}
+use Rattle.fdp_image.specs.Reads.{changes_in, fresh_reading, is_checkpoint_of, is_sound_checkpoint, reads_as, said_after, said_by_area, said_by_current, told_by}
 use Rattle.fdp_image.proofs.examples.blank_flash_is_fresh.Goals as goal
 
 pub returns : goal.returns
-unfolding decoded decoded_as change_in items record_of placed is_within_limits numbers_from has_repeat data_spare said_by_data said_by_system system_spare namespace_ids applied area_of current_area leading page_bytes sealed_behind sealed_by sealed_in events_of_change kept_of_change reading_of_state said_by_checkpoint checkpoint_size is_checkpoint fixed_of blocks_in page_lists state_in summary_in space_bytes same_keys pieces state_with blocks_on all_of changes_in fresh_reading is_checkpoint_of is_sound_checkpoint said_after all_fit names_what_is bad_field bad_row bad_space reads_as said_by_area said_by_current
+unfolding decoded decoded_as change_in items record_of placed is_within_limits numbers_from has_repeat data_spare said_by_data said_by_system system_spare namespace_ids applied area_of current_area leading page_bytes sealed_behind sealed_by sealed_in events_of_change kept_of_change reading_of_state said_by_checkpoint checkpoint_size is_checkpoint fixed_of blocks_in page_lists state_in summary_in space_bytes same_keys pieces state_with blocks_on changes_in told_by fresh_reading is_checkpoint_of is_sound_checkpoint said_after all_fit names_what_is bad_field bad_row bad_space reads_as said_by_area said_by_current
 returns c = refl

@@ -1,5 +1,6 @@
-use Rattle.std.proofs.Common.{IsTrue, sym, subst}
+use Rattle.std.proofs.Common.{◌∷◌, [], IsTrue, sym, subst}
 use Rattle.fdp_checkpoint.specs.Writing.{with_pages}
+use Rattle.fdp_records.specs.Borrowed.{change_of}
 use Rattle.fdp_saving.specs.Saver.{needs_checkpoint}
 use Rattle.fdp_saving.specs.Saving.{base_of}
 use Rattle.fdp_saving.proofs.Joined.{doubtful_calls, readied, ready_at, ready_read, saved_calls, saving_stops, unsaved_stops}
@@ -15,7 +16,7 @@ returns-in-Done-append-clause-stops g c d own tried drive says fit =
     let ready =
     readied d s c.make_ready.new.self c.args.summary.now base a b c.in-Done.ensures.saver drive.geometry c.in-Done.ensures.calls.made.run.told c.in-Done.ensures.stands
     (λ told. c.in-Done.ensures.said d own tried drive told (says told)) in
-    saving_stops d (needs_checkpoint s) own tried given _ a b _ (c.in-Done.ensures.stops d own tried drive says)
+    saving_stops d (needs_checkpoint s) own tried given ((change_of c.args.change, c.args.totals.now) ∷ []) a b _ (c.in-Done.ensures.stops d own tried drive says)
     (c.in-Done-append.ensures.stops d base (ready_at d s _ _ base b ready) (λ told. ready_read d s _ _ base b ready told) (λ told. fit (subst IsTrue c.in-Done.ensures.calls.made.run.told told)))
 
 pub returns-in-Done-append-clause-said : goal.returns-in-Done-append-clause-said
@@ -45,7 +46,7 @@ returns-in-Failed-append-clause-stops g c d own tried drive says fit =
     let ready =
     readied d s c.make_ready.new.self c.args.summary.now base a b c.in-Done.ensures.saver drive.geometry c.in-Done.ensures.calls.made.run.told c.in-Done.ensures.stands
     (λ told. c.in-Done.ensures.said d own tried drive told (says told)) in
-    saving_stops d (needs_checkpoint s) own tried given _ a b _ (c.in-Done.ensures.stops d own tried drive says)
+    saving_stops d (needs_checkpoint s) own tried given ((change_of c.args.change, c.args.totals.now) ∷ []) a b _ (c.in-Done.ensures.stops d own tried drive says)
     (c.in-Failed-append.ensures.stops d base (ready_at d s _ _ base b ready) (λ told. ready_read d s _ _ base b ready told) (λ told. fit (subst IsTrue c.in-Done.ensures.calls.made.run.told told)))
 
 pub returns-in-Failed-append-clause-said : goal.returns-in-Failed-append-clause-said
