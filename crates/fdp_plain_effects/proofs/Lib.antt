@@ -1,4 +1,3 @@
-pub mod Clearing
 pub mod Completing
 pub mod Features
 pub mod Putting

@@ -6,8 +6,8 @@ use Rattle.fdp_base.specs.Numbers.{is_among}
 use Rattle.fdp_base.specs.declared.command.Range.{Range}
 use Rattle.fdp_rules.specs.Effect.{is_in_ranges}
 use Rattle.fdp_tables.specs.State.{row}
-use Rattle.fdp_plain_effects.specs.Clearing.{IsCleared}
-use Rattle.fdp_plain_effects.proofs.Clearing.{cleared_same}
+use Rattle.fdp_tables.specs.Clearing.{IsCleared}
+use Rattle.fdp_tables.proofs.Clearing.{cleared_same}
 
 -- ranges hold each address from one up to an end, or, where that end is the address, none up to another end
 pub record AreCovered (ranges : List Range) (lba held next : ℕ) : Type 0 where

@@ -11,13 +11,13 @@ use crate::again::begin_again;
 use crate::completed::complete;
 use crate::entries::{change_placed, erase, retire, shut_handle, start, wear};
 use fdp_base::Entry;
-use fdp_tables::{Kept, KeptBlock, KeptGoing, Space};
+use fdp_tables::{Kept, KeptGoing, MadeBlock, Space};
 
 /// What an entry needs memory for, made before anything changes.
 #[derive(Debug, Drop)]
 pub struct Made {
     /// The blocks of a write that takes effect.
-    pub blocks: Vec<Option<KeptBlock>>,
+    pub blocks: Vec<Option<MadeBlock>>,
     /// A namespace that is created.
     pub space: Option<Space>,
     /// A write that is let go.

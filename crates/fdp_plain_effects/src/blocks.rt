@@ -1,6 +1,5 @@
 ghost use Rattle.fdp_base.specs.Numbers.{is_among, with_at};
 ghost use Rattle.fdp_base.specs.declared.command.Command.TheVariants as commands;
-ghost use Rattle.fdp_plain_effects.specs.Clearing.{IsCleared};
 ghost use Rattle.fdp_rules.specs.Effect.{effect_of, is_in_ranges, without_blocks};
 ghost use Rattle.fdp_tables.specs.Spaces.{block_in};
 ghost use Rattle.fdp_tables.specs.State.{namespace_of, plain_of, row};
@@ -81,7 +80,7 @@ fn clear_space(space: &mut Option<Space>, ranges: &[Range])
     }
 }
 
-/// The blocks in these ranges become absent. It looks at each of them once, however the ranges overlap.
+/// The blocks in these ranges become absent. It looks at each of them at most once, however the ranges overlap.
 fn clear_blocks(blocks: &mut Blocks, ranges: &[Range])
     ensures size { length blocks.new ≡ length blocks.old }
     ensures rows { (lba : ℕ) → row blocks.new lba ≡ (if is_in_ranges ranges.now lba then None else row blocks.old lba) }
@@ -91,7 +90,7 @@ fn clear_blocks(blocks: &mut Blocks, ranges: &[Range])
     while lba < size {
         let stretch = stretch_from(ranges, lba);
         if stretch.held {
-            clear_range(blocks, lba, stretch.end - lba);
+            blocks.clear(lba, stretch.end - lba);
         }
         lba = stretch.end;
     }
@@ -130,26 +129,5 @@ fn stretch_from(ranges: &[Range], lba: u64) -> Stretch
             held: false,
             end: next,
         }
-    }
-}
-
-/// So many blocks from an address on become absent, as far as there are places for them.
-fn clear_range(blocks: &mut Blocks, slba: u64, count: u64)
-    ensures size { length blocks.new ≡ length blocks.old }
-    ensures rows { (lba : ℕ) → row blocks.new lba ≡ (if is_among slba count lba then None else row blocks.old lba) }
-{
-    let end = slba.saturating_add(count).min(blocks.len() as u64);
-    for lba in slba..end {
-        clear_block(blocks, lba);
-    }
-}
-
-/// A block becomes absent, if there is one at its place.
-fn clear_block(blocks: &mut Blocks, place: u64)
-    requires { place < length blocks.old }
-    ensures { IsCleared (λ lba. lba == place) blocks.old blocks.new }
-{
-    if blocks.get(place).is_some() {
-        blocks.put(place as usize, None);
     }
 }

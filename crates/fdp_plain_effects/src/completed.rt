@@ -17,7 +17,7 @@ use crate::going::set_going;
 use crate::update::update_handles;
 use crate::write::write_blocks;
 use fdp_base::{Command, Create, Reply, Status};
-use fdp_tables::{Kept, KeptBlock, Space, is_write};
+use fdp_tables::{Kept, MadeBlock, Space, is_write};
 
 /// What a completed command leaves: its change where that is made, no write going in its queue after a write, and the
 /// moment of a media error.
@@ -27,7 +27,7 @@ pub(crate) fn complete(
     command: &Command,
     reply: &Reply,
     moment: u64,
-    blocks: Vec<Option<KeptBlock>>,
+    blocks: Vec<Option<MadeBlock>>,
     space: Option<Space>,
 )
     requires sound { IsSound kept.old }
@@ -49,7 +49,7 @@ fn change_if(
     applied: bool,
     queue: u8,
     command: &Command,
-    blocks: Vec<Option<KeptBlock>>,
+    blocks: Vec<Option<MadeBlock>>,
     space: Option<Space>,
 )
     requires sound { IsSound kept.old }
@@ -93,7 +93,7 @@ fn take_effect(
     kept: &mut Kept,
     queue: u8,
     command: &Command,
-    blocks: Vec<Option<KeptBlock>>,
+    blocks: Vec<Option<MadeBlock>>,
     space: Option<Space>,
 )
     requires sound { IsSound kept.old }

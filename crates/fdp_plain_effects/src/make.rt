@@ -7,7 +7,7 @@ ghost use Rattle.std.specs.Prelude.{◌≡◌, IfOk};
 use crate::write::make_blocks;
 use fdp_base::{Command, HandleList};
 use fdp_commands::roomiest;
-use fdp_tables::{KeptBlock, KeptGoing, Space, Standing, make_space};
+use fdp_tables::{KeptGoing, MadeBlock, Space, Standing, make_space};
 use std::alloc::{AllocError, Global};
 
 /// The write that a Started entry lets go. It looks at each block of each namespace for the roomiest group.
@@ -50,7 +50,7 @@ pub fn make_blocks_of(
     alloc: Global,
     queue: u8,
     command: &Command,
-) -> Result<Vec<Option<KeptBlock>>, AllocError>
+) -> Result<Vec<Option<MadeBlock>>, AllocError>
     requires formed { IsWellFormed kept.now.config command.now }
     ensures { IfOk result (λ blocks. AreBlocksOf kept.now queue command.now blocks.items) }
 {

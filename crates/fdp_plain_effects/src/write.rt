@@ -10,11 +10,11 @@ ghost use Rattle.fdp_tables.specs.State.{block_of, going_of, namespace_of, plain
 ghost use Rattle.std.specs.Prelude.{◌≡◌, ℕ, ◌+◌, ◌-◌, ◌%◌, ◌<◌, ◌≤◌, if◌then◌else◌, ◌==◌, ◌&&◌, Some, length, option_map, IfOk};
 
 use fdp_base::{Bytes, Payload};
-use fdp_tables::{Blocks, Kept, KeptBlock, KeptGoing, KeptPage, Space};
+use fdp_tables::{Blocks, Kept, KeptBlock, KeptGoing, KeptPage, MadeBlock, Space};
 use std::alloc::{AllocError, Global};
 
 /// The blocks of a write, which were made before, stand in the namespace from an address on.
-fn put(kept: &mut Kept, nsid: u32, slba: usize, made: Vec<Option<KeptBlock>>)
+fn put(kept: &mut Kept, nsid: u32, slba: usize, made: Vec<Option<MadeBlock>>)
     requires there { nsid < length kept.old.spaces.items }
     requires room { slba + length made.items ≤ size_of (plain_of kept.old) nsid }
     ensures state { plain_of kept.new ≡ record (plain_of kept.old) { blocks = λ n lba. if n == nsid && is_among slba (length made.items) lba then option_map block_of (row made.items (lba - slba)) else (plain_of kept.old).blocks n lba } }
@@ -25,7 +25,7 @@ fn put(kept: &mut Kept, nsid: u32, slba: usize, made: Vec<Option<KeptBlock>>)
 }
 
 /// The blocks of the write that is going in a queue, which were made before, stand in the namespace.
-pub(crate) fn write_blocks(kept: &mut Kept, nsid: u32, slba: u64, made: Vec<Option<KeptBlock>>)
+pub(crate) fn write_blocks(kept: &mut Kept, nsid: u32, slba: u64, made: Vec<Option<MadeBlock>>)
     requires there { nsid < length kept.old.spaces.items }
     requires room { slba + length made.items ≤ size_of (plain_of kept.old) nsid }
     ensures state { (queue dtype dspec count : ℕ) (payload : Payload) (g : Going) → (plain_of kept.old).going queue ≡ Some g → AreMade kept.old.config.block payload g count made.items → plain_of kept.new ≡ effect_of kept.old.config (plain_of kept.old) queue (commands.Write (record { nsid = nsid; slba = slba; count = count; dtype = dtype; dspec = dspec; payload = payload })) }
@@ -35,7 +35,7 @@ pub(crate) fn write_blocks(kept: &mut Kept, nsid: u32, slba: u64, made: Vec<Opti
     put(kept, nsid, slba as usize, made);
 }
 
-fn put_in_space(space: &mut Option<Space>, slba: usize, made: Vec<Option<KeptBlock>>)
+fn put_in_space(space: &mut Option<Space>, slba: usize, made: Vec<Option<MadeBlock>>)
     requires { slba + length made.items ≤ size_in space.old }
     ensures namespace { option_map namespace_of space.new ≡ option_map namespace_of space.old }
     ensures blocks { (lba : ℕ) → block_in space.new lba ≡ (if is_among slba (length made.items) lba then option_map block_of (row made.items (lba - slba)) else block_in space.old lba) }
@@ -47,7 +47,7 @@ fn put_in_space(space: &mut Option<Space>, slba: usize, made: Vec<Option<KeptBlo
 
 /// The blocks that were made stand from an address on.
 #[tactic(auto, using(crate::proofs::Putting::putting_start, crate::proofs::Putting::putting_next, crate::proofs::Putting::putting_end))]
-fn put_blocks(blocks: &mut Blocks, slba: usize, mut made: Vec<Option<KeptBlock>>)
+fn put_blocks(blocks: &mut Blocks, slba: usize, mut made: Vec<Option<MadeBlock>>)
     requires { slba + length made.items ≤ length blocks.old }
     ensures size { length blocks.new ≡ length blocks.old }
     ensures rows { (lba : ℕ) → row blocks.new lba ≡ (if is_among slba (length made.items) lba then row made.items (lba - slba) else row blocks.old lba) }
@@ -66,7 +66,7 @@ pub(crate) fn make_blocks(
     payload: &Payload,
     count: u32,
     going: &KeptGoing,
-) -> Result<Vec<Option<KeptBlock>>, AllocError>
+) -> Result<Vec<Option<MadeBlock>>, AllocError>
     requires whole { block % 4 ≡ 0 }
     requires bytes { (index : ℕ) → index < count → HasBlock block payload.now index }
     ensures { IfOk result (λ made. AreMade block payload.now (going_of going.now) count made.items) }
@@ -85,22 +85,25 @@ fn make_block(
     payload: &Payload,
     index: u32,
     going: &KeptGoing,
-) -> Result<KeptBlock, AllocError>
+) -> Result<MadeBlock, AllocError>
     requires whole { block % 4 ≡ 0 }
     requires bytes { HasBlock block payload.now index }
     ensures { IfOk result (λ made. block_of made ≡ written_block block payload.now (going_of going.now) index) }
 {
     let mut bytes = zeros(alloc, block)?;
     payload.fill(index, bytes.as_mut_slice());
-    Ok(KeptBlock {
-        bytes: Bytes::from_vec(bytes),
-        rg: going.rg,
-        ruh: going.ruh,
-        page: KeptPage::Written {
-            ticket: going.ticket,
-            index,
+    MadeBlock::new(
+        alloc,
+        KeptBlock {
+            bytes: Bytes::from_vec(bytes),
+            rg: going.rg,
+            ruh: going.ruh,
+            page: KeptPage::Written {
+                ticket: going.ticket,
+                index,
+            },
         },
-    })
+    )
 }
 
 fn zeros(alloc: Global, block: u32) -> Result<Vec<u8>, AllocError>

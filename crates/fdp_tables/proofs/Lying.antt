@@ -5,7 +5,7 @@ use Rattle.std.proofs.lemmas.Bool.{cases_lt}
 use Rattle.std.proofs.lemmas.Bool.Decides.{nat_tests}
 use Rattle.std.specs.Option.{option_flatten}
 use Rattle.std.proofs.lemmas.List.{get_or-replicate, get_or_default}
-use Rattle.std.proofs.lemmas.Option.{slice_get_read}
+use Rattle.std.proofs.lemmas.Option.{slice_get-get_or, slice_get_read}
 use Rattle.std.proofs.lemmas.List.Sums.{sum_by-cons, sum_by-set}
 use Rattle.fdp_base.specs.Numbers.{count_below, is_among}
 use Rattle.fdp_base.proofs.Sums.{counting, sum_from, sum_from-cut, sum_from-last, sum_from-none, sum_from-same, sum_from-step, sum_from-zero}
@@ -30,6 +30,11 @@ one-counted rg [] i d low = absurd (omega (arith, low))
 one-counted rg (x ∷ xs) zero d low = omega (arith, sum_by-cons (λ o. cond (lies_at rg o) 1 0) x xs)
 one-counted rg (x ∷ xs) (suc i) d low = omega (arith, one-counted rg xs i d (omega (arith, low)), sum_by-cons (λ o. cond (lies_at rg o) 1 0) x xs)
 
+-- at most all are counted
+pub few-counted : (rg : ℕ) (places : List (Option KeptBlock)) → count_by (lies_at rg) places ≤ length places
+few-counted rg [] = omega arith
+few-counted rg (x ∷ xs) = let one : cond (lies_at rg x) 1 0 ≤ 1 = elim (lies_at rg x) as (λ b. cond b 1 0 ≤ 1) [ true ↦ omega arith | false ↦ omega arith ] in omega (arith, one, few-counted rg xs, sum_by-cons (λ o. cond (lies_at rg o) 1 0) x xs)
+
 -- ---- a block that is put in its place
 
 pub put_counted : (counts less more : List ℕ) (places : List (Option KeptBlock)) (at : ℕ) (old new : Option KeptBlock) → at < length places → old ≡ get_or places at old → AreCounted counts places
@@ -37,6 +42,10 @@ pub put_counted : (counts less more : List ℕ) (places : List (Option KeptBlock
 put_counted counts less more places at old new there is counted one_less one_more = λ rg low.
     let f : Option KeptBlock → ℕ = λ o. cond (lies_at rg o) 1 0 in
     omega (arith, sum_by-set f places at new old there, ap f is, one_less rg low, one_more rg low, counted rg low)
+
+-- what stands in a row is what the list has there
+pub row_or : (places : List (Option KeptBlock)) (at : ℕ) (d : Option KeptBlock) → at < length places → row places at ≡ get_or places at d
+row_or places at d there = ap option_flatten (slice_get-get_or places at d there)
 
 same-group : (rg : ℕ) (page : KeptPage) (o : Option KeptBlock) → lies_at rg (option_map (on_page page) o) ≡ lies_at rg o
 same-group rg page None = refl

@@ -8,3 +8,5 @@ pub mod Sound
 pub mod Spaces
 pub mod Fresh
 pub mod Reports
+pub mod Strips
+pub mod Clearing

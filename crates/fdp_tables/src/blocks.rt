@@ -1,8 +1,9 @@
 //! The blocks of a namespace, and how many of them lie in each reclaim group.
 
-ghost use Rattle.std.specs.Prelude.{◌≡◌, ℕ, ◌+◌, ◌^◌, ◌<◌, ◌≤◌, ◌&&◌, None, Some, IfOk, IfSome, IsTrue, cond, count_by, get_or, length, option_map, replicate, set};
+ghost use Rattle.std.specs.Prelude.{◌≡◌, ℕ, ◌+◌, ◌-◌, ◌^◌, ◌<◌, ◌≤◌, ◌==◌, ◌&&◌, if◌then◌else◌, None, Some, IfOk, IfSome, IsTrue, cond, count_by, get_or, length, option_map, replicate, set};
 ghost use Rattle.std.specs.Option.{option_copied};
 ghost use Rattle.fdp_base.specs.Numbers.{count_below, is_among};
+ghost use Rattle.fdp_tables.specs.Clearing.{IsCleared};
 ghost use Rattle.fdp_tables.specs.Blocks.{Names, lies_at, on_page, row_of};
 ghost use Rattle.fdp_tables.specs.declared.state.KeptBlock.{KeptBlock};
 ghost use Rattle.fdp_tables.specs.Index.{Lists, is_listed};
@@ -10,6 +11,8 @@ ghost use Rattle.fdp_tables.specs.State.{row};
 
 use crate::index::Index;
 use crate::state::{KeptBlock, KeptPage};
+use crate::strip::MadeBlock;
+use crate::strips::Strips;
 use std::alloc::{AllocError, Global};
 use std::marker::Model;
 
@@ -24,7 +27,7 @@ pub(crate) struct PageRow {
 /// which may be at the pages of a write, is known without a look at them.
 #[derive(Debug, Drop)]
 pub struct Blocks {
-    places: Vec<Option<KeptBlock>>,
+    places: Strips,
     /// By group, of which a drive has at most sixteen.
     counts: [u64; 16],
     /// By ticket: the places whose blocks may be at a page of its write.
@@ -40,9 +43,9 @@ impl Model for Blocks {
 
     ghost Value = { List (Option KeptBlock) };
 
-    ghost view = { λ blocks. blocks.places.items };
+    ghost view = { λ blocks. blocks.places };
 
-    ghost invariant = { λ blocks. AreCounted blocks.counts blocks.places.items × AreNamed blocks.written blocks.found blocks.places.items };
+    ghost invariant = { λ blocks. AreCounted blocks.counts blocks.places × AreNamed blocks.written blocks.found blocks.places };
 }
 
 impl Blocks {
@@ -51,7 +54,7 @@ impl Blocks {
         ensures { IfOk result (λ blocks. blocks ≡ replicate size None) }
     {
         Ok(Blocks {
-            places: absent_places(alloc, size)?,
+            places: Strips::absent(alloc, size)?,
             counts: [0; 16],
             written: Index::new(alloc),
             found: Index::new(alloc),
@@ -65,33 +68,95 @@ impl Blocks {
         self.places.len()
     }
 
-    /// The places by address.
-    pub fn as_slice(&self) -> &[Option<KeptBlock>]
-        ensures { result.now ≡ self.now }
-    {
-        self.places.as_slice()
-    }
-
     /// The block at an address.
     pub fn get(&self, lba: u64) -> Option<&KeptBlock>
         ensures { option_copied result ≡ row self.now lba }
     {
-        match self.places.as_slice().get(lba as usize) {
-            Some(Some(block)) => Some(block),
-            Some(None) => None,
-            None => None,
+        self.places.get(lba)
+    }
+
+    /// Puts a block that was made, or none, in a place. It takes no memory.
+    pub fn put(&mut self, place: usize, made: Option<MadeBlock>)
+        requires { place < length self.old }
+        ensures { self.new ≡ set self.old place made }
+    {
+        match made {
+            Some(made) => self.put_made(place, made),
+            None => self.take(place),
         }
     }
 
-    /// Puts a block, or none, in a place.
-    pub fn put(&mut self, place: usize, block: Option<KeptBlock>)
+    fn put_made(&mut self, place: usize, made: MadeBlock)
         requires { place < length self.old }
-        ensures { self.new ≡ set self.old place block }
+        ensures { self.new ≡ set self.old place (Some made) }
     {
-        uncount(&mut self.counts, &self.places[place]);
-        count(&mut self.counts, &block);
-        name_block(&mut self.written, &mut self.found, &block, place as u64);
-        self.places[place] = block;
+        let _places = self.places.len(); // proof: so few that they can be counted
+        let block = made.block();
+        uncount(&mut self.counts, self.places.get(place as u64));
+        count(&mut self.counts, block);
+        name(&mut self.written, &mut self.found, block.page, place as u64);
+        self.places.put(place, made);
+    }
+
+    /// So many places from an address on have no block, as far as there are such places. Sixteen without a block, which begin at a multiple
+    /// of sixteen, it mostly passes at once.
+    pub fn clear(&mut self, slba: u64, count: u64)
+        ensures size { length self.new ≡ length self.old }
+        ensures rows { (lba : ℕ) → row self.new lba ≡ (if is_among slba count lba then None else row self.old lba) }
+    {
+        let end = slba.saturating_add(count).min(self.places.len() as u64);
+        let mut lba = slba;
+        while lba < end {
+            lba = self.clear_strip(lba, end);
+        }
+    }
+
+    /// The places from an address on, up to an end, have no block, as far as their strip goes. Gives the address behind them.
+    fn clear_strip(&mut self, lba: u64, end: u64) -> u64
+        requires there { lba < end }
+        requires within { end ≤ length self.old }
+        ensures goes_on { lba < result }
+        ensures ends { result ≤ end }
+        ensures cleared { IsCleared (is_among lba (result - lba)) self.old self.new }
+    {
+        let next = lba.saturating_add(16 - lba % 16).min(end);
+        if self.places.has_strip(lba as usize) {
+            self.clear_places(lba, next);
+            if next - lba == 16 {
+                self.places.drop_strip(lba as usize);
+            }
+        }
+        next
+    }
+
+    /// The places from an address to an end have no block. It looks at each.
+    fn clear_places(&mut self, slba: u64, end: u64)
+        requires in_order { slba ≤ end }
+        requires within { end ≤ length self.old }
+        ensures { IsCleared (is_among slba (end - slba)) self.old self.new }
+    {
+        for lba in slba..end {
+            self.clear_place(lba);
+        }
+    }
+
+    /// A place has no block.
+    fn clear_place(&mut self, place: u64)
+        requires { place < length self.old }
+        ensures { IsCleared (λ lba. lba == place) self.old self.new }
+    {
+        if self.get(place).is_some() {
+            self.take(place as usize);
+        }
+    }
+
+    /// A block goes, if there is one in a place.
+    fn take(&mut self, place: usize)
+        requires { place < length self.old }
+        ensures { self.new ≡ set self.old place None }
+    {
+        uncount(&mut self.counts, self.places.get(place as u64));
+        self.places.clear(place);
     }
 
     /// Gives the block in a place another page.
@@ -100,7 +165,7 @@ impl Blocks {
         ensures { self.new ≡ set self.old place (option_map (on_page page) (row self.old place)) }
     {
         name(&mut self.written, &mut self.found, page, place as u64);
-        set_page(&mut self.places, place, page);
+        self.places.set_page(place, page);
     }
 
     /// The places of all blocks at these pages, and perhaps others; none where memory was wanting for them, and any place may be one.
@@ -177,44 +242,21 @@ fn name(written: &mut Index, found: &mut Index, page: KeptPage, place: u64)
     }
 }
 
-/// A place may have this block, if it is one.
-fn name_block(written: &mut Index, found: &mut Index, block: &Option<KeptBlock>, place: u64)
-    ensures written { (k v : ℕ) → Lists written.old k v → Lists written.new k v }
-    ensures found { (k v : ℕ) → Lists found.old k v → Lists found.new k v }
-    ensures named { IfSome block.now (λ b. Names written.new found.new b.page place) }
-{
-    if let Some(block) = block {
-        name(written, found, block.page, place);
-    }
-}
-
-/// Gives the block in a place another page.
-fn set_page(places: &mut Vec<Option<KeptBlock>>, place: usize, page: KeptPage)
-    requires { place < length places.old.items }
-    ensures { places.new.items ≡ set places.old.items place (option_map (on_page page) (row places.old.items place)) }
-{
-    if let Some(block) = &mut places[place] {
-        block.page = page;
-    }
-}
-
 /// A block more in its group.
-fn count(counts: &mut [u64; 16], block: &Option<KeptBlock>)
+fn count(counts: &mut [u64; 16], block: &KeptBlock)
     requires { (rg : ℕ) → rg < 16 → get_or counts.old rg 0 < 2 ^ 63 }
-    ensures { (rg : ℕ) → rg < 16 → get_or counts.new rg 0 ≡ get_or counts.old rg 0 + cond (lies_at rg block.now) 1 0 }
+    ensures { (rg : ℕ) → rg < 16 → get_or counts.new rg 0 ≡ get_or counts.old rg 0 + cond (lies_at rg (Some block.now)) 1 0 }
 {
-    if let Some(block) = block {
-        let group = usize::from(block.rg);
-        if group < 16 {
-            counts[group] += 1;
-        }
+    let group = usize::from(block.rg);
+    if group < 16 {
+        counts[group] += 1;
     }
 }
 
-/// A block less in its group.
-fn uncount(counts: &mut [u64; 16], block: &Option<KeptBlock>)
-    requires { (rg : ℕ) → rg < 16 → cond (lies_at rg block.now) 1 0 ≤ get_or counts.old rg 0 }
-    ensures { (rg : ℕ) → rg < 16 → get_or counts.new rg 0 + cond (lies_at rg block.now) 1 0 ≡ get_or counts.old rg 0 }
+/// A block less in its group, if it is one.
+fn uncount(counts: &mut [u64; 16], block: Option<&KeptBlock>)
+    requires { (rg : ℕ) → rg < 16 → cond (lies_at rg (option_copied block)) 1 0 ≤ get_or counts.old rg 0 }
+    ensures { (rg : ℕ) → rg < 16 → get_or counts.new rg 0 + cond (lies_at rg (option_copied block.entry)) 1 0 ≡ get_or counts.old rg 0 }
 {
     if let Some(block) = block {
         let group = usize::from(block.rg);
@@ -222,16 +264,4 @@ fn uncount(counts: &mut [u64; 16], block: &Option<KeptBlock>)
             counts[group] -= 1;
         }
     }
-}
-
-/// So many places without a block.
-#[tactic(auto, using(std::proofs::lemmas::List::replicate_more))]
-fn absent_places(alloc: Global, size: u64) -> Result<Vec<Option<KeptBlock>>, AllocError>
-    ensures { IfOk result (λ places. places.items ≡ replicate size None) }
-{
-    let mut places = Vec::new(alloc);
-    for _ in 0..size {
-        places.push(None)?;
-    }
-    Ok(places)
 }

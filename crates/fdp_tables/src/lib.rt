@@ -18,6 +18,8 @@ mod sites;
 mod standing;
 mod starts;
 mod state;
+mod strip;
+mod strips;
 
 pub use blocks::Blocks;
 pub use create::make_space;
@@ -28,3 +30,4 @@ pub use room::is_among;
 pub use runs::last_run;
 pub use standing::Standing;
 pub use state::{Kept, KeptBlock, KeptGoing, KeptPage, KeptReference, KeptReports, Space};
+pub use strip::MadeBlock;

@@ -1,7 +1,7 @@
 use Rattle.std.proofs.Common.{◌-◌}
 use Rattle.std.specs.Prelude.{◌&&◌, nat_lt}
 use Rattle.fdp_rules.specs.Effect.{is_in_ranges}
-use Rattle.fdp_plain_effects.specs.Clearing.{IsCleared}
+use Rattle.fdp_tables.specs.Clearing.{IsCleared}
 use Rattle.fdp_plain_effects.proofs.blocks.clear_blocks.Given as goal
 
 abbrev pub decreases-loop-lba : goal.decreases-loop-lba

@@ -3,4 +3,4 @@ use Rattle.fdp_tables.proofs.Naming.{absent_named}
 use Rattle.fdp_tables.proofs.blocks.Blocks.absent.Goals as goal
 
 pub invariant_of-result : goal.invariant_of-result
-invariant_of-result c = (absent_counted c.in_ok-absent_places.field-0.items c.args.size c.in_ok-absent_places.ensures, absent_named c.new.result c.new-2.result c.in_ok-absent_places.field-0.items c.args.size c.in_ok-absent_places.ensures)
+invariant_of-result c = (absent_counted c.in_ok-absent.field-0 c.args.size c.in_ok-absent.ensures, absent_named c.new.result c.new-2.result c.in_ok-absent.field-0 c.args.size c.in_ok-absent.ensures)

@@ -17,4 +17,4 @@ loop-index-preserved c =
 pub returns : goal.returns
 returns c =
     let l = c.loop-index in
-    looked-all c.args.rg c.args.self.now c.args.slba c.args.count l.index l.lying (omega (arith, c.loop-index-test.false, l.auto.index-end, c.min-index-end.ensures, c.saturating_sub-behind.ensures, c.len.ensures, c.self.inside.places.ok.0, ap (λ xs. length xs) c.self.view_is)) l.invariant
+    looked-all c.args.rg c.args.self.now c.args.slba c.args.count l.index l.lying (omega (arith, c.loop-index-test.false, l.auto.index-end, c.min-index-end.ensures, c.saturating_sub-behind.ensures, c.len.ensures, ap (λ xs. length xs) c.self.view_is)) l.invariant

@@ -11,7 +11,7 @@ invariant_of-self c =
     let s = c.self.inside in
     let at = c.args.place in
     let there = subst (λ places. at < length places) (sym c.self.view_is) c.requires in (
-      subst (AreCounted s.counts) (sym c.set_page.ensures) (paged_counted s.counts s.places.items at c.args.page there c.self.invariant.0),
+      subst (AreCounted s.counts) (sym c.set_page.ensures) (paged_counted s.counts s.places at c.args.page there c.self.invariant.0),
       subst (AreNamed c.name.new.written c.name.new.found) (sym c.set_page.ensures)
-          (put_named s.written s.found c.name.new.written c.name.new.found s.places.items at (option_map (on_page c.args.page) (row s.places.items at)) there c.self.invariant.1 c.name.ensures.written c.name.ensures.found (paged c.name.new.written c.name.new.found at c.args.page (row s.places.items at) c.name.ensures.named)),
+          (put_named s.written s.found c.name.new.written c.name.new.found s.places at (option_map (on_page c.args.page) (row s.places at)) there c.self.invariant.1 c.name.ensures.written c.name.ensures.found (paged c.name.new.written c.name.new.found at c.args.page (row s.places at) c.name.ensures.named)),
     )

@@ -9,7 +9,7 @@ use Rattle.std.proofs.lemmas.Option.{slice_get_past}
 use Rattle.fdp_base.specs.Numbers.{is_among}
 use Rattle.fdp_tables.specs.State.{row}
 use Rattle.fdp_tables.proofs.Tables.{read-set}
-use Rattle.fdp_plain_effects.specs.Clearing.{IsCleared}
+use Rattle.fdp_tables.specs.Clearing.{IsCleared}
 
 module _ {X : Type 0} (old : List (Option X)) where
   pub cleared_none : (at : ℕ → Bool) → ((lba : ℕ) → at lba ≡ false) → IsCleared at old old
@@ -58,3 +58,42 @@ among_next slba lba k from = grind (arith, nat_tests)
 
 pub among_none : (slba k : ℕ) → is_among slba (slba - slba) k ≡ false
 among_none slba k = grind (arith, nat_tests)
+
+-- ---- places that are cleared from one on
+
+among_more : (slba lba next k : ℕ) → slba ≤ lba → lba < next → is_among slba (next - slba) k ≡ (is_among slba (lba - slba) k || is_among lba (next - lba) k)
+among_more slba lba next k from on = grind (arith, nat_tests, from, on)
+
+-- it has come so far
+pub record IsClearing {X : Type 0} (old : List (Option X)) (slba end lba : ℕ) (now : List (Option X)) : Type 0 where
+  pub from : slba ≤ lba
+  pub within : slba < lba → lba ≤ end
+  pub cleared : IsCleared (is_among slba (lba - slba)) old now
+
+module _ {X : Type 0} (old : List (Option X)) (slba end : ℕ) where
+  pub clearing_start : IsClearing old slba end slba old
+  clearing_start = record { from = omega arith; within = λ less. absurd (omega (arith, less)); cleared = cleared_none old (is_among slba (slba - slba)) (among_none slba) }
+
+  pub clearing_next : (lba : ℕ) (now : List (Option X)) (next : ℕ) (new : List (Option X)) → IsClearing old slba end lba now → lba < next → next ≤ end → IsCleared (is_among lba (next - lba)) now new → IsClearing old slba end next new
+  clearing_next lba now next new h on ends more = record {
+    from = omega (arith, h.from, on);
+    within = λ less. ends;
+    cleared = cleared_more old (is_among slba (lba - slba)) (is_among lba (next - lba)) (is_among slba (next - slba)) now new (λ k. among_more slba lba next k h.from on) h.cleared more;
+  }
+
+  same_among : (count lba k : ℕ) → slba ≤ lba → (slba < lba → lba ≤ slba + count) → (k < slba + count → k < lba) → is_among slba (lba - slba) k ≡ is_among slba count k
+  same_among count lba k from within low = ⊎_elim
+      (λ less. let most : lba ≤ slba + count = within less in ⊎_elim
+      (λ below. let up : k < lba = low below in grind (arith, nat_tests, from, up, below))
+      (λ past. grind (arith, nat_tests, from, most, past))
+      (cases_lt k (slba + count)))
+      (λ all. ⊎_elim
+      (λ below. let up : k < lba = low below in grind (arith, nat_tests, from, up, below, all))
+      (λ past. grind (arith, nat_tests, from, all, past))
+      (cases_lt k (slba + count)))
+      (cases_lt slba lba)
+
+  pub clearing_end : (count lba : ℕ) (now : List (Option X)) → end ≤ slba + count → ((k : ℕ) → k < length old → k < slba + count → k < end) → end ≤ lba → IsClearing old slba end lba now → (k : ℕ) → row now k ≡ cond (is_among slba count k) None (row old k)
+  clearing_end count lba now most all past h =
+      (cleared_same old (is_among slba (lba - slba)) (is_among slba count) now
+      (λ k there. same_among count lba k h.from (λ less. let w : lba ≤ end = h.within less in omega (arith, w, most)) (λ low. let e : k < end = all k there low in omega (arith, e, past))) h.cleared).rows
