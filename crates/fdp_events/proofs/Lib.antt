@@ -1,3 +1,4 @@
 pub mod Events
 pub mod KnownRows
 pub mod MaskBits
+pub mod Latest

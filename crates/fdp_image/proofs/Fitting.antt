@@ -1,6 +1,6 @@
 -- Changes that fit one after another, and what an area says that is sound.
 use Rattle.std.proofs.Common.{◌≡◌, ℕ, Bool, true, false, List, [], ◌∷◌, ◌++◌, Option, Some, None, refl, ap, ◌∙◌}
-use Rattle.std.specs.Prelude.{◌&&◌, IsTrue, fold, if◌then◌else◌, is_some, not}
+use Rattle.std.specs.Prelude.{◌&&◌, IsTrue, if◌then◌else◌, is_some, not}
 use Rattle.std.specs.List.{concat}
 use Rattle.std.specs.Option.{option_and_then}
 use Rattle.fdp_base.specs.declared.config.DriveConfig.{DriveConfig}
@@ -8,7 +8,7 @@ use Rattle.fdp_base.specs.declared.entry.Totals.{Totals}
 use Rattle.fdp_records.specs.declared.change.Change.{Change}
 use Rattle.fdp_records.specs.declared.change.Change.TheVariants as changes
 use Rattle.fdp_snapshot.specs.Reading.{summary_in}
-use Rattle.fdp_image.specs.Applied.{applied}
+use Rattle.fdp_image.specs.Applied.{applied, with_changes}
 use Rattle.fdp_image.specs.Areas.{Sealed}
 use Rattle.fdp_image.specs.BadFields.{bad_field}
 use Rattle.fdp_image.specs.Checkpoint.{said_by_checkpoint}
@@ -32,7 +32,7 @@ second-true false b p = cc
 
 -- changes that fit, and then others that fit what is said with them
 pub all_fit-append : (fits : Fitting) (c : DriveConfig) (r : Reading) (xs ys : List (Change × Totals)) → IsTrue (all_fit fits c r xs)
-    → IsTrue (all_fit fits c (fold (applied c) r xs) ys) → IsTrue (all_fit fits c r (xs ++ ys))
+    → IsTrue (all_fit fits c (with_changes c r xs) ys) → IsTrue (all_fit fits c r (xs ++ ys))
 unfolding all_fit
 all_fit-append fits c r [] ys all more = more
 all_fit-append fits c r (x ∷ xs) ys all more =
@@ -44,7 +44,7 @@ unfolding all_fit
 all_fit-first fits c r [] ys all = refl
 all_fit-first fits c r (x ∷ xs) ys all = both-true (fits c r x) _ (first-true (fits c r x) _ all) (all_fit-first fits c (applied c r x) xs ys (second-true (fits c r x) _ all))
 
-pub all_fit-rest : (fits : Fitting) (c : DriveConfig) (r : Reading) (xs ys : List (Change × Totals)) → IsTrue (all_fit fits c r (xs ++ ys)) → IsTrue (all_fit fits c (fold (applied c) r xs) ys)
+pub all_fit-rest : (fits : Fitting) (c : DriveConfig) (r : Reading) (xs ys : List (Change × Totals)) → IsTrue (all_fit fits c r (xs ++ ys)) → IsTrue (all_fit fits c (with_changes c r xs) ys)
 unfolding all_fit
 all_fit-rest fits c r [] ys all = all
 all_fit-rest fits c r (x ∷ xs) ys all = all_fit-rest fits c (applied c r x) xs ys (second-true (fits c r x) _ all)
@@ -79,18 +79,18 @@ fits-forget c r totals x = ap (λ (b : Bool). are_born r x.1.position && b) (nam
 -- they fit, and this is said with them
 pub record IsSaidAfter (c : DriveConfig) (old : Reading) (changes : List (Change × Totals)) (new : Reading) : Type 0 where
   pub fit : IsTrue (all_fit fits c old changes)
-  pub said : fold (applied c) old changes ≡ new
+  pub said : with_changes c old changes ≡ new
 
 pub said_after-parts : (c : DriveConfig) (old : Reading) (changes : List (Change × Totals)) (new : Reading) → said_after c old changes ≡ Some new → IsSaidAfter c old changes new
 unfolding said_after
 said_after-parts c old changes new e = of_test (all_fit fits c old changes) refl e where
-  of_test : (b : Bool) → all_fit fits c old changes ≡ b → (if b then Some (fold (applied c) old changes) else None) ≡ Some new → IsSaidAfter c old changes new
+  of_test : (b : Bool) → all_fit fits c old changes ≡ b → (if b then Some (with_changes c old changes) else None) ≡ Some new → IsSaidAfter c old changes new
   of_test true is h = record { fit = is; said = cc }
   of_test false is h = absurd cc
 
 pub said_after-made : (c : DriveConfig) (old : Reading) (changes : List (Change × Totals)) (new : Reading) → IsSaidAfter c old changes new → said_after c old changes ≡ Some new
 unfolding said_after
-said_after-made c old changes new h = ap (λ (b : Bool). if b then Some (fold (applied c) old changes) else None) h.fit ∙ ap Some h.said
+said_after-made c old changes new h = ap (λ (b : Bool). if b then Some (with_changes c old changes) else None) h.fit ∙ ap Some h.said
 
 -- ---- what an area says
 

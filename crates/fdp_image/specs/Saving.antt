@@ -2,7 +2,6 @@
 use Rattle.std.specs.Prelude.{◌≡◌, ◌⊎◌, slice_get, ℕ, ◌+◌, ◌<◌, ◌≤◌, List, [], ◌∷◌, ◌++◌, length, Some}
 use Rattle.fdp_base.specs.declared.config.DriveConfig.{DriveConfig}
 use Rattle.fdp_base.specs.declared.config.Geometry.{Geometry}
-use Rattle.fdp_base.specs.declared.entry.Entry.{Entry}
 use Rattle.fdp_base.specs.declared.entry.Spot.{Spot}
 use Rattle.fdp_base.specs.declared.entry.Totals.{Totals}
 use Rattle.fdp_base.specs.Geometry.{area_pages}
@@ -14,13 +13,10 @@ use Rattle.fdp_records.specs.declared.change.Change.{Change}
 use Rattle.fdp_records.specs.declared.spare.Stamp.{Stamp}
 use Rattle.fdp_records.specs.declared.spare.SystemKind.TheVariants.{Journal}
 use Rattle.fdp_records.specs.Spares.{system_spare}
-use Rattle.fdp_rules.specs.History.{Found}
-use Rattle.fdp_image.specs.Applied.{applied, with_changes}
+use Rattle.fdp_image.specs.Applied.{with_changes}
 use Rattle.fdp_image.specs.Areas.{Sealed, area_of, area_unit, current_area, data_pages}
 use Rattle.fdp_image.specs.Reading.{Reading}
 use Rattle.fdp_image.specs.Reads.{next_page, reads_as, told_by}
-use Rattle.fdp_image.specs.StandsFor.{Says}
-use Rattle.fdp_image.specs.Valid.{IsValid}
 
 -- from this page on all pages are blank
 abbrev pub AreBlankFrom : ℕ → List Cell → Type 0
@@ -47,11 +43,6 @@ pub record IsNextRecord (c : DriveConfig) (cells : List Cell) (at : Spot) (spare
   pub place : page_number (geometry_of c) at ≡ first_page (geometry_of c) (area_unit (geometry_of c) number) + next_page area
   pub spare_is : spare ≡ system_spare (record { kind = Journal; number = length area.journal; stamp = area.stamp })
   pub told : told_by bytes ≡ Some xs
-
--- A change is that of some entries that follow a history, where an image says what the history gives.
-pub record IsChangeOf (c : DriveConfig) (f : Found) (cells : List Cell) (es added : List Entry) (r : Reading) (x : Change × Totals) : Type 0 where
-  pub valid : IsValid c cells (applied c r x)
-  pub says : Says c f cells (es ++ added) (applied c r x)
 
 -- the data pages of two images are the same
 abbrev pub SameDataPages : DriveConfig → List Cell → List Cell → Type 0

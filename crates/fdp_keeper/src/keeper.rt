@@ -71,7 +71,7 @@ impl Keeper {
     {
         let saver = Saver::fresh(alloc, &config.geometry())?;
         let summary = fresh_summary(alloc, config)?;
-        let outline = Outline::new(alloc, summary)?;
+        let outline = Outline::new(alloc, summary);
         let room = ChangeRoom::new(alloc)?;
         Ok(Keeper {
             saver,
@@ -102,7 +102,7 @@ impl Keeper {
         let saver = Saver::found(alloc, &config.geometry(), area, epoch)?;
         let position = summary.totals.position + 1;
         let count = config.handle_count(summary.enabled, summary.index);
-        let mut outline = Outline::new(alloc, summary)?;
+        let mut outline = Outline::new(alloc, summary);
         outline.keep_reopened(position, config.groups, count);
         let room = ChangeRoom::new(alloc)?;
         Ok(Keeper {

@@ -1,4 +1,4 @@
-ghost use Rattle.std.specs.Prelude.{◌≡◌, ◌*◌, ◌==◌, ◌%◌, ◌≤◌, if◌then◌else◌, length, slice_get};
+ghost use Rattle.std.specs.Prelude.{◌≡◌, ◌*◌, ◌==◌, ◌%◌, if◌then◌else◌, length, slice_get};
 ghost use Rattle.fdp_base.specs.Placement.{handle_count};
 ghost use Rattle.fdp_commands.specs.Lengths.{IsLogLength};
 ghost use Rattle.fdp_log_pages.specs.Told.{CanTell, Tells, usage_told};
@@ -13,7 +13,7 @@ use fdp_base::{Command, DriveConfig, Event, GetLog, LogPage, Totals};
 use fdp_layouts::Coded;
 use fdp_logs::statistics_log;
 use fdp_pieces::put_piece;
-use fdp_snapshot::Summary;
+use fdp_snapshot::{EventRing, Summary};
 use std::marker::Model;
 
 /// A drive as its log pages tell it.
@@ -99,7 +99,7 @@ impl<'a> LogView<'a> {
     pub fn event(&self, host: bool, index: u32) -> Option<Event>
         ensures { (p : Point) → Tells self.now p → result ≡ slice_get (if host then p.host_events else p.controller_events) index }
     {
-        self.events(u8::from(host)).get(index as usize).copied()
+        self.events(u8::from(host)).get(index as usize)
     }
 
     fn page_length(&self, lid: u8, lsp: u8) -> u64
@@ -139,14 +139,13 @@ impl<'a> LogView<'a> {
     }
 
     /// The events of hosts where bit 0 of the log specific parameter is set, else those of the controller.
-    fn events(&self, lsp: u8) -> &[Event]
-        ensures events { result.now ≡ (if lsp % 2 == 1 then self.now.summary.host_events else self.now.summary.controller_events) }
-        ensures few { length result.now ≤ 32 }
+    fn events(&self, lsp: u8) -> &EventRing
+        ensures { result.now ≡ (if lsp % 2 == 1 then self.now.summary.host_events else self.now.summary.controller_events) }
     {
         if lsp % 2 == 1 {
-            self.summary.host_events.as_slice()
+            &self.summary.host_events
         } else {
-            self.summary.controller_events.as_slice()
+            &self.summary.controller_events
         }
     }
 }

@@ -26,7 +26,7 @@ use Rattle.fdp_snapshot.specs.declared.state.Summary.{Summary}
 use Rattle.fdp_snapshot.specs.Fixed.{IsSummary}
 use Rattle.fdp_outline.specs.Events.{AddsEvents, with_events}
 use Rattle.fdp_outline.specs.Outline.{IsOutlineOf}
-use Rattle.fdp_outline.proofs.Keeping.{latest-few}
+use Rattle.fdp_events.proofs.Latest.{latest-few}
 use Rattle.fdp_outline.proofs.Saying.{outline-more}
 
 -- what an outline says without pages

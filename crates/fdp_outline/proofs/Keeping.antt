@@ -1,10 +1,11 @@
 -- Events put behind those of an outline.
-use Rattle.std.proofs.Common.{◌≡◌, ℕ, zero, suc, ◌+◌, ◌-◌, ◌≤◌, ◌<◌, Bool, true, false, not, List, [], ◌∷◌, ◌++◌, length, drop, refl, sym, ◌∙◌, ap, arith, append_assoc, length-append, add-one, zero-add, filter, flat_map, map}
+use Rattle.std.proofs.Common.{◌≡◌, ℕ, zero, suc, ◌+◌, ◌-◌, Bool, true, false, not, List, [], ◌∷◌, ◌++◌, length, refl, sym, ◌∙◌, ap, arith, append_assoc, add-one, zero-add, filter, flat_map, map}
 use Rattle.std.specs.Prelude.{All, None, Some, if◌then◌else◌, slice_get}
-use Rattle.std.proofs.lemmas.List.{append-nil, drop-append-le, length-drop}
+use Rattle.std.proofs.lemmas.List.{append-nil}
 use Rattle.std.proofs.lemmas.Grind.{flat_map-append}
 use Rattle.std.proofs.lemmas.List.Elements.{All-append, All-cons, All-drop, All-filter, All-nil, filter-append}
 use Rattle.fdp_base.specs.declared.event.Event.{Event}
+use Rattle.fdp_events.proofs.Latest.{few-latest, latest-few}
 use Rattle.fdp_base.specs.Numbers.{numbers_below, numbers_from}
 use Rattle.fdp_base.specs.declared.entry.BlockName.{BlockName}
 use Rattle.fdp_base.specs.declared.event.EventKind.TheVariants as kinds
@@ -17,26 +18,6 @@ use Rattle.fdp_snapshot.specs.Events.{IsPlain}
 use Rattle.fdp_snapshot.specs.Fixed.{IsSummary}
 use Rattle.fdp_outline.specs.Events.{kept_by, with_events, with_kept}
 use Rattle.fdp_outline.specs.Outline.{IsWritable}
-
--- the latest of few are all
-pub all-latest : (xs : List Event) → length xs ≤ 32 → latest xs ≡ xs
-all-latest xs few = let none : length xs - 32 ≡ 0 = omega (arith, few) in ap (λ n. drop n xs) none
-
-pub latest-few : (xs : List Event) → length xs ≤ 32 → xs ≡ latest (xs ++ [])
-latest-few xs few = sym (ap latest (append-nil xs) ∙ all-latest xs few)
-
-pub few-latest : (xs : List Event) → length (latest xs) ≤ 32
-few-latest xs = omega (arith, length-drop (length xs - 32) xs)
-
--- one more than few
-pub latest-grown : (xs : List Event) (e : Event) → length xs < 32 → xs ++ e ∷ [] ≡ latest (xs ++ e ∷ [])
-latest-grown xs e few = sym (all-latest (xs ++ e ∷ []) (omega (arith, length-append xs (e ∷ []))))
-
--- one more than 32: the oldest goes
-pub latest-rolled : (xs : List Event) (e : Event) → length xs ≡ 32 → drop 1 xs ++ e ∷ [] ≡ latest (xs ++ e ∷ [])
-latest-rolled xs e full =
-    let one : 1 ≡ length (xs ++ e ∷ []) - 32 = omega (arith, length-append xs (e ∷ [])) in
-    sym (drop-append-le 1 xs (e ∷ []) (omega (arith, full))) ∙ ap (λ n. drop n (xs ++ e ∷ [])) one
 
 -- ---- events of an outline
 

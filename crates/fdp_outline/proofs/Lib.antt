@@ -3,6 +3,5 @@ pub mod Saying
 pub mod Paging
 pub mod Making
 pub mod Places
-pub mod HandleLists
 pub mod Applying
 pub mod Saved

@@ -1,8 +1,9 @@
 -- Rows that are put in the place of an identifier.
 use Rattle.std.proofs.Common.{◌≡◌, ◌≢◌, ℕ, ◌-◌, ◌<◌, ◌≤◌, Bool, true, false, IsTrue, List, length, set, Option, Some, refl, ap, sym, ◌∙◌, arith, ⊎_elim}
 use Rattle.std.specs.Prelude.{◌==◌, ◌&&◌, slice_get, if◌then◌else◌, nat_le, nat_lt}
-use Rattle.std.proofs.lemmas.Bool.{eq-eqb, ne_eqb, leb-true, ltb-true}
+use Rattle.std.proofs.lemmas.Bool.{eq-eqb, le-leb, leb-true, lt-ltb, ltb-true, ne_eqb}
 use Rattle.std.proofs.lemmas.Bool.Decides.{eqb_tells}
+use Rattle.fdp_base.specs.Geometry.{IsWithin}
 use Rattle.fdp_flash.proofs.Lists.{slice_get-set_other, slice_get-set_same}
 use Rattle.fdp_image.specs.CheckpointRows.{is_namespace_id}
 
@@ -48,3 +49,7 @@ place_set {X} {Y} f none xs id x good size n = of_id (is_namespace_id n) refl wh
   of_id false is =
       let other : (n == id) ≡ false = ne_eqb n id (λ (e : n ≡ id). let no : false ≡ is_namespace_id id = sym is ∙ ap is_namespace_id e in cc) in
       sym (ap (λ (b : Bool). if b then f (Some x) else none) other)
+
+-- an identifier from 1 to 16 has a place
+pub id-of : (nsid : ℕ) → IsWithin 1 16 nsid → IsTrue (is_namespace_id nsid)
+id-of nsid within = ap (λ (b : Bool). b && nat_lt nsid 17) (le-leb 1 nsid within.0) ∙ lt-ltb nsid 17 (omega (arith, within.1))

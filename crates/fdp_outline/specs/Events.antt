@@ -1,6 +1,5 @@
 -- The events of an outline, and those that an entry adds to them.
-use Rattle.std.specs.Prelude.{◌≡◌, ℕ, ◌+◌, ◌≤◌, ◌==◌, ◌++◌, All, List, filter, length, map, not, Vec, vec_capacity}
-use Rattle.std.specs.declared.alloc.Global.{Global}
+use Rattle.std.specs.Prelude.{◌≡◌, ℕ, ◌==◌, ◌++◌, List, filter, map, not}
 use Rattle.fdp_base.specs.declared.entry.BlockName.{BlockName}
 use Rattle.fdp_base.specs.declared.event.Event.{Event}
 use Rattle.fdp_rules.specs.Events.{is_host_event, latest}
@@ -36,8 +35,3 @@ pub record AddsEvents (old : Reading) (es : List Event) (new : Reading) : Type 0
 -- the names of the moved blocks of a handle
 abbrev pub names_of_handle : List MovedBlock → ℕ → List BlockName
 names_of_handle blocks ruh = map (λ (x : MovedBlock). x.name) (filter (λ (x : MovedBlock). x.ruh == ruh) blocks)
-
--- beside a list of so many events lies an empty list of 32 places for each that it may still get
-pub record AreSpares (count : ℕ) (spares : List (Vec Event Global)) : Type 0 where
-  pub enough : 32 ≤ count + length spares
-  pub each : All (λ (list : Vec Event Global). 32 ≤ vec_capacity list) spares

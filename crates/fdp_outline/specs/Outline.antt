@@ -1,9 +1,7 @@
 -- The outline of a drive: what a checkpoint says beside the pages of the blocks.
-use Rattle.std.specs.Prelude.{◌≡◌, ℕ, IsTrue, All, List, [], Vec, length}
+use Rattle.std.specs.Prelude.{◌≡◌, IsTrue, All, []}
 use Rattle.std.specs.List.{list_all}
-use Rattle.std.specs.declared.alloc.Global.{Global}
 use Rattle.fdp_base.specs.declared.config.DriveConfig.{DriveConfig}
-use Rattle.fdp_base.specs.declared.event.Event.{Event}
 use Rattle.fdp_base.specs.Placement.{handle_count}
 use Rattle.fdp_snapshot.specs.declared.state.Summary.{Summary}
 use Rattle.fdp_snapshot.specs.Events.{IsPlain}
@@ -12,8 +10,6 @@ use Rattle.fdp_image.specs.BadFields.{HasKnownRows}
 use Rattle.fdp_image.specs.Checkpoint.{reading_of_state}
 use Rattle.fdp_image.specs.CheckpointFields.{same_keys}
 use Rattle.fdp_image.specs.Reading.{Reading}
-use Rattle.fdp_outline.specs.Events.{AreSpares}
-use Rattle.fdp_outline.specs.HandleLists.{AreHandleLists}
 
 -- a checkpoint has room for what an outline says
 pub record IsWritable (s : Summary) : Type 0 where
@@ -27,14 +23,3 @@ pub record IsOutlineOf (c : DriveConfig) (r : Reading) (s : Summary) : Type 0 wh
   pub sizes : IsTrue (list_all (λ same. same) (same_keys c s.keys))
   pub says : record (reading_of_state (record { summary = s; pages = [] })) { totals = r.totals; pages = r.pages } ≡ r
   pub rows : HasKnownRows (handle_count c s.enabled s.index) s
-
--- an outline that a checkpoint has room for, with lists for the events to come
-pub record IsKept (s : Summary) (hosts controllers : List (Vec Event Global)) : Type 0 where
-  pub writable : IsWritable s
-  pub host : AreSpares (length s.host_events) hosts
-  pub controller : AreSpares (length s.controller_events) controllers
-
--- and with lists for the handles of the namespaces to come
-pub record IsReady (s : Summary) (hosts controllers : List (Vec Event Global)) (lists : List (List ℕ)) : Type 0 where
-  pub kept : IsKept s hosts controllers
-  pub lists_are : AreHandleLists s.spaces lists

@@ -1,6 +1,6 @@
 //! The summary of a drive as its configuration makes it.
 
-ghost use Rattle.std.specs.Prelude.{◌≡◌, ℕ, ◌+◌, ◌^◌, ◌≤◌, ◌<◌, All, IfOk, [], ◌∷◌, true, if◌then◌else◌, length, nat_lt, option_map, slice_get, sum_by, unwrap_or};
+ghost use Rattle.std.specs.Prelude.{◌≡◌, ℕ, ◌+◌, ◌^◌, ◌≤◌, ◌<◌, All, IfOk, [], true, if◌then◌else◌, length, nat_lt, option_map, slice_get, sum_by, unwrap_or};
 ghost use Rattle.std.specs.List.{enumerate_from, list_all};
 ghost use Rattle.std.specs.Option.{ForSome};
 ghost use Rattle.fdp_base.specs.Config.{IsInRange, IsValidConfig};
@@ -14,7 +14,7 @@ ghost use Rattle.fdp_outline.specs.Fresh.{ArePlaced, HasFewHandles, made_as};
 ghost use Rattle.fdp_outline.specs.Outline.{IsOutlineOf, IsWritable};
 
 use fdp_base::{Class, Classes, DriveConfig, HandleList, NamespaceConfig, Sequence, Totals};
-use fdp_snapshot::{HandleRow, Keys, Space, Summary};
+use fdp_snapshot::{EventRing, HandleRow, Keys, NamespaceHandles, Space, Summary};
 use std::alloc::{AllocError, Global};
 
 /// What a checkpoint says of a drive as its configuration makes it, beside the pages of its blocks.
@@ -25,6 +25,8 @@ pub fn fresh_summary(alloc: Global, config: &DriveConfig) -> Result<Summary, All
 {
     let keys = keys_of(alloc, config)?;
     let spaces = configured_spaces(alloc, config.namespaces.as_slice())?;
+    let host_events = EventRing::new(alloc)?;
+    let controller_events = EventRing::new(alloc)?;
     Ok(Summary {
         keys,
         totals: Totals {
@@ -38,8 +40,8 @@ pub fn fresh_summary(alloc: Global, config: &DriveConfig) -> Result<Summary, All
         generation: 0,
         masks: [0; 16],
         spaces: Sequence::from_vec(spaces),
-        host_events: Sequence::new(alloc),
-        controller_events: Sequence::new(alloc),
+        host_events,
+        controller_events,
     })
 }
 
@@ -122,43 +124,37 @@ fn configured_spaces(
 {
     let mut rows = Vec::new(alloc);
     for place in 0..16u8 {
-        rows.push(configured_place(alloc, namespaces, place)?)?;
+        rows.push(configured_place(namespaces, place))?;
     }
     Ok(rows)
 }
 
 /// The place with a number.
-fn configured_place(
-    alloc: Global,
-    namespaces: &[NamespaceConfig],
-    place: u8,
-) -> Result<Option<Space>, AllocError>
+fn configured_place(namespaces: &[NamespaceConfig], place: u8) -> Option<Space>
     requires { All HasFewHandles namespaces.now }
-    ensures value { IfOk result (λ row. option_map namespace_of row ≡ option_map made_as (slice_get namespaces.now place)) }
-    ensures fit { IfOk result (λ row. IsSpaceRow row) }
+    ensures value { option_map namespace_of result ≡ option_map made_as (slice_get namespaces.now place) }
+    ensures fit { IsSpaceRow result }
 {
     let index = usize::from(place);
     if index < namespaces.len() {
-        let space = configured_space(alloc, &namespaces[index])?;
-        Ok(Some(space))
+        Some(configured_space(&namespaces[index]))
     } else {
-        Ok(None)
+        None
     }
 }
 
 /// A namespace that a drive is made with.
-fn configured_space(alloc: Global, namespace: &NamespaceConfig) -> Result<Space, AllocError>
+fn configured_space(namespace: &NamespaceConfig) -> Space
     requires { HasFewHandles namespace.now }
-    ensures value { IfOk result (λ space. namespace_of space ≡ made_as namespace.now) }
-    ensures fit { IfOk result (λ space. IsRoomySpace space) }
+    ensures value { namespace_of result ≡ made_as namespace.now }
+    ensures fit { IsRoomySpace result }
 {
-    let handles = configured_handles(alloc, &namespace.handles)?;
-    Ok(Space {
+    Space {
         size: namespace.blocks,
         birth: 0,
         given: is_given(&namespace.handles),
-        handles: Sequence::from_vec(handles),
-    })
+        handles: configured_handles(&namespace.handles),
+    }
 }
 
 /// Whether a list of handles was given; an empty one counts as none.
@@ -172,39 +168,32 @@ fn is_given(handles: &Option<HandleList>) -> bool
 }
 
 /// The handles that were listed, or handle 0 where none is.
-fn configured_handles(alloc: Global, handles: &Option<HandleList>) -> Result<Vec<u8>, AllocError>
+fn configured_handles(handles: &Option<HandleList>) -> NamespaceHandles
     requires few { ForSome handles.now (λ list. length list ≤ 16) }
     requires known { ForSome handles.now (λ list. All (λ ruh. ruh < 16) list) }
-    ensures value { IfOk result (λ list. list.items ≡ chosen_handles (unwrap_or handles.now [])) }
-    ensures few { IfOk result (λ list. length list.items ≤ 16) }
+    ensures value { result ≡ chosen_handles (unwrap_or handles.now []) }
+    ensures few { length result ≤ 16 }
 {
     match handles {
         Some(list) => {
             if list.as_slice().is_empty() {
-                first_handle(alloc)
+                NamespaceHandles::of_slice(&[0])
             } else {
-                listed_handles(alloc, list.as_slice())
+                listed_handles(list.as_slice())
             }
         }
-        None => first_handle(alloc),
+        None => NamespaceHandles::of_slice(&[0]),
     }
 }
 
-fn first_handle(alloc: Global) -> Result<Vec<u8>, AllocError>
-    ensures { IfOk result (λ list. list.items ≡ 0 ∷ []) }
-{
-    let mut list = Vec::new(alloc);
-    list.push(0)?;
-    Ok(list)
-}
-
-fn listed_handles(alloc: Global, list: &[u16]) -> Result<Vec<u8>, AllocError>
+fn listed_handles(list: &[u16]) -> NamespaceHandles
+    requires few { length list.now ≤ 16 }
     requires known { All (λ ruh. ruh < 16) list.now }
-    ensures { IfOk result (λ handles. handles.items ≡ list.now) }
+    ensures { result ≡ list.now }
 {
-    let mut handles = Vec::new(alloc);
+    let mut handles = NamespaceHandles::new();
     for place in 0..list.len() {
-        handles.push(list[place] as u8)?;
+        handles.push(list[place] as u8);
     }
-    Ok(handles)
+    handles
 }

@@ -1,9 +1,8 @@
-//! The outline of a drive, as a checkpoint has it beside the pages of the blocks, with room for its events.
+//! The outline of a drive, as a checkpoint has it beside the pages of the blocks.
 #![tactic(auto)]
 
 mod fresh;
 mod keep;
-mod latest;
 mod laws;
 mod moved_block;
 mod outline;

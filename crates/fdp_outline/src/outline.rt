@@ -1,4 +1,4 @@
-ghost use Rattle.std.specs.Prelude.{◌≡◌, ◌+◌, ◌<◌, ◌≤◌, [], ◌∷◌, IfOk, None, length, All, flat_map, map, IsTrue};
+ghost use Rattle.std.specs.Prelude.{◌≡◌, ◌+◌, ◌<◌, ◌≤◌, [], ◌∷◌, None, length, flat_map, map, IsTrue};
 ghost use Rattle.fdp_base.specs.Numbers.{numbers_below};
 ghost use Rattle.fdp_base.specs.declared.config.DriveConfig.{DriveConfig};
 ghost use Rattle.fdp_base.specs.declared.entry.Totals.{Totals as Sums};
@@ -11,59 +11,45 @@ ghost use Rattle.fdp_records.specs.declared.change.Change.TheVariants as changes
 ghost use Rattle.fdp_rules.specs.Events.{handle_event, invalid_identifier, not_fully_written, reallocated};
 ghost use Rattle.fdp_rules.specs.PlainState.{Going, PlainState};
 ghost use Rattle.fdp_rules.specs.Target.{Target};
-ghost use Rattle.fdp_outline.specs.Events.{AreSpares, names_of_handle, with_events};
+ghost use Rattle.fdp_outline.specs.Events.{names_of_handle, with_events};
 ghost use Rattle.fdp_outline.specs.Outline.{IsOutlineOf, IsWritable};
 
 use crate::keep::keep;
-use crate::latest::MOST_EVENTS;
 use crate::moved_block::{MovedBlock, count_of, first_of};
-use crate::spaces::{handle_lists, insert, remove};
-use fdp_base::{Event, EventKind, Sequence, Totals};
+use crate::spaces::put;
+use fdp_base::{EventKind, Totals};
 use fdp_events::{
     handle_event, identifier_event, no_reports, reallocated_event, reports, set_reports,
 };
-use fdp_snapshot::Summary;
-use std::alloc::{AllocError, Global};
+use fdp_snapshot::{NamespaceHandles, Space, Summary};
+use std::alloc::Global;
 use std::marker::Model;
 
-/// What a checkpoint says of a drive beside the pages of its blocks, with room for the events that are to come.
+/// What a checkpoint says of a drive beside the pages of its blocks.
 #[derive(Drop)]
 pub struct Outline {
+    alloc: Global,
     summary: Summary,
-    /// Lists of 32 places, one for each event of a host that may make the list longer.
-    host: Vec<Vec<Event>>,
-    /// The same for the events of the controller.
-    controller: Vec<Vec<Event>>,
-    /// Lists for the handles of namespaces.
-    lists: Vec<Sequence<u8>>,
 }
 
 impl Model for Outline {
     ghost use Rattle.fdp_snapshot.specs.declared.state.Summary.{Summary as Kept};
-    ghost use Rattle.fdp_outline.specs.Outline.{IsReady};
+    ghost use Rattle.fdp_outline.specs.Outline.{IsWritable};
 
     ghost Value = { Kept };
 
     ghost view = { λ o. o.summary };
 
-    ghost invariant = { λ o. IsReady o.summary o.host.items o.controller.items o.lists.items };
+    ghost invariant = { λ o. IsWritable o.summary };
 }
 
 impl Outline {
-    /// The outline with this summary. Beside this no call takes memory.
-    pub fn new(alloc: Global, summary: Summary) -> Result<Outline, AllocError>
+    /// The outline with this summary. No call takes memory.
+    pub fn new(alloc: Global, summary: Summary) -> Outline
         requires { IsWritable summary }
-        ensures { IfOk result (λ o. o ≡ summary) }
+        ensures { result ≡ summary }
     {
-        let host = spares(alloc)?;
-        let controller = spares(alloc)?;
-        let lists = handle_lists(alloc)?;
-        Ok(Outline {
-            summary,
-            host,
-            controller,
-            lists,
-        })
+        Outline { alloc, summary }
     }
 
     /// What a checkpoint says of the drive.
@@ -71,7 +57,7 @@ impl Outline {
         ensures summary { result.now ≡ self.now }
         ensures writable { IsWritable result.now }
     {
-        let _ = &self.host; // proof
+        let _ = &self.alloc; // proof
         &self.summary
     }
 
@@ -94,12 +80,7 @@ impl Outline {
         ensures { (s : PlainState) → s.position + 1 ≡ position → self.new ≡ with_events self.old (handle_event s EventKind.ImplicitlyModified rg ruh ∷ []) }
     {
         let event = handle_event(EventKind::ImplicitlyModified, position, rg, ruh);
-        keep(
-            &mut self.summary,
-            &mut self.host,
-            &mut self.controller,
-            event,
-        );
+        keep(&mut self.summary, event);
     }
 
     /// Keeps the event of a write whose placement identifier was invalid; it went to this group and handle.
@@ -108,12 +89,7 @@ impl Outline {
     {
         let kind = EventKind::InvalidPlacementIdentifier;
         let event = identifier_event(kind, position, nsid, pid, rg, ruh);
-        keep(
-            &mut self.summary,
-            &mut self.host,
-            &mut self.controller,
-            event,
-        );
+        keep(&mut self.summary, event);
     }
 
     /// Keeps the event of an identifier of an update that closes the unit of this group and handle, which is not fully written.
@@ -122,12 +98,7 @@ impl Outline {
     {
         let kind = EventKind::NotFullyWritten;
         let event = identifier_event(kind, position, nsid, pid, rg, ruh);
-        keep(
-            &mut self.summary,
-            &mut self.host,
-            &mut self.controller,
-            event,
-        );
+        keep(&mut self.summary, event);
     }
 
     /// Keeps a namespace that is created at a position, under an identifier that none has.
@@ -138,15 +109,13 @@ impl Outline {
         requires few { length handles.now ≤ 16 }
         ensures { (c : DriveConfig) (r : Reading) (totals : Sums) → totals.position ≡ position → IsOutlineOf c r self.old → IsOutlineOf c (applied c r (changes.Create nsid size given handles.now, totals)) self.new }
     {
-        insert(
-            &mut self.summary.spaces,
-            &mut self.lists,
-            nsid,
+        let space = Space {
             size,
-            position,
+            birth: position,
             given,
-            handles,
-        );
+            handles: NamespaceHandles::of_slice(handles),
+        };
+        put(self.alloc, &mut self.summary.spaces, nsid, Some(space));
     }
 
     /// Keeps that a namespace is deleted.
@@ -154,7 +123,7 @@ impl Outline {
         requires { IsWithin 1 16 nsid }
         ensures { (c : DriveConfig) (r : Reading) (totals : Sums) → IsOutlineOf c r self.old → IsOutlineOf c (applied c r (changes.Delete nsid, totals)) self.new }
     {
-        remove(&mut self.summary.spaces, &mut self.lists, nsid);
+        put(self.alloc, &mut self.summary.spaces, nsid, None);
     }
 
     /// Keeps that placement is set: no kind of event is kept for a handle any more.
@@ -195,12 +164,7 @@ impl Outline {
         }
         if let Some(first) = first_of(blocks, ruh) {
             let event = reallocated_event(position, rg, ruh, first, count_of(blocks, ruh));
-            keep(
-                &mut self.summary,
-                &mut self.host,
-                &mut self.controller,
-                event,
-            );
+            keep(&mut self.summary, event);
         }
     }
 
@@ -229,23 +193,6 @@ impl Outline {
         ensures { (s : PlainState) → s.position + 1 ≡ position → self.new ≡ with_events self.old (handle_event s EventKind.HandlesModified rg ruh ∷ []) }
     {
         let event = handle_event(EventKind::HandlesModified, position, rg, ruh);
-        keep(
-            &mut self.summary,
-            &mut self.host,
-            &mut self.controller,
-            event,
-        );
+        keep(&mut self.summary, event);
     }
-}
-
-/// An empty list of 32 places for each of 32 events.
-fn spares(alloc: Global) -> Result<Vec<Vec<Event>>, AllocError>
-    ensures { IfOk result (λ spares. AreSpares 0 spares.items) }
-{
-    let mut spares = Vec::new(alloc);
-    for _ in 0..MOST_EVENTS {
-        let list = Vec::with_capacity(alloc, usize::from(MOST_EVENTS))?;
-        spares.push(list)?;
-    }
-    Ok(spares)
 }

@@ -6,7 +6,7 @@ use Rattle.fdp_base.specs.declared.config.DriveConfig.{DriveConfig}
 use Rattle.fdp_base.specs.declared.entry.Totals.{Totals}
 use Rattle.fdp_records.specs.declared.change.Change.{Change}
 use Rattle.fdp_records.specs.declared.change.Change.TheVariants as changes
-use Rattle.fdp_image.specs.Applied.{applied}
+use Rattle.fdp_image.specs.Applied.{applied, with_changes}
 use Rattle.fdp_image.specs.Areas.{Sealed}
 use Rattle.fdp_image.specs.BadFields.{bad_field, bad_row}
 use Rattle.fdp_image.specs.ChangeEvents.{events_of_change, kept_of_change}
@@ -70,7 +70,7 @@ applied-same c d r (changes.SetEvents ruh on mask) totals = refl
 applied-same c d r (changes.Moved victim first second handles) totals = refl
 applied-same c d r (changes.Shut rg ruh) totals = refl
 
-fold-same : (c d : DriveConfig) (r : Reading) (xs : List (Change × Totals)) → fold (applied (with_keys c d)) r xs ≡ fold (applied c) r xs
+fold-same : (c d : DriveConfig) (r : Reading) (xs : List (Change × Totals)) → with_changes (with_keys c d) r xs ≡ with_changes c r xs
 fold-same c d r xs = ap (λ (f : Reading → Change × Totals → Reading). fold f r xs) (λ i s x. applied-same c d s x.0 x.1 i)
 
 all_fit-same : (c d : DriveConfig) (r : Reading) (xs : List (Change × Totals)) → all_fit fits (with_keys c d) r xs ≡ all_fit fits c r xs

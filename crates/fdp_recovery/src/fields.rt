@@ -1,6 +1,6 @@
 //! What a checkpoint says that no drive of a configuration would save.
 
-ghost use Rattle.std.specs.Prelude.{◌≡◌, ℕ, ◌+◌, ◌*◌, ◌^◌, ◌≤◌, ◌<◌, suc, true, not, drop, length, position, take, IfSome, option_map};
+ghost use Rattle.std.specs.Prelude.{◌≡◌, ℕ, ◌+◌, ◌*◌, ◌^◌, ◌≤◌, ◌<◌, suc, true, not, drop, length, position, take, IfSome, if◌then◌else◌, option_map};
 ghost use Rattle.fdp_base.specs.Config.{IsInRange};
 ghost use Rattle.fdp_base.specs.Placement.{full_budget};
 ghost use Rattle.fdp_base.specs.declared.event.Event.{Event as Told};
@@ -9,7 +9,7 @@ ghost use Rattle.fdp_snapshot.specs.Fixed.{IsSummary};
 ghost use Rattle.fdp_image.specs.BadFields.{bad_field, bad_row, bad_space, has_any_bit, has_stray_bit, may_stand, or_else, row_at};
 
 use fdp_base::{DriveConfig, Event};
-use fdp_snapshot::{Space, Summary};
+use fdp_snapshot::{EventRing, Space, Summary};
 use fdp_state::{full_budget, is_handle_list};
 
 #[tactic(auto, unfolding(fdp_image::specs::BadFields::bad_field))]
@@ -41,8 +41,8 @@ fn bad_row(config: &DriveConfig, count: u8, summary: &Summary) -> Option<u32>
     let stray = stray_mask(&summary.masks, count);
     let other = other_mask(&summary.masks, count);
     let space = bad_space(count, position, room, summary.spaces.as_slice());
-    let host = controller_event(summary.host_events.as_slice());
-    let controller = host_event(summary.controller_events.as_slice());
+    let host = event_of(&summary.host_events, false);
+    let controller = event_of(&summary.controller_events, true);
     or_else(
         row_at(112, 1, stray),
         or_else(
@@ -111,20 +111,44 @@ fn first_other(masks: &[u8]) -> Option<usize>
     masks.iter().position(|mask| !(*mask == 0))
 }
 
-/// The first event that is the controller's.
-fn controller_event(events: &[Event]) -> Option<usize>
-    ensures value { result ≡ position (λ (e : Told). not (is_host_event e)) events.now }
+/// The first event that is one of hosts, or that is none.
+fn event_of(events: &EventRing, host: bool) -> Option<usize>
+    ensures value { result ≡ position (λ (e : Told). if host then is_host_event e else not (is_host_event e)) events.now }
     ensures bound { IfSome result (λ i. i < length events.now) }
 {
-    events.iter().position(|event| !is_host_event(event))
+    let (older, newer) = events.pieces();
+    behind(
+        event_among(older, host),
+        older.len(),
+        event_among(newer, host),
+    )
 }
 
-/// The first event that is one of hosts.
-fn host_event(events: &[Event]) -> Option<usize>
-    ensures value { result ≡ position is_host_event events.now }
+/// The first place of two pieces, from those in each: the first piece has so many.
+fn behind(first: Option<usize>, count: usize, second: Option<usize>) -> Option<usize>
+    requires { IfSome second (λ i. count + i < 2 ^ 64) }
+    ensures { result ≡ or_else first (option_map (λ i. count + i) second) }
+{
+    match first {
+        Some(at) => Some(at),
+        None => match second {
+            Some(at) => Some(count + at),
+            None => None,
+        },
+    }
+}
+
+fn event_among(events: &[Event], host: bool) -> Option<usize>
+    ensures value { result ≡ position (λ (e : Told). if host then is_host_event e else not (is_host_event e)) events.now }
     ensures bound { IfSome result (λ i. i < length events.now) }
 {
-    events.iter().position(|event| is_host_event(event))
+    events.iter().position(|event| is_of_class(event, host))
+}
+
+fn is_of_class(event: &Event, host: bool) -> bool
+    ensures { result ≡ (if host then is_host_event event.now else not (is_host_event event.now)) }
+{
+    is_host_event(event) == host
 }
 
 fn is_host_event(event: &Event) -> bool

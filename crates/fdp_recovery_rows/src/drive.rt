@@ -4,8 +4,8 @@ ghost use Rattle.fdp_snapshot.specs.Checkpoint.{IsState};
 ghost use Rattle.fdp_snapshot.specs.Reading.{size_of_row};
 ghost use Rattle.fdp_snapshot.specs.Rows.{IsEntry, IsSpaceRow};
 
-use fdp_base::{Bytes, Class, Classes, DriveConfig, Geometry, Sequence, Totals};
-use fdp_snapshot::{HandleRow, Keys, PageList, Space, State, Summary};
+use fdp_base::{Class, Classes, DriveConfig, Geometry, Sequence, Totals};
+use fdp_snapshot::{EventRing, HandleRow, Keys, NamespaceHandles, PageList, Space, State, Summary};
 use std::alloc::{AllocError, Global};
 
 /// Thirty-two pages of data, and two areas of twenty-eight pages.
@@ -54,6 +54,14 @@ pub fn small_state(alloc: Global, position: u16) -> Result<State, AllocError>
         Ok(spaces) => spaces,
         Err(fault) => return Err(fault),
     };
+    let host_events = match EventRing::new(alloc) {
+        Ok(events) => events,
+        Err(fault) => return Err(fault),
+    };
+    let controller_events = match EventRing::new(alloc) {
+        Ok(events) => events,
+        Err(fault) => return Err(fault),
+    };
     match two_blocks(alloc) {
         Ok(pages) => Ok(State {
             summary: Summary {
@@ -69,8 +77,8 @@ pub fn small_state(alloc: Global, position: u16) -> Result<State, AllocError>
                 generation: 0,
                 masks: [0; 16],
                 spaces,
-                host_events: Sequence::new(alloc),
-                controller_events: Sequence::new(alloc),
+                host_events,
+                controller_events,
             },
             pages,
         }),
@@ -103,12 +111,11 @@ fn one_space(alloc: Global) -> Result<Sequence<Option<Space>>, AllocError>
     ensures rows { IfOk result (λ spaces. All IsSpaceRow spaces) }
     ensures sizes { IfOk result (λ spaces. map size_of_row spaces ≡ 2 ∷ replicate 15 0) }
 {
-    let handles = Bytes::from_vec(vec![in alloc; 0u8]?);
     let first = Some(Space {
         size: 2,
         birth: 0,
         given: false,
-        handles,
+        handles: NamespaceHandles::of_slice(&[0]),
     });
     let spaces = vec![in alloc;
         first, None, None, None, None, None, None, None, None, None, None, None, None, None, None,

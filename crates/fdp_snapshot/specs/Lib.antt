@@ -7,3 +7,4 @@ pub mod Checkpoint
 pub mod Content
 pub mod Lengths
 pub mod Scanning
+pub mod Ring

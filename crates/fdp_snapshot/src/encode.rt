@@ -27,12 +27,14 @@
 //! | 832 | 2048 | 32 host events, 64 bytes each |
 //! | 2880 | 2048 | 32 controller events, 64 bytes each |
 
-ghost use Rattle.std.specs.Prelude.{◌≡◌, ◌≤◌, length};
-ghost use Rattle.fdp_records.specs.Bytes.{laid};
+ghost use Rattle.std.specs.Prelude.{◌≡◌, ◌≤◌, ◌+◌, ◌*◌, All, flat_map, length};
+ghost use Rattle.fdp_records.specs.Bytes.{laid, placed};
+ghost use Rattle.fdp_rules.specs.LogPages.{event_bytes};
 ghost use Rattle.fdp_snapshot.specs.Fixed.{IsSummary, fixed_of, fixed_size, head_pieces, key_pieces, list_pieces};
-ghost use Rattle.fdp_snapshot.specs.Sizes.{HeadFits, KeysFit, ListsFit, SummaryFits};
+ghost use Rattle.fdp_snapshot.specs.Sizes.{AnyEvent, EventFits, HeadFits, KeysFit, ListsFit, SummaryFits};
 
 use crate::keys::Keys;
+use crate::ring::EventRing;
 use crate::row::put_all;
 use crate::state::Summary;
 use fdp_records::put;
@@ -99,12 +101,24 @@ fn put_lists(summary: &Summary, into: &mut [u8])
     ensures fit { ListsFit summary.now }
 {
     let masks = summary.masks;
-    let hosts = summary.host_events.as_slice();
-    let controllers = summary.controller_events.as_slice();
+    let hosts = &summary.host_events;
+    let controllers = &summary.controller_events;
     put(into, 112, &masks);
     put_all(into, 128, summary.spaces.as_slice());
     put(into, 768, &[hosts.len() as u8]);
     put(into, 769, &[controllers.len() as u8]);
-    put_all(into, 832, hosts);
-    put_all(into, 2880, controllers);
+    put_events(into, 832, hosts);
+    put_events(into, 2880, controllers);
+}
+
+/// Writes the events one behind another, from an offset on.
+fn put_events(into: &mut [u8], at: usize, events: &EventRing)
+    requires room { at + 64 * length events.now ≤ length into.old }
+    requires are { All AnyEvent events.now }
+    ensures bytes { into.new ≡ placed at (flat_map event_bytes events.now) into.old }
+    ensures fit { All EventFits events.now }
+{
+    let (older, newer) = events.pieces();
+    put_all(into, at, older);
+    put_all(into, at + 64 * older.len(), newer);
 }

@@ -1,14 +1,16 @@
 //! What the bytes of a checkpoint say, and where bytes are none.
 
 ghost use Rattle.std.specs.Prelude.{◌≡◌, ◌⊎◌, ◌+◌, ◌*◌, ◌≤◌, ◌<◌, ℕ, Err, Ok, Some, None, IfOk, IfSome, IsTrue, drop, length, map};
-ghost use Rattle.fdp_records.specs.Bytes.{◌⊕◌, part};
+ghost use Rattle.fdp_records.specs.Bytes.{◌⊕◌, items, part};
 ghost use Rattle.fdp_snapshot.specs.Checkpoint.{IsBadAt, IsState, is_checkpoint};
+ghost use Rattle.fdp_snapshot.specs.Events.{event_at};
 ghost use Rattle.fdp_snapshot.specs.Fixed.{IsSummary, fixed_of, fixed_size};
 ghost use Rattle.fdp_snapshot.specs.Reading.{blocks_in, keys_in, page_lists, size_of_row, state_in, summary_in, totals_in};
 ghost use Rattle.fdp_snapshot.specs.Scanning.{IsFirstDifference, IsFirstNumber};
 
 use crate::encode::{FIXED_SIZE, put_fixed};
 use crate::keys::Keys;
+use crate::ring::EventRing;
 use crate::row::read_all;
 use crate::space::Space;
 use crate::state::{PageList, State, Summary};
@@ -98,6 +100,21 @@ fn read_masks(bytes: &[u8]) -> [u8; 16]
     masks
 }
 
+/// So many events that stand one behind another from an offset on. It fails only for want of memory.
+fn read_events(
+    alloc: Global,
+    bytes: &[u8],
+    at: usize,
+    count: usize,
+) -> Result<EventRing, AllocError>
+    requires room { at + 64 * count ≤ length bytes.now }
+    requires few { count ≤ 32 }
+    ensures { IfOk result (λ events. events ≡ items 64 event_at count (drop at bytes.now)) }
+{
+    let events = read_all(alloc, bytes, at, count)?;
+    EventRing::of_slice(alloc, events.as_slice())
+}
+
 /// What the fixed part says. It fails only for want of memory.
 fn read_summary(alloc: Global, bytes: &[u8]) -> Result<Summary, AllocError>
     requires { fixed_size ≤ length bytes.now }
@@ -109,12 +126,12 @@ fn read_summary(alloc: Global, bytes: &[u8]) -> Result<Summary, AllocError>
         Err(fault) => return Err(fault),
     };
     let hosts = usize::from(bytes[768]).min(32);
-    let host_events = match read_all(alloc, bytes, 832, hosts) {
+    let host_events = match read_events(alloc, bytes, 832, hosts) {
         Ok(events) => events,
         Err(fault) => return Err(fault),
     };
     let controllers = usize::from(bytes[769]).min(32);
-    let controller_events = match read_all(alloc, bytes, 2880, controllers) {
+    let controller_events = match read_events(alloc, bytes, 2880, controllers) {
         Ok(events) => events,
         Err(fault) => return Err(fault),
     };

@@ -3,8 +3,8 @@ ghost use Rattle.fdp_snapshot.specs.Lengths.{space_long};
 ghost use Rattle.fdp_snapshot.specs.Rows.{IsSpaceRow, space_bytes, space_in};
 ghost use Rattle.fdp_snapshot.specs.Sizes.{SpaceFits};
 
+use crate::handles::NamespaceHandles;
 use crate::row::Row;
-use fdp_base::{Bytes, Sequence};
 use fdp_records::{put, read_u64};
 use std::alloc::{AllocError, Global};
 
@@ -18,7 +18,7 @@ pub struct Space {
     /// Whether the host gave the list of handles.
     pub given: bool,
     /// Its reclaim unit handles by placement handle, at most sixteen.
-    pub handles: Bytes,
+    pub handles: NamespaceHandles,
 }
 
 impl Row for Option<Space> {
@@ -43,18 +43,17 @@ impl Row for Option<Space> {
     }
 
     fn read(alloc: Global, bytes: &[u8]) -> Result<Option<Space>, AllocError> {
+        let _alloc = alloc; // proof
         let size = read_u64(bytes, 0);
         if size == 0 {
             return Ok(None);
         }
         let count = usize::from(bytes[17]).min(16);
-        let mut handles = Vec::new(alloc);
-        handles.extend_from_slice(&bytes[24..24 + count])?;
         Ok(Some(Space {
             size,
             birth: read_u64(bytes, 8),
             given: bytes[16] == 1,
-            handles: Sequence::from_vec(handles),
+            handles: NamespaceHandles::of_slice(&bytes[24..24 + count]),
         }))
     }
 }

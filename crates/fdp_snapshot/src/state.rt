@@ -1,6 +1,7 @@
 use crate::keys::Keys;
+use crate::ring::EventRing;
 use crate::space::Space;
-use fdp_base::{Event, Sequence, Totals};
+use fdp_base::{Sequence, Totals};
 
 /// What a checkpoint says of a drive, but for the pages of its blocks.
 #[derive(Debug, Drop)]
@@ -14,10 +15,10 @@ pub struct Summary {
     pub masks: [u8; 16],
     /// The namespaces by identifier, sixteen from 1 on.
     pub spaces: Sequence<Option<Space>>,
-    /// The latest events of hosts, at most 32, oldest first.
-    pub host_events: Sequence<Event>,
-    /// The latest events of the controller, at most 32, oldest first.
-    pub controller_events: Sequence<Event>,
+    /// The latest events of hosts.
+    pub host_events: EventRing,
+    /// The latest events of the controller.
+    pub controller_events: EventRing,
 }
 
 /// The number of the page of each block of a namespace, by address.

@@ -18,3 +18,4 @@ pub mod Keeping
 pub mod Sayable
 pub mod Stating
 pub mod Loading
+pub mod Pushing

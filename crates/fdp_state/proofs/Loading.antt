@@ -5,7 +5,6 @@ use Rattle.std.specs.List.{list_all}
 use Rattle.std.proofs.lemmas.Bool.{and_parts}
 use Rattle.fdp_base.specs.declared.config.Class.{Class}
 use Rattle.fdp_base.specs.declared.config.DriveConfig.{DriveConfig}
-use Rattle.fdp_base.specs.declared.event.Event.{Event}
 use Rattle.fdp_base.specs.Config.{IsInRange}
 use Rattle.fdp_snapshot.specs.declared.keys.HandleRow.{HandleRow}
 use Rattle.fdp_snapshot.specs.declared.keys.Keys.{Keys}
@@ -53,8 +52,8 @@ few-configurations c k ranges same =
 -- ---- taken apart
 
 -- what a state says with these lists
-with-lists : State → List (Option Space) → List (List (Option ℕ)) → List Event → List Event → Reading
-with-lists s spaces pages host_events controller_events = record {
+with-lists : State → List (Option Space) → List (List (Option ℕ)) → Reading
+with-lists s spaces pages = record {
   totals = s.summary.totals;
   enabled = s.summary.enabled;
   index = s.summary.index;
@@ -62,8 +61,8 @@ with-lists s spaces pages host_events controller_events = record {
   reports = reports_in s.summary.masks;
   namespaces = λ nsid. option_map namespace_of (in_place spaces nsid);
   pages = page_in_lists pages;
-  host_events = host_events;
-  controller_events = controller_events;
+  host_events = s.summary.host_events;
+  controller_events = s.summary.controller_events;
 }
 
 module _ (c : DriveConfig) (s : State) (p : Parts)
@@ -76,28 +75,25 @@ module _ (c : DriveConfig) (s : State) (p : Parts)
       masks = s.summary.masks;
       spaces = p.spaces;
       pages = p.pages;
-      host_events = p.host_events;
-      controller_events = p.controller_events;
+      host_events = s.summary.host_events;
+      controller_events = s.summary.controller_events;
       owners = p.owners;
     })
-    (spaces : p.spaces.items ≡ s.summary.spaces) (pages : p.pages.items ≡ s.pages) (host_events : p.host_events.items ≡ s.summary.host_events)
-    (controller_events : p.controller_events.items ≡ s.summary.controller_events) where
+    (spaces : p.spaces.items ≡ s.summary.spaces) (pages : p.pages.items ≡ s.pages) where
   said : reading_of p ≡ reading_of_state s
   unfolding reading_of reading_of_state with-lists
   said =
       ap reading_of rest
-      ∙ ap (λ (xs : List (Option Space)). with-lists s xs p.pages.items p.host_events.items p.controller_events.items) spaces
-      ∙ ap (λ (xs : List (List (Option ℕ))). with-lists s s.summary.spaces xs p.host_events.items p.controller_events.items) pages
-      ∙ ap (λ (xs : List Event). with-lists s s.summary.spaces s.pages xs p.controller_events.items) host_events
-      ∙ ap (with-lists s s.summary.spaces s.pages s.summary.host_events) controller_events
+      ∙ ap (λ (xs : List (Option Space)). with-lists s xs p.pages.items) spaces
+      ∙ ap (with-lists s s.summary.spaces) pages
 
   taken-sound : IsLoadable s → AreOwners (page_in_lists s.pages) p.owners.items → IsSound p
   taken-sound l owners = record {
     spaces = ap length spaces ∙ l.spaces;
     lists = ap length pages ∙ l.lists;
     sizes = λ nsid. ap (λ (xs : List (List (Option ℕ))). listed xs nsid) pages ∙ l.sizes nsid ∙ ap (λ (r : Reading). size_in r nsid) (sym said);
-    host_events = subst (λ (xs : List Event). length xs ≤ 32) (sym host_events) l.host_events;
-    controller_events = subst (λ (xs : List Event). length xs ≤ 32) (sym controller_events) l.controller_events;
+    host_events = subst (λ (q : Parts). length q.host_events ≤ 32) (sym rest) l.host_events;
+    controller_events = subst (λ (q : Parts). length q.controller_events ≤ 32) (sym rest) l.controller_events;
     owners = subst (λ (xs : List (List (Option ℕ))). AreOwners (page_in_lists xs) p.owners.items) (sym pages) owners;
   }
 
@@ -111,9 +107,7 @@ module _ (c : DriveConfig) (s : State) (p : Parts)
     good = subst (IsGood c) (sym said) h.good;
     sayable = subst IsSayable (sym said) (sayable-of s h.writable);
     masks = subst (KnowsMasks c) (sym rest) h.rows.masks;
-    events =
-        subst (λ (xs : List Event). StandByClass xs p.controller_events.items) (sym host_events)
-        (subst (λ (xs : List Event). StandByClass s.summary.host_events xs) (sym controller_events) h.rows.events);
+    events = subst (λ (q : Parts). StandByClass q.host_events q.controller_events) (sym rest) h.rows.events;
   }
 
 -- ---- put together
@@ -128,8 +122,8 @@ together p = record {
     generation = p.generation;
     masks = p.masks;
     spaces = p.spaces.items;
-    host_events = p.host_events.items;
-    controller_events = p.controller_events.items;
+    host_events = p.host_events;
+    controller_events = p.controller_events;
   };
   pages = p.pages.items;
 }

@@ -58,8 +58,8 @@ module _ (old new : Parts) (rest : new ≡ record old { spaces = new.spaces; pag
     spaces = spaces;
     lists = lists;
     sizes = sizes;
-    host_events = subst (λ (n : ℕ). n ≤ 32) (sym (ap (λ (p : Parts). length p.host_events.items) rest)) h.host_events;
-    controller_events = subst (λ (n : ℕ). n ≤ 32) (sym (ap (λ (p : Parts). length p.controller_events.items) rest)) h.controller_events;
+    host_events = subst (λ (n : ℕ). n ≤ 32) (sym (ap (λ (p : Parts). length p.host_events) rest)) h.host_events;
+    controller_events = subst (λ (n : ℕ). n ≤ 32) (sym (ap (λ (p : Parts). length p.controller_events) rest)) h.controller_events;
     owners = owners;
   }
 
@@ -88,8 +88,8 @@ module _ (old new : Parts) (rest : new ≡ record old { enabled = new.enabled; i
     spaces = ap (λ (p : Parts). length p.spaces.items) rest ∙ h.spaces;
     lists = ap (λ (p : Parts). length p.pages.items) rest ∙ h.lists;
     sizes = λ n. ap (λ (p : Parts). listed p.pages.items n) rest ∙ h.sizes n ∙ sym (same-sizes n);
-    host_events = subst (λ (n : ℕ). n ≤ 32) (sym (ap (λ (p : Parts). length p.host_events.items) rest)) h.host_events;
-    controller_events = subst (λ (n : ℕ). n ≤ 32) (sym (ap (λ (p : Parts). length p.controller_events.items) rest)) h.controller_events;
+    host_events = subst (λ (n : ℕ). n ≤ 32) (sym (ap (λ (p : Parts). length p.host_events) rest)) h.host_events;
+    controller_events = subst (λ (n : ℕ). n ≤ 32) (sym (ap (λ (p : Parts). length p.controller_events) rest)) h.controller_events;
     owners = subst (λ (p : Parts). AreOwners (page_in_lists p.pages.items) p.owners.items) (sym rest) h.owners;
   }
 
@@ -122,26 +122,57 @@ made_shut c position rg ruh s h = record { reading = refl; sound = h; keys = ref
 pub latest_are : (test : Event → Bool) (start old listing kept new : List Event) → new ≡ latest (start ++ filter test listing) → start ≡ old → listing ≡ kept → new ≡ latest (old ++ filter test kept)
 latest_are test start old listing kept new e from is = e ∙ ap (λ (xs : List Event). latest (xs ++ filter test listing)) from ∙ ap (λ (xs : List Event). latest (old ++ filter test xs)) is
 
+-- a change leaves the events to those that it adds
+hosts_stay : (c : DriveConfig) (r : Reading) (position : ℕ) (change : Change) → (changed c r position change).host_events ≡ r.host_events
+hosts_stay c r position (changes.Write nsid slba pid pid_invalid pages) = refl
+hosts_stay c r position (changes.Clear nsid ranges) = refl
+hosts_stay c r position (changes.Update nsid closed pids) = refl
+hosts_stay c r position (changes.Create nsid size given handles) = refl
+hosts_stay c r position (changes.Delete nsid) = refl
+hosts_stay c r position (changes.SetFdp enabled index generation) = refl
+hosts_stay c r position (changes.SetEvents ruh on mask) = refl
+hosts_stay c r position (changes.Moved victim first second handles) = refl
+hosts_stay c r position (changes.Shut rg ruh) = refl
+
+controllers_stay : (c : DriveConfig) (r : Reading) (position : ℕ) (change : Change) → (changed c r position change).controller_events ≡ r.controller_events
+controllers_stay c r position (changes.Write nsid slba pid pid_invalid pages) = refl
+controllers_stay c r position (changes.Clear nsid ranges) = refl
+controllers_stay c r position (changes.Update nsid closed pids) = refl
+controllers_stay c r position (changes.Create nsid size given handles) = refl
+controllers_stay c r position (changes.Delete nsid) = refl
+controllers_stay c r position (changes.SetFdp enabled index generation) = refl
+controllers_stay c r position (changes.SetEvents ruh on mask) = refl
+controllers_stay c r position (changes.Moved victim first second handles) = refl
+controllers_stay c r position (changes.Shut rg ruh) = refl
+
+pub made_hosts : (c : DriveConfig) (position : ℕ) (change : Change) (old mid : Parts) → IsMade c position change old mid → mid.host_events ≡ old.host_events
+unfolding reading_of
+made_hosts c position change old mid made = ap (λ (r : Reading). r.host_events) made.reading ∙ hosts_stay c (reading_of old) position change
+
+pub made_controllers : (c : DriveConfig) (position : ℕ) (change : Change) (old mid : Parts) → IsMade c position change old mid → mid.controller_events ≡ old.controller_events
+unfolding reading_of
+made_controllers c position change old mid made = ap (λ (r : Reading). r.controller_events) made.reading ∙ controllers_stay c (reading_of old) position change
+
 -- the totals and the events were put in place of those before
 module _ (c : DriveConfig) (old mid new : Parts) (change : Change) (totals : Totals)
     (rest : new ≡ record mid { totals = totals; host_events = new.host_events; controller_events = new.controller_events }) (made : IsMade c totals.position change old mid) where
-  pub whole_reading : new.host_events.items ≡ latest (old.host_events.items ++ filter is_host_event (kept_of_change c (reading_of old) totals.position change))
-      → new.controller_events.items ≡ latest (old.controller_events.items ++ filter (λ (e : Event). not (is_host_event e)) (kept_of_change c (reading_of old) totals.position change))
+  pub whole_reading : new.host_events ≡ latest (old.host_events ++ filter is_host_event (kept_of_change c (reading_of old) totals.position change))
+      → new.controller_events ≡ latest (old.controller_events ++ filter (λ (e : Event). not (is_host_event e)) (kept_of_change c (reading_of old) totals.position change))
       → reading_of new ≡ applied c (reading_of old) (change, totals)
   unfolding reading_of applied
   whole_reading host controller =
       ap reading_of rest
-      ∙ ap (λ (r : Reading). record r { totals = totals; host_events = new.host_events.items; controller_events = new.controller_events.items }) made.reading
+      ∙ ap (λ (r : Reading). record r { totals = totals; host_events = new.host_events; controller_events = new.controller_events }) made.reading
       ∙ ap (λ (xs : List Event). record (changed c (reading_of old) totals.position change) {
         totals = totals;
         pages = pages_after c (reading_of old) change;
         host_events = xs;
-        controller_events = new.controller_events.items;
+        controller_events = new.controller_events;
       }) host
       ∙ ap (λ (xs : List Event). record (changed c (reading_of old) totals.position change) {
         totals = totals;
         pages = pages_after c (reading_of old) change;
-        host_events = latest (old.host_events.items ++ filter is_host_event (kept_of_change c (reading_of old) totals.position change));
+        host_events = latest (old.host_events ++ filter is_host_event (kept_of_change c (reading_of old) totals.position change));
         controller_events = xs;
       }) controller
 
@@ -149,7 +180,7 @@ module _ (c : DriveConfig) (old mid new : Parts) (change : Change) (totals : Tot
   unfolding reading_of
   whole_sizes n = ap (λ (p : Parts). size_in (reading_of p) n) rest
 
-  whole_sound : length new.host_events.items ≤ 32 → length new.controller_events.items ≤ 32 → IsSound new
+  whole_sound : length new.host_events ≤ 32 → length new.controller_events ≤ 32 → IsSound new
   whole_sound host controller = record {
     spaces = ap (λ (p : Parts). length p.spaces.items) rest ∙ made.sound.spaces;
     lists = ap (λ (p : Parts). length p.pages.items) rest ∙ made.sound.lists;
@@ -159,14 +190,14 @@ module _ (c : DriveConfig) (old mid new : Parts) (change : Change) (totals : Tot
     owners = subst (λ (p : Parts). AreOwners (page_in_lists p.pages.items) p.owners.items) (sym rest) made.sound.owners;
   }
 
-  whole_classes : StandByClass old.host_events.items old.controller_events.items → reading_of new ≡ applied c (reading_of old) (change, totals) → StandByClass new.host_events.items new.controller_events.items
+  whole_classes : StandByClass old.host_events old.controller_events → reading_of new ≡ applied c (reading_of old) (change, totals) → StandByClass new.host_events new.controller_events
   unfolding reading_of applied
   whole_classes h said =
       subst (λ (r : Reading). StandByClass r.host_events r.controller_events) (sym said)
-      (class-more old.host_events.items old.controller_events.items (kept_of_change c (reading_of old) totals.position change) h)
+      (class-more old.host_events old.controller_events (kept_of_change c (reading_of old) totals.position change) h)
 
   pub whole_loaded : IsLoaded c old → are_born (reading_of old) totals.position ≡ true → names_what_is c (reading_of old) change ≡ true
-      → reading_of new ≡ applied c (reading_of old) (change, totals) → length new.host_events.items ≤ 32 → length new.controller_events.items ≤ 32 → IsLoaded c new
+      → reading_of new ≡ applied c (reading_of old) (change, totals) → length new.host_events ≤ 32 → length new.controller_events ≤ 32 → IsLoaded c new
   unfolding reading_of
   whole_loaded h born fit said host controller =
       let fits_it : fits c (reading_of old) (change, totals) ≡ true = ap (λ (b : Bool). b && names_what_is c (reading_of old) change) born ∙ fit in

@@ -1,13 +1,15 @@
 -- What a change that names only what there is gives, kind by kind.
-use Rattle.std.proofs.Common.{◌≡◌, ℕ, ◌*◌, ◌<◌, Bool, true, false, IsTrue, List, [], ◌∷◌, length, Option, None, Some, refl, arith}
-use Rattle.std.specs.Prelude.{◌&&◌, not, nat_lt, slice_index}
+use Rattle.std.proofs.Common.{◌≡◌, ℕ, ◌*◌, ◌<◌, ◌≤◌, Bool, true, false, IsTrue, List, [], ◌∷◌, length, Option, None, Some, refl, arith}
+use Rattle.std.specs.Prelude.{◌&&◌, not, nat_le, nat_lt, slice_index}
+use Rattle.std.specs.List.{list_all}
 use Rattle.std.specs.Option.{IfSome, option_map_or}
-use Rattle.std.proofs.lemmas.Bool.{ltb-true}
+use Rattle.std.proofs.lemmas.Bool.{leb-true, ltb-true}
 use Rattle.std.proofs.lemmas.Nat.{mul-lt}
 use Rattle.fdp_base.specs.declared.command.Range.{Range}
 use Rattle.fdp_base.specs.declared.config.DriveConfig.{DriveConfig}
 use Rattle.fdp_base.specs.Config.{IsInRange}
 use Rattle.fdp_base.specs.Geometry.{IsWithin, data_units}
+use Rattle.fdp_base.specs.Numbers.{has_repeat}
 use Rattle.fdp_base.specs.Placement.{geometry_of, handle_count}
 use Rattle.fdp_records.specs.declared.change.Change.{Change}
 use Rattle.fdp_records.specs.declared.change.Change.TheVariants as changes
@@ -16,7 +18,7 @@ use Rattle.fdp_image.specs.Areas.{data_pages}
 use Rattle.fdp_image.specs.Changed.{changed}
 use Rattle.fdp_image.specs.CheckpointRows.{is_namespace_id}
 use Rattle.fdp_image.specs.Reading.{Reading}
-use Rattle.fdp_image.specs.Fits.{are_data_pages, are_of_data_unit, handles_in, has_namespace, is_free_id, lie_within, lies_within, may_have, names_what_is}
+use Rattle.fdp_image.specs.Fits.{are_data_pages, are_of_data_unit, handles_in, has_namespace, has_room, is_free_id, is_handle_list, lie_within, lies_within, may_have, names_what_is}
 
 pub left : (a b : Bool) → (a && b) ≡ true → a ≡ true
 left true b e = refl
@@ -57,6 +59,15 @@ module _ (c : DriveConfig) (r : Reading) where
   pub create_free : (nsid size : ℕ) (given : Bool) (handles : List ℕ) → names_what_is c r (changes.Create nsid size given handles) ≡ true → has_namespace r nsid ≡ false
   unfolding names_what_is
   create_free nsid size given handles h = not-true (has_namespace r nsid) (right (is_namespace_id nsid) (not (has_namespace r nsid)) (left (is_free_id r nsid) (may_have c r size handles) h))
+
+  pub create_few : (nsid size : ℕ) (given : Bool) (handles : List ℕ) → names_what_is c r (changes.Create nsid size given handles) ≡ true → length handles ≤ 16
+  unfolding names_what_is
+  create_few nsid size given handles h =
+      let filled = nat_lt 0 (length handles) in
+      let few = nat_le (length handles) 16 in
+      let known = list_all (λ ruh. nat_lt ruh (handles_in c r)) handles in
+      let list = right (nat_lt 0 size) (is_handle_list (handles_in c r) handles) (left (nat_lt 0 size && is_handle_list (handles_in c r) handles) (has_room c r size) (right (is_free_id r nsid) (may_have c r size handles) h)) in
+      leb-true (length handles) 16 (right filled few (left (filled && few) known (left (filled && few && known) (not (has_repeat handles)) list)))
 
   pub delete_there : (nsid : ℕ) → names_what_is c r (changes.Delete nsid) ≡ true → has_namespace r nsid ≡ true
   unfolding names_what_is

@@ -40,8 +40,8 @@ module _ (old new : Parts) (rest : new ≡ record old { pages = new.pages; owner
     spaces = ap (λ (p : Parts). length p.spaces.items) rest ∙ h.spaces;
     lists = lists;
     sizes = λ n. sizes n ∙ h.sizes n ∙ sym (put-size n);
-    host_events = subst (λ (n : ℕ). n ≤ 32) (sym (ap (λ (p : Parts). length p.host_events.items) rest)) h.host_events;
-    controller_events = subst (λ (n : ℕ). n ≤ 32) (sym (ap (λ (p : Parts). length p.controller_events.items) rest)) h.controller_events;
+    host_events = subst (λ (n : ℕ). n ≤ 32) (sym (ap (λ (p : Parts). length p.host_events) rest)) h.host_events;
+    controller_events = subst (λ (n : ℕ). n ≤ 32) (sym (ap (λ (p : Parts). length p.controller_events) rest)) h.controller_events;
     owners = owners;
   }
 

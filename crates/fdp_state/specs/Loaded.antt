@@ -38,7 +38,7 @@ pub record IsLoaded (c : DriveConfig) (s : Parts) : Type 0 where
   pub good : IsGood c (reading_of s)
   pub sayable : IsSayable (reading_of s)
   pub masks : KnowsMasks c s
-  pub events : StandByClass s.host_events.items s.controller_events.items
+  pub events : StandByClass s.host_events s.controller_events
 
 -- a state of a drive of this configuration: a checkpoint has room for it, it names the sizes of the drive, says what such a drive may
 -- say, and its rows are those of such a drive

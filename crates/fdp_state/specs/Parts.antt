@@ -34,8 +34,8 @@ reading_of s = record {
   reports = reports_in s.masks;
   namespaces = λ nsid. option_map namespace_of (in_place s.spaces.items nsid);
   pages = page_in_lists s.pages.items;
-  host_events = s.host_events.items;
-  controller_events = s.controller_events.items;
+  host_events = s.host_events;
+  controller_events = s.controller_events;
 }
 
 -- the handles of a namespace, none where it is not there
@@ -59,6 +59,6 @@ pub record IsSound (s : Parts) : Type 0 where
   pub spaces : length s.spaces.items ≡ 16
   pub lists : length s.pages.items ≡ 16
   pub sizes : (nsid : ℕ) → listed s.pages.items nsid ≡ size_in (reading_of s) nsid
-  pub host_events : length s.host_events.items ≤ 32
-  pub controller_events : length s.controller_events.items ≤ 32
+  pub host_events : length s.host_events ≤ 32
+  pub controller_events : length s.controller_events ≤ 32
   pub owners : AreOwners (page_in_lists s.pages.items) s.owners.items

@@ -8,7 +8,7 @@ ghost use Rattle.fdp_state.specs.Parts.{reading_of};
 
 use crate::events::kept_events;
 use crate::fits::are_born;
-use crate::latest::with_latest;
+use crate::latest::push_latest;
 use crate::make::make_change;
 use crate::names::names_what_is;
 use crate::parts::Parts;
@@ -78,11 +78,9 @@ fn make_whole(
 {
     let kept = kept_events(alloc, config, parts, &change, totals.position)?;
     let kept = kept.as_slice();
-    let host = with_latest(alloc, parts.host_events.as_slice(), kept, true)?;
-    let controller = with_latest(alloc, parts.controller_events.as_slice(), kept, false)?;
     make_change(alloc, config, parts, totals.position, change)?;
     parts.totals = totals;
-    parts.host_events = host;
-    parts.controller_events = controller;
+    push_latest(&mut parts.host_events, kept, true);
+    push_latest(&mut parts.controller_events, kept, false);
     Ok(())
 }

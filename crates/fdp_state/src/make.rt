@@ -21,10 +21,10 @@ use crate::moved_blocks::push_moved_blocks;
 use crate::moves::moves_of;
 use crate::parts::Parts;
 use crate::rows::{put_page, set_list, set_space};
-use fdp_base::{BlockName, Bytes, DriveConfig, Range, Sequence};
+use fdp_base::{BlockName, DriveConfig, Range, Sequence};
 use fdp_events::{no_reports, set_reports};
 use fdp_records::{Change, UnitPages};
-use fdp_snapshot::Space;
+use fdp_snapshot::{NamespaceHandles, Space};
 use std::alloc::{AllocError, Global};
 
 /// Makes a change in a loaded state, at a position. All stays as it was where there is no memory.
@@ -67,7 +67,15 @@ pub fn make_change(
             size,
             given,
             handles,
-        } => create(alloc, parts, position, nsid, size, given, handles),
+        } => create(
+            alloc,
+            parts,
+            position,
+            nsid,
+            size,
+            given,
+            handles.as_slice(),
+        ),
         Change::Delete { nsid } => {
             delete(alloc, parts, nsid);
             Ok(())
@@ -133,12 +141,13 @@ fn create(
     nsid: u32,
     size: u64,
     given: bool,
-    handles: Bytes,
+    handles: &[u8],
 ) -> Result<(), AllocError>
     requires sound { IsSound parts.old }
+    requires few { length handles.now ≤ 16 }
     requires id { IsTrue (is_namespace_id nsid) }
     requires free { has_namespace (reading_of parts.old) nsid ≡ false }
-    ensures made { (c : Config) → OnOk result (IsMade c position (changes.Create nsid size given handles) parts.old parts.new) }
+    ensures made { (c : Config) → OnOk result (IsMade c position (changes.Create nsid size given handles.now) parts.old parts.new) }
     ensures refused { OnErr result (parts.new ≡ parts.old) }
 {
     let list = blank_list(alloc, size)?;
@@ -146,7 +155,7 @@ fn create(
         size,
         birth: position,
         given,
-        handles,
+        handles: NamespaceHandles::of_slice(handles),
     };
     set_space(&mut parts.spaces, nsid, Some(space));
     set_list(&mut parts.pages, nsid, Sequence::from_vec(list));

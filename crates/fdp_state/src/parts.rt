@@ -1,8 +1,8 @@
 ghost use Rattle.std.specs.Prelude.{◌≡◌};
 
 use crate::owners::Owner;
-use fdp_base::{Event, Sequence, Totals};
-use fdp_snapshot::{Keys, PageList, Space, State, Summary};
+use fdp_base::{Sequence, Totals};
+use fdp_snapshot::{EventRing, Keys, PageList, Space, State, Summary};
 
 /// What a drive is, while the journal behind its checkpoint is applied.
 #[derive(Drop)]
@@ -17,19 +17,17 @@ pub struct Parts {
     pub spaces: Vec<Option<Space>>,
     /// The pages of the blocks of each namespace, by identifier and address.
     pub pages: Vec<PageList>,
-    pub host_events: Vec<Event>,
-    pub controller_events: Vec<Event>,
+    pub host_events: EventRing,
+    pub controller_events: EventRing,
     /// The block that stands on each data page.
     pub owners: Vec<Owner>,
 }
 
 /// Takes a state apart, beside the owners of its pages.
 pub fn parts_of(state: State, owners: Vec<Owner>) -> Parts
-    ensures rest { result ≡ record { keys = state.summary.keys; totals = state.summary.totals; enabled = state.summary.enabled; index = state.summary.index; generation = state.summary.generation; masks = state.summary.masks; spaces = result.spaces; pages = result.pages; host_events = result.host_events; controller_events = result.controller_events; owners = result.owners } }
+    ensures rest { result ≡ record { keys = state.summary.keys; totals = state.summary.totals; enabled = state.summary.enabled; index = state.summary.index; generation = state.summary.generation; masks = state.summary.masks; spaces = result.spaces; pages = result.pages; host_events = state.summary.host_events; controller_events = state.summary.controller_events; owners = result.owners } }
     ensures spaces { result.spaces.items ≡ state.summary.spaces }
     ensures pages { result.pages.items ≡ state.pages }
-    ensures host_events { result.host_events.items ≡ state.summary.host_events }
-    ensures controller_events { result.controller_events.items ≡ state.summary.controller_events }
     ensures owners { result.owners.items ≡ owners.items }
 {
     let State { summary, pages } = state;
@@ -53,15 +51,15 @@ pub fn parts_of(state: State, owners: Vec<Owner>) -> Parts
         masks,
         spaces: spaces.into_vec(),
         pages: pages.into_vec(),
-        host_events: host_events.into_vec(),
-        controller_events: controller_events.into_vec(),
+        host_events,
+        controller_events,
         owners,
     }
 }
 
 /// Puts the parts of a state together.
 pub fn state_of(parts: Parts) -> State
-    ensures { result ≡ record { summary = record { keys = parts.keys; totals = parts.totals; enabled = parts.enabled; index = parts.index; generation = parts.generation; masks = parts.masks; spaces = parts.spaces.items; host_events = parts.host_events.items; controller_events = parts.controller_events.items }; pages = parts.pages.items } }
+    ensures { result ≡ record { summary = record { keys = parts.keys; totals = parts.totals; enabled = parts.enabled; index = parts.index; generation = parts.generation; masks = parts.masks; spaces = parts.spaces.items; host_events = parts.host_events; controller_events = parts.controller_events }; pages = parts.pages.items } }
 {
     let Parts {
         keys,
@@ -85,8 +83,8 @@ pub fn state_of(parts: Parts) -> State
             generation,
             masks,
             spaces: Sequence::from_vec(spaces),
-            host_events: Sequence::from_vec(host_events),
-            controller_events: Sequence::from_vec(controller_events),
+            host_events,
+            controller_events,
         },
         pages: Sequence::from_vec(pages),
     }

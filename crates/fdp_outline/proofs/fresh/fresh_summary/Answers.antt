@@ -7,6 +7,6 @@ use Rattle.fdp_outline.proofs.fresh.fresh_summary.Goals as goal
 
 pub returns-clause-outline : goal.returns-clause-outline
 returns-clause-outline c =
-    fresh-outline c.args.config.now c.in_ok-keys.keys c.from_vec.result c.new.result c.new-2.result c.in_ok-keys.ensures.same
+    fresh-outline c.args.config.now c.in_ok-keys.keys c.from_vec.result c.in_ok-host_events.host_events c.in_ok-controller_events.controller_events c.in_ok-keys.ensures.same
     (subst (λ (rows : List (Option Space)). ArePlaced c.args.config.now.namespaces 16 rows) (sym c.from_vec.ensures) (subst (λ (xs : List NamespaceConfig). ArePlaced xs 16 c.in_ok-spaces.spaces.items) c.as_slice.ensures c.in_ok-spaces.ensures))
-    (omega (arith, c.requires.ranges.namespaces)) c.new.ensures c.new-2.ensures
+    (omega (arith, c.requires.ranges.namespaces)) c.in_ok-host_events.ensures c.in_ok-controller_events.ensures

@@ -9,35 +9,27 @@ use Rattle.fdp_outline.proofs.keep.push.Goals as goal
 pub returns-then-is_host-clause-events : goal.returns-then-is_host-clause-events
 returns-then-is_host-clause-events c =
     let s = c.args.summary.now in
-    ap (λ (xs : List Event). record s { host_events = xs }) c.push_latest.ensures.events
-    ∙ host-more s c.requires.kept.writable.summary c.args.event c.requires.reported (sym (c.is_host.ensures c.args.event refl) ∙ c.if-is_host.true)
+    ap (λ (xs : List Event). record s { host_events = xs }) c.push.ensures
+    ∙ host-more s c.requires.writable.summary c.args.event c.requires.reported (sym (c.is_host.ensures c.args.event refl) ∙ c.if-is_host.true)
 
-pub returns-then-is_host-clause-kept : goal.returns-then-is_host-clause-kept
-returns-then-is_host-clause-kept c =
+pub returns-then-is_host-clause-writable : goal.returns-then-is_host-clause-writable
+returns-then-is_host-clause-writable c =
     let s = c.args.summary.now in
-    let is : record s { host_events = c.push_latest.new.events } ≡ with_events s (c.args.event ∷ []) =
-    ap (λ (xs : List Event). record s { host_events = xs }) c.push_latest.ensures.events
-    ∙ host-more s c.requires.kept.writable.summary c.args.event c.requires.reported (sym (c.is_host.ensures c.args.event refl) ∙ c.if-is_host.true) in
-    record {
-      writable = subst (λ (x : Summary). IsWritable x) (sym is) (writable-more s (c.args.event ∷ []) c.requires.kept.writable (plain-one c.args.event c.requires.plain));
-      host = c.push_latest.ensures.spares;
-      controller = c.requires.kept.controller;
-    }
+    let is : record s { host_events = c.push.new.self } ≡ with_events s (c.args.event ∷ []) =
+    ap (λ (xs : List Event). record s { host_events = xs }) c.push.ensures
+    ∙ host-more s c.requires.writable.summary c.args.event c.requires.reported (sym (c.is_host.ensures c.args.event refl) ∙ c.if-is_host.true) in
+    subst (λ (x : Summary). IsWritable x) (sym is) (writable-more s (c.args.event ∷ []) c.requires.writable (plain-one c.args.event c.requires.plain))
 
 pub returns-clause-events : goal.returns-clause-events
 returns-clause-events c =
     let s = c.args.summary.now in
-    ap (λ (xs : List Event). record s { controller_events = xs }) c.push_latest-2.ensures.events
-    ∙ controller-more s c.requires.kept.writable.summary c.args.event c.requires.reported (sym (c.is_host.ensures c.args.event refl) ∙ c.if-is_host.false)
+    ap (λ (xs : List Event). record s { controller_events = xs }) c.push-2.ensures
+    ∙ controller-more s c.requires.writable.summary c.args.event c.requires.reported (sym (c.is_host.ensures c.args.event refl) ∙ c.if-is_host.false)
 
-pub returns-clause-kept : goal.returns-clause-kept
-returns-clause-kept c =
+pub returns-clause-writable : goal.returns-clause-writable
+returns-clause-writable c =
     let s = c.args.summary.now in
-    let is : record s { controller_events = c.push_latest-2.new.events } ≡ with_events s (c.args.event ∷ []) =
-    ap (λ (xs : List Event). record s { controller_events = xs }) c.push_latest-2.ensures.events
-    ∙ controller-more s c.requires.kept.writable.summary c.args.event c.requires.reported (sym (c.is_host.ensures c.args.event refl) ∙ c.if-is_host.false) in
-    record {
-      writable = subst (λ (x : Summary). IsWritable x) (sym is) (writable-more s (c.args.event ∷ []) c.requires.kept.writable (plain-one c.args.event c.requires.plain));
-      host = c.requires.kept.host;
-      controller = c.push_latest-2.ensures.spares;
-    }
+    let is : record s { controller_events = c.push-2.new.self } ≡ with_events s (c.args.event ∷ []) =
+    ap (λ (xs : List Event). record s { controller_events = xs }) c.push-2.ensures
+    ∙ controller-more s c.requires.writable.summary c.args.event c.requires.reported (sym (c.is_host.ensures c.args.event refl) ∙ c.if-is_host.false) in
+    subst (λ (x : Summary). IsWritable x) (sym is) (writable-more s (c.args.event ∷ []) c.requires.writable (plain-one c.args.event c.requires.plain))

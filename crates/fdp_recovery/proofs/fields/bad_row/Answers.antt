@@ -19,10 +19,9 @@ returns-clause-value c =
     let space : c.bad_space-space.result ≡ bad_space n s.totals.position (full_budget c.args.config.now n) s.spaces =
     c.bad_space-space.ensures.value ∙ (λ i. bad_space n s.totals.position (room i) (c.as_slice.ensures i)) in
     let d : c.row_at-3.result ≡ row_at 128 40 (bad_space n s.totals.position (full_budget c.args.config.now n) s.spaces) = c.row_at-3.ensures.value ∙ ap (row_at 128 40) space in
-    let host : c.controller_event-host.result ≡ position (λ (e : Event). not (is_host_event e)) s.host_events =
-    c.controller_event-host.ensures.value ∙ ap (position (λ (e : Event). not (is_host_event e))) c.as_slice-2.ensures in
+    let host : c.event_of-host.result ≡ position (λ (e : Event). not (is_host_event e)) s.host_events = c.event_of-host.ensures.value in
     let e : c.row_at-4.result ≡ row_at 832 64 (position (λ (e : Event). not (is_host_event e)) s.host_events) = c.row_at-4.ensures.value ∙ ap (row_at 832 64) host in
-    let controller : c.host_event-controller.result ≡ position is_host_event s.controller_events = c.host_event-controller.ensures.value ∙ ap (position is_host_event) c.as_slice-3.ensures in
+    let controller : c.event_of-controller.result ≡ position is_host_event s.controller_events = c.event_of-controller.ensures.value in
     let f : c.row_at-5.result ≡ row_at 2880 64 (position is_host_event s.controller_events) = c.row_at-5.ensures.value ∙ ap (row_at 2880 64) controller in
     let events = c.or_else.ensures.value ∙ (λ i. or_else (e i) (f i)) in
     let lists = c.or_else-2.ensures.value ∙ (λ i. or_else (d i) (events i)) in
@@ -31,8 +30,8 @@ returns-clause-value c =
 
 pub returns-clause-bound : goal.returns-clause-bound
 returns-clause-bound c =
-    let host = few_of c.controller_event-host.result _ 32 c.controller_event-host.ensures.bound (subst (λ (xs : List Event). length xs ≤ 32) (sym c.as_slice-2.ensures) c.requires.summary.host_count) in
-    let controller = few_of c.host_event-controller.result _ 32 c.host_event-controller.ensures.bound (subst (λ (xs : List Event). length xs ≤ 32) (sym c.as_slice-3.ensures) c.requires.summary.controller_count) in
+    let host = few_of c.event_of-host.result _ 32 c.event_of-host.ensures.bound c.requires.summary.host_count in
+    let controller = few_of c.event_of-controller.result _ 32 c.event_of-controller.ensures.bound c.requires.summary.controller_count in
     let spaces = few_of c.bad_space-space.result _ 16 c.bad_space-space.ensures.bound (subst (λ (xs : List (Option Space)). length xs ≤ 16) (sym c.as_slice.ensures) (omega (arith, c.requires.summary.places))) in
     c.or_else-4.ensures.bound (c.row_at.ensures.bound 16 (lit< tt) c.stray_mask-stray.ensures.bound)
     (c.or_else-3.ensures.bound (c.row_at-2.ensures.bound 16 (omega (arith, c.from.ensures, c.requires.count)) c.other_mask-other.ensures.bound)

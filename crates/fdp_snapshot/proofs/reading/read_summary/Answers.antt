@@ -10,9 +10,9 @@ unfolding summary_in
 returns c =
     let bytes = c.args.bytes.now in
     let hosts = c.min-hosts.ensures ∙ ap (λ (n : ℕ). min n 32) c.from.ensures in
-    let host_rows = c.in-Ok-read_all.ensures ∙ ap (λ (n : ℕ). items 64 event_at n (drop 832 bytes)) hosts in
+    let host_rows = c.in-Ok-read_events.ensures ∙ ap (λ (n : ℕ). items 64 event_at n (drop 832 bytes)) hosts in
     let controllers = c.min-controllers.ensures ∙ ap (λ (n : ℕ). min n 32) c.from-2.ensures in
-    let controller_rows = c.in-Ok-read_all-2.ensures ∙ ap (λ (n : ℕ). items 64 event_at n (drop 2880 bytes)) controllers in
+    let controller_rows = c.in-Ok-read_events-2.ensures ∙ ap (λ (n : ℕ). items 64 event_at n (drop 2880 bytes)) controllers in
     λ i. record {
       keys = c.in_ok-keys.ensures i;
       totals = c.read_totals.ensures i;

@@ -1,5 +1,6 @@
-use Rattle.std.proofs.Common.{◌≡◌, ◌∙◌, ℕ, None, List, Option, ap, length, refl, sym}
+use Rattle.std.proofs.Common.{◌≡◌, ◌∙◌, ℕ, None, Some, List, Option, ap, length, refl, sym}
 use Rattle.std.specs.Prelude.{◌==◌, if◌then◌else◌}
+use Rattle.fdp_base.specs.Numbers.{with_at}
 use Rattle.fdp_image.specs.Checkpoint.{page_in_lists}
 use Rattle.fdp_state.specs.Parts.{listed, reading_of, row}
 use Rattle.fdp_state.proofs.Owning.{owners-as}
@@ -16,4 +17,6 @@ returns-clause-made c k =
     λ n lba. empty_pages c.from_vec.result new old c.args.nsid n lba (c.set_list.ensures.pages n lba) (λ l. ap (λ (list : List (Option ℕ)). row list l) c.from_vec.ensures ∙ c.in_ok-list.ensures.rows l) in
     made_place c.args.parts.now _ refl c.args.nsid _ c.requires.sound c.set_space.ensures.rows c.set_list.ensures.rows c.set_space.ensures.place pages
     (λ n. c.set_list.ensures.sizes n ∙ ap (λ (m : ℕ). if n == c.args.nsid then m else listed old n) (ap length c.from_vec.ensures ∙ c.in_ok-list.ensures.size))
-    (owners-as (page_in_lists old) (page_in_lists new) _ (λ n l. pages n l ∙ sym (none n l)) c.requires.sound.owners) k _ _ refl none
+    (owners-as (page_in_lists old) (page_in_lists new) _ (λ n l. pages n l ∙ sym (none n l)) c.requires.sound.owners) k _ _
+    (ap (λ (xs : List ℕ). record (reading_of c.args.parts.now) { namespaces = with_at (reading_of c.args.parts.now).namespaces c.args.nsid (Some (record { size = c.args.size; handles = xs; given = c.args.given; birth = c.args.position })) }) (sym c.of_slice.ensures))
+    none

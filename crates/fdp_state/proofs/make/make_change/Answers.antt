@@ -1,4 +1,4 @@
-use Rattle.std.proofs.Common.{◌∙◌, ℕ, List, length, ap, subst, sym}
+use Rattle.std.proofs.Common.{◌∙◌, ◌≤◌, ℕ, List, length, ap, subst, sym}
 use Rattle.fdp_base.specs.declared.command.Range.{Range}
 use Rattle.fdp_records.specs.declared.change.Change.{Change}
 use Rattle.fdp_records.specs.declared.change.Change.TheVariants as changes
@@ -7,7 +7,7 @@ use Rattle.fdp_image.specs.Fits.{lie_within, lies_within, names_what_is}
 use Rattle.fdp_state.specs.Made.{IsMade}
 use Rattle.fdp_state.specs.Parts.{reading_of}
 use Rattle.fdp_state.proofs.Making.{made_shut, made_update}
-use Rattle.fdp_state.proofs.Named.{clear_there, clear_within, create_free, create_id, delete_there, events_few, moved_first, moved_second, moved_victim, write_within}
+use Rattle.fdp_state.proofs.Named.{clear_there, clear_within, create_few, create_free, create_id, delete_there, events_few, moved_first, moved_second, moved_victim, write_within}
 use Rattle.fdp_state.proofs.make.make_change.Goals as goal
 
 pub put_write-requires-clause-within : goal.put_write-requires-clause-within
@@ -23,6 +23,11 @@ returns-in-Write-clause-made c =
 
 pub clear-requires-clause-there : goal.clear-requires-clause-there
 clear-requires-clause-there c = clear_there c.args.config.now (reading_of c.args.parts.now) c.in-Clear.nsid _ (sym (ap (names_what_is c.args.config.now (reading_of c.args.parts.now)) c.in-Clear.is) ∙ c.requires.fit)
+
+pub create-requires-clause-few : goal.create-requires-clause-few
+create-requires-clause-few c =
+    subst (λ (xs : List ℕ). length xs ≤ 16) (sym c.as_slice-in-Create.ensures)
+    (create_few c.args.config.now (reading_of c.args.parts.now) c.in-Create.nsid c.in-Create.size c.in-Create.given _ (sym (ap (names_what_is c.args.config.now (reading_of c.args.parts.now)) c.in-Create.is) ∙ c.requires.fit))
 
 pub create-requires-clause-id : goal.create-requires-clause-id
 create-requires-clause-id c = create_id c.args.config.now (reading_of c.args.parts.now) c.in-Create.nsid c.in-Create.size c.in-Create.given _ (sym (ap (names_what_is c.args.config.now (reading_of c.args.parts.now)) c.in-Create.is) ∙ c.requires.fit)
@@ -60,7 +65,9 @@ returns-in-Update-clause-made c =
 
 pub returns-in-Create-clause-made : goal.returns-in-Create-clause-made
 returns-in-Create-clause-made c =
-    subst (λ (change : Change). OnOk c.create.result (IsMade c.args.config.now c.args.position change c.args.parts.now c.create.new.parts)) (sym c.in-Create.is) (c.create.ensures.made c.args.config.now)
+    subst (λ (change : Change). OnOk c.create.result (IsMade c.args.config.now c.args.position change c.args.parts.now c.create.new.parts))
+    (sym (c.in-Create.is ∙ ap (changes.Create c.in-Create.nsid c.in-Create.size c.in-Create.given) (sym c.as_slice-in-Create.ensures)))
+    (c.create.ensures.made c.args.config.now)
 
 pub set_events-requires-clause-ruh : goal.set_events-requires-clause-ruh
 unfolding reading_of

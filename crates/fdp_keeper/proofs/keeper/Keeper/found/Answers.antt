@@ -19,7 +19,7 @@ returns-clause-outline c p h at =
     let handles = c.handle_count-count.ensures.value ∙ handles-said cfg p c.args.summary h in
     let is : c.keep_reopened.new.self ≡ with_events c.args.summary (events_of_entry cfg p.state entries.Reopened) =
     c.keep_reopened.ensures p.state (ap (λ n. n + 1) at)
-    ∙ ap (λ (s : Summary). with_events s (flat_map (λ rg. map (handle_event p.state kinds.HandlesModified rg) (numbers_below c.handle_count-count.result)) (numbers_below cfg.groups))) c.in_ok-outline.ensures
+    ∙ ap (λ (s : Summary). with_events s (flat_map (λ rg. map (handle_event p.state kinds.HandlesModified rg) (numbers_below c.handle_count-count.result)) (numbers_below cfg.groups))) c.new-outline.ensures
     ∙ ap (λ (n : ℕ). with_events c.args.summary (flat_map (λ rg. map (handle_event p.state kinds.HandlesModified rg) (numbers_below n)) (numbers_below cfg.groups))) handles in
     subst (λ (s : Summary). IsOutlineOf cfg (drawn cfg (next cfg p entries.Reopened)) s) (sym is)
     (outline-more cfg (drawn cfg p) (drawn cfg (next cfg p entries.Reopened)) (events_of_entry cfg p.state entries.Reopened) c.args.summary h (reopened-adds cfg p))

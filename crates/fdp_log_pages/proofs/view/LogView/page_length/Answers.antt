@@ -22,7 +22,8 @@ returns-else-lid-code-3 c = λ p tells.
     let no_20 : c.args.lid ≢ 0x20 = λ e. c.if-lid-code.false (e ∙ sym c.code.ensures) in
     let no_21 : c.args.lid ≢ 0x21 = λ e. c.if-lid-code-2.false (e ∙ sym c.code-else-lid-code.ensures) in
     let no_22 : c.args.lid ≢ 0x22 = λ e. c.if-lid-code-3.false (e ∙ sym c.code-else-lid-code-2.ensures) in
-    let told : c.events.result.now ≡ (if c.args.lsp % 2 == 1 then p.host_events else p.controller_events) = c.events.ensures.events ∙ events_told t p c.args.lsp tells in
-    ap (λ (es : List Event). 64 + 64 * length es) told
+    let told : c.events.result.now ≡ (if c.args.lsp % 2 == 1 then p.host_events else p.controller_events) = c.events.ensures ∙ events_told t p c.args.lsp tells in
+    ap (λ (n : ℕ). 64 + 64 * n) c.len.ensures.len
+    ∙ ap (λ (es : List Event). 64 + 64 * length es) told
     ∙ sym (events_log_length (if c.args.lsp % 2 == 1 then p.host_events else p.controller_events))
     ∙ ap (λ (bytes : List ℕ). length bytes) (sym (page_events t.config p c.args.lid c.args.lsp no_20 no_21 no_22))

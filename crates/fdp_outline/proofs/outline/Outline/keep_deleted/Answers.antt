@@ -6,5 +6,5 @@ use Rattle.fdp_outline.proofs.outline.Outline.keep_deleted.Goals as goal
 
 pub returns : goal.returns
 returns c = λ config r totals h.
-    outline-deleted config r c.self.inside.summary totals c.remove.new.spaces c.args.nsid c.self.invariant.kept.writable.summary c.remove.ensures.spaces
+    outline-deleted config r c.self.inside.summary totals c.put.new.spaces c.args.nsid c.self.invariant.summary c.put.ensures.spaces
     (subst (λ (x : Summary). IsOutlineOf config r x) (sym c.self.view_is) h)

@@ -10,13 +10,13 @@ pub returns-then-not-reports : goal.returns-then-not-reports
 returns-then-not-reports c s at =
     let names = names_of_handle c.args.blocks.now c.args.ruh in
     subst (λ (x : Summary). x ≡ with_events x (reallocated s c.args.rg c.args.ruh names)) c.self.view_is
-    (unreported c.self.inside.summary c.self.invariant.kept.writable.summary s c.args.rg c.args.ruh names (sym c.reports.ensures ∙ c.if-not-reports.true))
+    (unreported c.self.inside.summary c.self.invariant.summary s c.args.rg c.args.ruh names (sym c.reports.ensures ∙ c.if-not-reports.true))
 
 pub returns-in_default : goal.returns-in_default
 returns-in_default c s at =
     let names = names_of_handle c.args.blocks.now c.args.ruh in
     subst (λ (x : Summary). x ≡ with_events x (reallocated s c.args.rg c.args.ruh names)) c.self.view_is
-    (unmoved c.self.inside.summary c.self.invariant.kept.writable.summary s c.args.rg c.args.ruh names (sym c.in_default.ensures))
+    (unmoved c.self.inside.summary c.self.invariant.summary s c.args.rg c.args.ruh names (sym c.in_default.ensures))
 
 pub returns-in-Some : goal.returns-in-Some
 returns-in-Some c s at =

@@ -6,5 +6,5 @@ use Rattle.fdp_outline.proofs.outline.Outline.keep_setting.Goals as goal
 
 pub returns : goal.returns
 returns c = λ config r totals h.
-    outline-set config r c.self.inside.summary totals c.args.enabled c.args.index c.args.generation c.no_reports-self-inside.result c.self.invariant.kept.writable.summary c.no_reports-self-inside.ensures.none c.no_reports-self-inside.ensures.known
+    outline-set config r c.self.inside.summary totals c.args.enabled c.args.index c.args.generation c.no_reports-self-inside.result c.self.invariant.summary c.no_reports-self-inside.ensures.none c.no_reports-self-inside.ensures.known
     (subst (λ (x : Summary). IsOutlineOf config r x) (sym c.self.view_is) h)
