@@ -12,6 +12,3 @@ mod verdict;
 pub use exit::drive_process;
 pub use laws::{a_record_is_audited_yes, a_second_run_goes_on, a_second_run_opens};
 pub use top::drive_top;
-
-#[cfg(test)]
-mod tests;

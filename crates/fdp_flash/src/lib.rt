@@ -8,8 +8,6 @@ mod flash;
 mod layout;
 mod memory;
 mod plan;
-#[cfg(test)]
-mod tests;
 
 pub use answer::{Fetched, Operation, Seen, Wrote};
 pub use area::erase_area;

@@ -12,8 +12,6 @@ mod pages;
 mod read;
 mod recorded;
 mod room;
-#[cfg(test)]
-mod tests;
 
 use crate::answer::Operation;
 use crate::cell::Cell;

@@ -93,6 +93,11 @@ impl<S: FileExt + Seek + Drop> FlashFile<S> {
         at.page < self.geometry.unit_pages && at.unit < self.geometry.all_units()
     }
 
+    /// The file that holds the flash.
+    pub fn file(&self) -> &S {
+        &self.pages.file
+    }
+
     /// Gives the file back.
     pub fn into_file(self) -> S {
         self.pages.file

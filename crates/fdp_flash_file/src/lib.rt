@@ -7,8 +7,6 @@ mod head;
 mod page;
 mod page_file;
 mod take;
-#[cfg(test)]
-mod tests;
 
 pub use flash_file::FlashFile;
 pub use head::is_valid_geometry;

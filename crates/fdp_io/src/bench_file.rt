@@ -125,7 +125,7 @@ impl<R: Files<File = File> + Eprint + Drop> Bench for BenchFile<R> {
 
 /// Reads all that a reader has left into `into`, in the place of what was there. One byte more than the limit tells
 /// that it is too long.
-pub(crate) fn read_rest<F: Read + Drop>(file: F, into: &mut Vec<u8>, limit: u64) -> TextRead
+pub fn read_rest<F: Read + Drop>(file: F, into: &mut Vec<u8>, limit: u64) -> TextRead
     ensures replaces { ReplacesOnDone into.old.items into.new.items result }
     ensures answer { ReadsRest (F.remaining file) limit into.new.items result }
 {

@@ -13,12 +13,9 @@ mod sink_mem;
 mod sink_writer;
 
 pub use bench::{Bench, NotTaken, TextRead};
-pub use bench_file::BenchFile;
+pub use bench_file::{BenchFile, read_rest};
 pub use bench_mem::BenchMem;
 pub use gate::{Gate, OpenGate, Point};
 pub use sink::{Sink, SinkEnd, SinkFailed, write_all};
 pub use sink_mem::SinkMem;
 pub use sink_writer::SinkWriter;
-
-#[cfg(test)]
-mod tests;

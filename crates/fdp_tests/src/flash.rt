@@ -1,13 +1,8 @@
 mod images;
 mod plans;
 
-use crate::answer::{Fetched, Seen, Wrote};
-use crate::area::erase_area;
-use crate::cell::Cell;
-use crate::flash::Flash;
-use crate::memory::FlashMem;
-use crate::plan::{Outcome, Plan};
 use fdp_base::{Geometry, Sequence, Spot};
+use fdp_flash::{Cell, Fetched, Flash, FlashMem, Outcome, Plan, Seen, Wrote, erase_area};
 use std::alloc::{AllocError, Global};
 use std::test::Fail;
 

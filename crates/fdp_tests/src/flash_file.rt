@@ -1,7 +1,7 @@
-use crate::flash_file::FlashFile;
-use crate::take::TakeError;
+use crate::flash::SMALL;
 use fdp_base::{Geometry, Spot};
 use fdp_flash::{Fetched, Flash, Seen, Wrote};
+use fdp_flash_file::{FlashFile, TakeError};
 use std::alloc::{AllocError, Global};
 use std::cell::{Cell, RefCell};
 use std::fs::File;
@@ -9,15 +9,6 @@ use std::io::{Cursor, ErrorKind, Read, Seek, SeekFrom, Write};
 use std::os::unix::fs::FileExt;
 use std::test::Fail;
 use std::{fs, io};
-
-/// Two units of data and two of system areas, of two pages each.
-const SMALL: Geometry = Geometry {
-    block: 512,
-    unit_pages: 2,
-    groups: 1,
-    units: 2,
-    area_units: 1,
-};
 
 const PAGES: u32 = 8;
 
@@ -149,7 +140,7 @@ fn perform<S: FileExt + Seek + Drop>(
     if flash.geometry() != SMALL {
         return '?';
     }
-    flash.pages.file.calls.set(failing);
+    flash.file().calls.set(failing);
     let wrote = match step {
         Step::Program(unit, page, fill) => {
             let at = Spot { unit, page };
@@ -329,7 +320,7 @@ fn failed_file_calls_are_counted(rt: HostRuntime) -> Result<(), Fail> {
         assert_eq!(rt; flash.faults(), u64::from(fails), "{failing}");
         assert_eq!(rt; flash.programs(), u64::from(!fails), "{failing}");
         assert_eq!(rt; flash.moment(), 1);
-        flash.pages.file.calls.set(0);
+        flash.file().calls.set(0);
         let letter = if fails { '.' } else { '1' };
         assert_eq!(rt; letter_at(&mut flash, 0), letter, "{failing}");
     }
@@ -351,7 +342,7 @@ fn a_stop_leaves_a_page_as_it_was(rt: HostRuntime) -> Result<(), Fail> {
     for (failing, pages) in [(1, "........"), (2, "........"), (0, "3.......")] {
         let mut flash = with_pages(rt.alloc())?;
         perform(&mut flash, Step::Erase(0), 0);
-        flash.pages.file.stopped.set(true);
+        flash.file().stopped.set(true);
         perform(&mut flash, Step::Program(0, 0, b'3'), failing);
         assert_eq!(rt; left(rt.alloc(), flash)?.as_str(), pages, "{failing}");
     }
@@ -369,7 +360,7 @@ fn a_full_disk_leaves_a_page_blank(rt: HostRuntime) -> Result<(), Fail> {
         (545, 'D', "12..5..."),
     ] {
         let mut flash = with_pages(rt.alloc())?;
-        flash.pages.file.room.set(room);
+        flash.file().room.set(room);
         let told = perform(&mut flash, Step::Program(2, 0, b'5'), 0);
         assert_eq!(rt; told, answer, "{room}");
         assert_eq!(rt; drawn(rt.alloc(), &mut flash)?.as_str(), pages, "{room}");
@@ -384,15 +375,15 @@ fn a_full_disk_leaves_a_page_blank(rt: HostRuntime) -> Result<(), Fail> {
 fn a_failed_erase_leaves_what_the_file_says(rt: HostRuntime) -> Result<(), Fail> {
     for (room, pages) in [(0, "12......"), (1, ".2......"), (2, "........")] {
         let mut flash = with_pages(rt.alloc())?;
-        flash.pages.file.room.set(room);
+        flash.file().room.set(room);
         perform(&mut flash, Step::Erase(0), 0);
         assert_eq!(rt; drawn(rt.alloc(), &mut flash)?.as_str(), pages, "{room}");
         assert_eq!(rt; left(rt.alloc(), flash)?.as_str(), pages, "{room}");
     }
     let mut flash = with_pages(rt.alloc())?;
-    flash.pages.file.stopped.set(true);
+    flash.file().stopped.set(true);
     perform(&mut flash, Step::Erase(0), 1);
-    flash.pages.file.calls.set(0);
+    flash.file().calls.set(0);
     assert_eq!(rt; drawn(rt.alloc(), &mut flash)?.as_str(), "~~......");
     Ok(())
 }

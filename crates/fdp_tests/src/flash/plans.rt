@@ -1,9 +1,7 @@
 //! Flashes that follow their plans: the answers to the script under a plan, the cells that are left, and how many faults and
 //! programs were counted.
 use super::{SCRIPT, made, plays};
-use crate::flash::Flash;
-use crate::memory::FlashMem;
-use crate::plan::Outcome;
+use fdp_flash::{Flash, FlashMem, Outcome};
 use std::alloc::{AllocError, Global};
 use std::test::Fail;
 

@@ -1,7 +1,8 @@
 mod flashes;
 
-use crate::bench_file::read_rest;
-use crate::{Bench, BenchFile, BenchMem, Sink, SinkEnd, SinkMem, SinkWriter, TextRead, write_all};
+use fdp_io::{
+    Bench, BenchFile, BenchMem, Sink, SinkEnd, SinkMem, SinkWriter, TextRead, read_rest, write_all,
+};
 use std::alloc::{AllocError, Global};
 use std::io::{Cursor, ErrorKind, Read, Write};
 use std::test::Fail;

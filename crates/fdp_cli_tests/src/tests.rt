@@ -1,4 +1,4 @@
-use crate::drive_top;
+use fdp_cli::drive_top;
 use fdp_io::{BenchMem, OpenGate, SinkMem};
 use std::alloc::{AllocError, Global};
 use std::sync::Wait;

@@ -1,8 +1,6 @@
 //! What a stop leaves.
 use super::{SCRIPT, SMALL, Step, made, perform, play};
-use crate::cell::Cell;
-use crate::memory::FlashMem;
-use crate::plan::{Outcome, Plan};
+use fdp_flash::{Cell, FlashMem, Outcome, Plan};
 use std::alloc::{AllocError, Global};
 use std::test::Fail;
 

@@ -3,21 +3,13 @@
 ghost use Rattle.fdp_base.specs.Geometry.{IsValidGeometry};
 
 use super::failing_at;
-use crate::{Bench, BenchFile, BenchMem, NotTaken};
+use crate::flash::SMALL;
 use fdp_base::{Geometry, Spot};
 use fdp_flash::{Flash, FlashMem, Plan, Seen};
+use fdp_io::{Bench, BenchFile, BenchMem, NotTaken};
 use std::alloc::{AllocError, Global};
 use std::fs;
 use std::test::Fail;
-
-/// Two units of data and two of system areas, of two pages each.
-const SMALL: Geometry = Geometry {
-    block: 512,
-    unit_pages: 2,
-    groups: 1,
-    units: 2,
-    area_units: 1,
-};
 
 /// A unit of data more.
 const LARGER: Geometry = Geometry {
