@@ -15,6 +15,3 @@ pub use laws::{
 pub use line::push_summary;
 pub use load::{config, traces};
 pub use summary::{Summary, summary_of};
-
-#[cfg(test)]
-mod tests;

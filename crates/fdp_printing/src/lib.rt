@@ -13,6 +13,3 @@ pub use history::push_entry;
 pub use pieces::Cut;
 pub use print::{print_output, print_record};
 pub use telling::{Telling, closing_of};
-
-#[cfg(test)]
-mod tests;

@@ -1,4 +1,4 @@
-//! The tests of the records, the checkpoint, the flash and the outside of a drive.
+//! The tests of the records, the checkpoint, the flash and the outside of a drive, of what is printed and of the generated load.
 #![tactic(auto)]
 
 #[cfg(test)]
@@ -7,6 +7,10 @@ mod flash;
 mod flash_file;
 #[cfg(test)]
 mod io;
+#[cfg(test)]
+mod make;
+#[cfg(test)]
+mod printing;
 #[cfg(test)]
 mod records;
 #[cfg(test)]

@@ -1,8 +1,8 @@
 //! Commands that no line of a trace spells: the digits are written by hand from the table of entries.
 
 use super::*;
-use crate::history::push_entry;
 use fdp_base::{Create, Dealloc, GetLog, HandleUpdate, Other, Range, SetEvents};
+use fdp_printing::push_entry;
 
 /// Whether an entry at position 41, of a drive with blocks of 512 bytes, is printed so.
 fn shows(alloc: Global, entry: &Entry, text: &[u8]) -> Result<bool, AllocError> {

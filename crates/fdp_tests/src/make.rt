@@ -1,5 +1,5 @@
-use crate::{Summary, config, push_summary, summary_of, traces};
 use fdp_base::{Bytes, Command, Entry, Host, Payload, Read, Reply, Status, Write};
+use fdp_make::{Summary, config, push_summary, summary_of, traces};
 use std::alloc::{AllocError, Global};
 use std::test::Fail;
 

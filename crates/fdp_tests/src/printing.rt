@@ -1,10 +1,10 @@
-use crate::{Closing, Placement, print_output, print_record};
 use fdp_base::{
     BlockName, Command, Copied, Entry, Erased, Event, EventFlags, EventKind, Host, Moved, Payload,
     Placed, Read, Reply, Sequence, Shut, Spot, Started, Status, Totals, Write,
 };
 use fdp_drives::drive_s;
 use fdp_io::SinkMem;
+use fdp_printing::{Closing, Placement, print_output, print_record};
 use std::alloc::{AllocError, Global};
 use std::test::Fail;
 
