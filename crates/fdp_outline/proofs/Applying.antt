@@ -1,8 +1,7 @@
 -- The outline behind a saved change that makes no event.
-use Rattle.std.proofs.Common.{◌≡◌, ℕ, ◌<◌, ◌≤◌, ◌++◌, Bool, true, false, List, [], length, Option, Some, None, refl, ap, sym, ◌∙◌, subst, arith}
-use Rattle.std.specs.Prelude.{◌==◌, ◌&&◌, IsTrue, nat_lt, flat_map, if◌then◌else◌, option_map}
+use Rattle.std.proofs.Common.{◌≡◌, ℕ, ◌<◌, ◌≤◌, ◌++◌, Bool, true, false, List, [], length, Option, Some, None, refl, ap, sym, ◌∙◌, subst}
+use Rattle.std.specs.Prelude.{◌==◌, ◌&&◌, flat_map, if◌then◌else◌, option_map}
 use Rattle.std.specs.List.{enumerate_from}
-use Rattle.std.proofs.lemmas.Bool.{and_parts, ltb-true}
 use Rattle.fdp_base.specs.declared.command.Range.{Range}
 use Rattle.fdp_base.specs.declared.config.DriveConfig.{DriveConfig}
 use Rattle.fdp_base.specs.declared.entry.Totals.{Totals}
@@ -15,7 +14,7 @@ use Rattle.fdp_image.specs.ChangeEvents.{closed_event, events_of_change, kept_of
 use Rattle.fdp_image.specs.Changed.{pages_after, reporting}
 use Rattle.fdp_image.specs.Checkpoint.{in_place, namespace_of, reading_of_state, reports_in}
 use Rattle.fdp_image.specs.CheckpointRows.{has_kind}
-use Rattle.fdp_image.specs.Fits.{are_born, fits, handles_in, names_what_is}
+use Rattle.fdp_image.specs.Fits.{fits, handles_in}
 use Rattle.fdp_image.specs.Outline.{outline_before}
 use Rattle.fdp_image.specs.Reading.{Reading}
 use Rattle.fdp_records.specs.declared.change.Change.TheVariants as changes
@@ -25,13 +24,9 @@ use Rattle.fdp_snapshot.specs.declared.space.Space.{Space}
 use Rattle.fdp_snapshot.specs.declared.state.Summary.{Summary}
 use Rattle.fdp_snapshot.specs.Fixed.{IsSummary}
 use Rattle.fdp_outline.specs.Events.{AddsEvents, with_events}
-use Rattle.fdp_outline.specs.Outline.{IsOutlineOf}
+use Rattle.fdp_outline.specs.Outline.{IsOutlineOf, said_by}
 use Rattle.fdp_events.proofs.Latest.{latest-few}
 use Rattle.fdp_outline.proofs.Saying.{outline-more}
-
--- what an outline says without pages
-abbrev said : Summary → Reading
-said s = reading_of_state (record { summary = s; pages = [] })
 
 -- at most 32 events of each class
 record HasFewEvents (s : Summary) : Type 0 where
@@ -46,8 +41,8 @@ outline-quiet c x s totals pages fits h = record {
   sizes = h.sizes;
   rows = h.rows;
   says =
-      ap (λ (xs : List Event). record (said s) { totals = totals; pages = pages; host_events = xs }) (latest-few s.host_events fits.host)
-      ∙ ap (λ (xs : List Event). record (said s) { totals = totals; pages = pages; host_events = latest (s.host_events ++ []); controller_events = xs }) (latest-few s.controller_events fits.controller)
+      ap (λ (xs : List Event). record (said_by s) { totals = totals; pages = pages; host_events = xs }) (latest-few s.host_events fits.host)
+      ∙ ap (λ (xs : List Event). record (said_by s) { totals = totals; pages = pages; host_events = latest (s.host_events ++ []); controller_events = xs }) (latest-few s.controller_events fits.controller)
       ∙ ap (λ (y : Reading). record y { totals = totals; pages = pages; host_events = latest (y.host_events ++ []); controller_events = latest (y.controller_events ++ []) }) h.says;
 }
 
@@ -59,7 +54,7 @@ outline-spaces c r s spaces f is h = record {
   sizes = h.sizes;
   rows = record { masks = h.rows.masks; events = h.rows.events };
   says =
-      ap (λ (g : ℕ → Option Namespace). record (said s) { totals = r.totals; pages = r.pages; namespaces = g }) (λ i. λ n. is n i)
+      ap (λ (g : ℕ → Option Namespace). record (said_by s) { totals = r.totals; pages = r.pages; namespaces = g }) (λ i. λ n. is n i)
       ∙ ap (λ (y : Reading). record y { namespaces = f }) h.says;
 }
 
@@ -129,38 +124,30 @@ outline-set c r s totals enabled index generation masks fits none known h =
       sizes = h.sizes;
       rows = record { masks = known (handle_count c enabled index); events = h.rows.events };
       says =
-          ap (λ (f : ℕ → EventKind → Bool). record (said s) { totals = r.totals; pages = r.pages; enabled = enabled; index = index; generation = generation; reports = f }) (λ i. λ ruh kind. none ruh kind i)
+          ap (λ (f : ℕ → EventKind → Bool). record (said_by s) { totals = r.totals; pages = r.pages; enabled = enabled; index = index; generation = generation; reports = f }) (λ i. λ ruh kind. none ruh kind i)
           ∙ ap (λ (y : Reading). record y { enabled = enabled; index = index; generation = generation; reports = λ ruh kind. false }) h.says;
     })
-
--- a setting of events that fits is of a handle and of kinds that there are
-kinds-fit : (c : DriveConfig) (r : Reading) (totals : Totals) (ruh mask : ℕ) (on : Bool) → IsTrue (fits c r (changes.SetEvents ruh on mask, totals)) → (ruh < handles_in c r) × (mask < 64)
-unfolding names_what_is
-kinds-fit c r totals ruh mask on e =
-    let named = and_parts (are_born r totals.position) (nat_lt ruh (handles_in c r) && nat_lt mask 64) e in
-    let parts = and_parts (nat_lt ruh (handles_in c r)) (nat_lt mask 64) named.1 in
-    (ltb-true ruh (handles_in c r) parts.0, ltb-true mask 64 parts.1)
 
 -- as many handles are in force as an outline says
 pub handles-said : (c : DriveConfig) (r : Reading) (s : Summary) → IsOutlineOf c r s → handles_in c r ≡ handle_count c s.enabled s.index
 unfolding reading_of_state
 handles-said c r s h = ap (λ (x : Reading). handle_count c x.enabled x.index) (sym h.says)
 
-pub outline-kinds : (c : DriveConfig) (r : Reading) (s : Summary) (totals : Totals) (ruh mask : ℕ) (on : Bool) (masks : List ℕ) → IsSummary s
+-- the kinds of a mask are set for a handle in force
+pub outline-masks : (c : DriveConfig) (r : Reading) (s : Summary) (totals : Totals) (ruh mask : ℕ) (on : Bool) (masks : List ℕ) → IsSummary s
     → ((k : ℕ) (kind : EventKind) → reports_in masks k kind ≡ (if k == ruh && has_kind mask kind then on else reports_in s.masks k kind))
-    → ((count : ℕ) → AreKnownMasks count s.masks → ruh < count → mask < 64 → AreKnownMasks count masks) → IsTrue (fits c r (changes.SetEvents ruh on mask, totals))
+    → ((count : ℕ) → AreKnownMasks count s.masks → ruh < count → mask < 64 → AreKnownMasks count masks) → ruh < handle_count c s.enabled s.index → mask < 64
     → IsOutlineOf c r s → IsOutlineOf c (applied c r (changes.SetEvents ruh on mask, totals)) (record s { masks = masks })
 unfolding applied kept_of_change events_of_change reading_of_state
-outline-kinds c r s totals ruh mask on masks few is known fit h =
-    let there = kinds-fit c r totals ruh mask on fit in
+outline-masks c r s totals ruh mask on masks few is known there small h =
     let kinds : (k : ℕ) (kind : EventKind) → reports_in masks k kind ≡ reporting r ruh on mask k kind =
     λ k kind. is k kind ∙ ap (λ (y : Reading). if k == ruh && has_kind mask kind then on else y.reports k kind) h.says in
     outline-quiet c (record r { reports = reporting r ruh on mask }) (record s { masks = masks }) totals (pages_after c r (changes.SetEvents ruh on mask))
     (record { host = few.host_count; controller = few.controller_count })
     (record {
       sizes = h.sizes;
-      rows = record { masks = known (handle_count c s.enabled s.index) h.rows.masks (omega (arith, there.0, handles-said c r s h)) there.1; events = h.rows.events };
+      rows = record { masks = known (handle_count c s.enabled s.index) h.rows.masks there small; events = h.rows.events };
       says =
-          ap (λ (f : ℕ → EventKind → Bool). record (said s) { totals = r.totals; pages = r.pages; reports = f }) (λ i. λ k kind. kinds k kind i)
+          ap (λ (f : ℕ → EventKind → Bool). record (said_by s) { totals = r.totals; pages = r.pages; reports = f }) (λ i. λ k kind. kinds k kind i)
           ∙ ap (λ (y : Reading). record y { reports = reporting r ruh on mask }) h.says;
     })

@@ -5,3 +5,5 @@ pub mod Making
 pub mod Places
 pub mod Applying
 pub mod Saved
+pub mod Naming
+pub mod Telling

@@ -1,9 +1,13 @@
 -- The events of an outline, and those that an entry adds to them.
 use Rattle.std.specs.Prelude.{◌≡◌, ℕ, ◌==◌, ◌++◌, List, filter, map, not}
+use Rattle.fdp_base.specs.declared.config.DriveConfig.{DriveConfig}
 use Rattle.fdp_base.specs.declared.entry.BlockName.{BlockName}
 use Rattle.fdp_base.specs.declared.event.Event.{Event}
+use Rattle.fdp_records.specs.declared.change.Change.{Change}
+use Rattle.fdp_records.specs.declared.change.Change.TheVariants as changes
 use Rattle.fdp_rules.specs.Events.{is_host_event, latest}
 use Rattle.fdp_snapshot.specs.declared.state.Summary.{Summary}
+use Rattle.fdp_image.specs.ChangeEvents.{moved_of_handle}
 use Rattle.fdp_image.specs.Checkpoint.{reports_in}
 use Rattle.fdp_image.specs.Reading.{Reading}
 use Rattle.fdp_outline.specs.declared.moved_block.MovedBlock.{MovedBlock}
@@ -35,3 +39,15 @@ pub record AddsEvents (old : Reading) (es : List Event) (new : Reading) : Type 0
 -- the names of the moved blocks of a handle
 abbrev pub names_of_handle : List MovedBlock → ℕ → List BlockName
 names_of_handle blocks ruh = map (λ (x : MovedBlock). x.name) (filter (λ (x : MovedBlock). x.ruh == ruh) blocks)
+
+-- the blocks that a move takes along are listed, those of each handle in the order of their pages; of other changes nothing is asked
+abbrev pub ListsMoved : DriveConfig → Reading → Change → List MovedBlock → Type 0
+ListsMoved c r (changes.Write nsid slba pid pid_invalid pages) blocks = Unit {0}
+ListsMoved c r (changes.Clear nsid ranges) blocks = Unit {0}
+ListsMoved c r (changes.Update nsid closed pids) blocks = Unit {0}
+ListsMoved c r (changes.Create nsid size given handles) blocks = Unit {0}
+ListsMoved c r (changes.Delete nsid) blocks = Unit {0}
+ListsMoved c r (changes.SetFdp enabled index generation) blocks = Unit {0}
+ListsMoved c r (changes.SetEvents ruh on mask) blocks = Unit {0}
+ListsMoved c r (changes.Moved victim first second handles) blocks = (ruh : ℕ) → names_of_handle blocks ruh ≡ moved_of_handle c r victim handles ruh
+ListsMoved c r (changes.Shut rg ruh) blocks = Unit {0}

@@ -11,6 +11,10 @@ use Rattle.fdp_image.specs.Checkpoint.{reading_of_state}
 use Rattle.fdp_image.specs.CheckpointFields.{same_keys}
 use Rattle.fdp_image.specs.Reading.{Reading}
 
+-- what an outline says, with no page of any block
+abbrev pub said_by : Summary → Reading
+said_by s = reading_of_state (record { summary = s; pages = [] })
+
 -- a checkpoint has room for what an outline says
 pub record IsWritable (s : Summary) : Type 0 where
   pub summary : IsSummary s
@@ -21,5 +25,5 @@ pub record IsWritable (s : Summary) : Type 0 where
 -- blocks; its masks are of kinds and handles that there are, and its events stand by class.
 pub record IsOutlineOf (c : DriveConfig) (r : Reading) (s : Summary) : Type 0 where
   pub sizes : IsTrue (list_all (λ same. same) (same_keys c s.keys))
-  pub says : record (reading_of_state (record { summary = s; pages = [] })) { totals = r.totals; pages = r.pages } ≡ r
+  pub says : record (said_by s) { totals = r.totals; pages = r.pages } ≡ r
   pub rows : HasKnownRows (handle_count c s.enabled s.index) s

@@ -1,10 +1,13 @@
 //! The outline of a drive, as a checkpoint has it beside the pages of the blocks.
 #![tactic(auto)]
 
+mod apply;
 mod fresh;
+mod groups;
 mod keep;
 mod laws;
 mod moved_block;
+mod named;
 mod outline;
 mod spaces;
 
@@ -15,3 +18,4 @@ pub use laws::{
 };
 pub use moved_block::MovedBlock;
 pub use outline::Outline;
+pub use spaces::space_at;

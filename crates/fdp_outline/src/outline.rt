@@ -1,11 +1,11 @@
-ghost use Rattle.std.specs.Prelude.{◌≡◌, ◌+◌, ◌<◌, ◌≤◌, [], ◌∷◌, None, length, flat_map, map, IsTrue};
+ghost use Rattle.std.specs.Prelude.{◌≡◌, ◌+◌, ◌<◌, ◌≤◌, [], ◌∷◌, None, length, flat_map, map};
 ghost use Rattle.fdp_base.specs.Numbers.{numbers_below};
 ghost use Rattle.fdp_base.specs.declared.config.DriveConfig.{DriveConfig};
 ghost use Rattle.fdp_base.specs.declared.entry.Totals.{Totals as Sums};
 ghost use Rattle.fdp_base.specs.Geometry.{IsWithin};
+ghost use Rattle.fdp_base.specs.Placement.{handle_count};
 ghost use Rattle.fdp_image.specs.Applied.{applied};
 ghost use Rattle.fdp_image.specs.Checkpoint.{in_place};
-ghost use Rattle.fdp_image.specs.Fits.{fits};
 ghost use Rattle.fdp_image.specs.Reading.{Reading};
 ghost use Rattle.fdp_records.specs.declared.change.Change.TheVariants as changes;
 ghost use Rattle.fdp_rules.specs.Events.{handle_event, invalid_identifier, not_fully_written, reallocated};
@@ -61,8 +61,17 @@ impl Outline {
         &self.summary
     }
 
+    /// What a checkpoint says of the drive, which is given up.
+    pub fn into_summary(self) -> Summary
+        ensures summary { result ≡ self }
+        ensures writable { IsWritable result }
+    {
+        let _ = &self.alloc; // proof
+        self.summary
+    }
+
     /// A checkpoint has room for what the outline says.
-    pub fn known(&self)
+    pub(crate) fn known(&self)
         ensures { IsWritable self.now }
     {
         let _ = &self.summary; // proof
@@ -76,7 +85,7 @@ impl Outline {
     }
 
     /// Keeps the event of a handle that was left without a unit.
-    pub fn keep_shut(&mut self, position: u64, rg: u16, ruh: u8)
+    pub(crate) fn keep_shut(&mut self, position: u64, rg: u16, ruh: u8)
         ensures { (s : PlainState) → s.position + 1 ≡ position → self.new ≡ with_events self.old (handle_event s EventKind.ImplicitlyModified rg ruh ∷ []) }
     {
         let event = handle_event(EventKind::ImplicitlyModified, position, rg, ruh);
@@ -84,7 +93,7 @@ impl Outline {
     }
 
     /// Keeps the event of a write whose placement identifier was invalid; it went to this group and handle.
-    pub fn keep_invalid(&mut self, position: u64, nsid: u32, pid: u16, rg: u16, ruh: u8)
+    pub(crate) fn keep_invalid(&mut self, position: u64, nsid: u32, pid: u16, rg: u16, ruh: u8)
         ensures { (s : PlainState) (g : Going) → s.position + 1 ≡ position → g.rg ≡ rg → g.ruh ≡ ruh → self.new ≡ with_events self.old (invalid_identifier s nsid pid g ∷ []) }
     {
         let kind = EventKind::InvalidPlacementIdentifier;
@@ -93,7 +102,7 @@ impl Outline {
     }
 
     /// Keeps the event of an identifier of an update that closes the unit of this group and handle, which is not fully written.
-    pub fn keep_closed(&mut self, position: u64, nsid: u32, pid: u16, rg: u16, ruh: u8)
+    pub(crate) fn keep_closed(&mut self, position: u64, nsid: u32, pid: u16, rg: u16, ruh: u8)
         ensures { (s : PlainState) (t : Target) → s.position + 1 ≡ position → t.rg ≡ rg → t.ruh ≡ ruh → self.new ≡ with_events self.old (not_fully_written s nsid pid t ∷ []) }
     {
         let kind = EventKind::NotFullyWritten;
@@ -102,7 +111,14 @@ impl Outline {
     }
 
     /// Keeps a namespace that is created at a position, under an identifier that none has.
-    pub fn keep_created(&mut self, position: u64, nsid: u32, size: u64, given: bool, handles: &[u8])
+    pub(crate) fn keep_created(
+        &mut self,
+        position: u64,
+        nsid: u32,
+        size: u64,
+        given: bool,
+        handles: &[u8],
+    )
         requires nsid { IsWithin 1 16 nsid }
         requires absent { in_place self.old.spaces nsid ≡ None }
         requires size { 0 < size }
@@ -119,7 +135,7 @@ impl Outline {
     }
 
     /// Keeps that a namespace is deleted.
-    pub fn keep_deleted(&mut self, nsid: u32)
+    pub(crate) fn keep_deleted(&mut self, nsid: u32)
         requires { IsWithin 1 16 nsid }
         ensures { (c : DriveConfig) (r : Reading) (totals : Sums) → IsOutlineOf c r self.old → IsOutlineOf c (applied c r (changes.Delete nsid, totals)) self.new }
     {
@@ -127,7 +143,7 @@ impl Outline {
     }
 
     /// Keeps that placement is set: no kind of event is kept for a handle any more.
-    pub fn keep_setting(&mut self, enabled: bool, index: u8, generation: u32)
+    pub(crate) fn keep_setting(&mut self, enabled: bool, index: u8, generation: u32)
         ensures { (c : DriveConfig) (r : Reading) (totals : Sums) → IsOutlineOf c r self.old → IsOutlineOf c (applied c r (changes.SetFdp enabled index generation, totals)) self.new }
     {
         self.summary.enabled = enabled;
@@ -136,17 +152,16 @@ impl Outline {
         self.summary.masks = no_reports();
     }
 
-    /// Keeps which kinds of event are kept for a handle from now on: those of a mask too, or they no longer, where the handle and the
-    /// kinds are such as there are.
-    pub fn keep_kinds(&mut self, ruh: u8, on: bool, mask: u8)
+    /// Keeps which kinds of event are kept for a handle in force from now on: those of a mask too, or they no longer.
+    pub(crate) fn keep_kinds(&mut self, ruh: u8, on: bool, mask: u8)
         requires { ruh < 16 }
-        ensures { (c : DriveConfig) (r : Reading) (totals : Sums) → IsTrue (fits c r (changes.SetEvents ruh on mask, totals)) → IsOutlineOf c r self.old → IsOutlineOf c (applied c r (changes.SetEvents ruh on mask, totals)) self.new }
+        ensures { (c : DriveConfig) (r : Reading) (totals : Sums) → ruh < handle_count c self.old.enabled self.old.index → mask < 64 → IsOutlineOf c r self.old → IsOutlineOf c (applied c r (changes.SetEvents ruh on mask, totals)) self.new }
     {
         set_reports(&mut self.summary.masks, ruh, on, mask);
     }
 
     /// Keeps the events of a move: for each handle one, if blocks of it were moved.
-    pub fn keep_moved(&mut self, position: u64, rg: u16, handles: u8, blocks: &[MovedBlock])
+    pub(crate) fn keep_moved(&mut self, position: u64, rg: u16, handles: u8, blocks: &[MovedBlock])
         ensures { (s : PlainState) → s.position + 1 ≡ position → self.new ≡ with_events self.old (flat_map (λ ruh. reallocated s rg ruh (names_of_handle blocks.now ruh)) (numbers_below handles)) }
     {
         self.known(); // proof

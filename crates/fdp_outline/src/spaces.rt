@@ -1,6 +1,7 @@
 //! The places of the namespaces.
 
 ghost use Rattle.std.specs.Prelude.{◌≡◌, ℕ, ◌==◌, ◌<◌, All, if◌then◌else◌, length, slice_set};
+ghost use Rattle.std.specs.Option.{option_copied};
 ghost use Rattle.fdp_base.specs.Geometry.{IsWithin};
 ghost use Rattle.fdp_image.specs.Checkpoint.{in_place};
 ghost use Rattle.fdp_snapshot.specs.Rows.{IsSpaceRow};
@@ -9,6 +10,17 @@ use fdp_base::Sequence;
 use fdp_snapshot::Space;
 use std::alloc::Global;
 use std::mem;
+
+/// The namespace in the place of an identifier.
+pub fn space_at(spaces: &[Option<Space>], nsid: u32) -> Option<&Space>
+    requires { length spaces.now ≡ 16 }
+    ensures { option_copied result ≡ in_place spaces.now nsid }
+{
+    if nsid == 0 || nsid > 16 {
+        return None;
+    }
+    spaces[nsid as usize - 1].as_ref()
+}
 
 /// Puts a namespace, or none, in the place of an identifier. It takes no memory.
 pub fn put(alloc: Global, spaces: &mut Sequence<Option<Space>>, nsid: u32, space: Option<Space>)

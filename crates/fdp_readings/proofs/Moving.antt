@@ -198,7 +198,8 @@ module _ (c : DriveConfig) (p : Point) (rg : ℕ) (copies : List Copied) (ruh_of
       ∙ ap (λ (ys : List BlockName). ys ++ filter (is_of_handle p.state ruh) (flat_map (λ (y : Copied). blocks_at p y.from) xs)) (sym own)
       ∙ sym (filter-append (is_of_handle p.state ruh) (blocks_at p x.from) (flat_map (λ (y : Copied). blocks_at p y.from) xs))
 
-  lists : (ruh : ℕ) → moved_of_handle c (drawn c p) victim handles ruh ≡ filter (is_of_handle p.state ruh) (moved_blocks p rg)
+  -- of each handle the change takes along the blocks that the entry moves
+  pub lists : (ruh : ℕ) → moved_of_handle c (drawn c p) victim handles ruh ≡ filter (is_of_handle p.state ruh) (moved_blocks p rg)
   lists ruh =
       (λ i. flat_map (λ (x : ℕ × ℕ). blocks_on (drawn c p) x.0) (filter (λ (x : ℕ × ℕ). x.1 == ruh) (zip (named.old i) (named.handles_are i))))
       ∙ handle-blocks ruh copies named.inside named.placed

@@ -27,7 +27,8 @@ use Rattle.fdp_image.specs.Reading.{Reading, size_in}
 use Rattle.fdp_image.specs.Valid.{IsGoodNamespace}
 use Rattle.fdp_image.specs.Fits.{are_born, blocks_of_all, fits, handles_in, has_namespace, has_room, is_born, is_free_id, is_handle_list, lies_within, may_have, names_what_is}
 use Rattle.fdp_state.specs.Good.{IsGood, LiesWithin}
-use Rattle.fdp_state.proofs.Named.{left, set_index, write_within}
+use Rattle.fdp_outline.proofs.Naming.{left}
+use Rattle.fdp_state.proofs.Named.{set_index, write_within}
 use Rattle.fdp_state.proofs.Places.{id_is}
 
 -- ---- tests that were passed

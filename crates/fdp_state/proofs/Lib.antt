@@ -1,6 +1,5 @@
 -- passed on to the crates above
 pub use Rattle.fdp_events.proofs as fdp_events
-pub mod Closing
 pub mod Collecting
 pub mod Editing
 pub mod Filling
@@ -18,4 +17,3 @@ pub mod Keeping
 pub mod Sayable
 pub mod Stating
 pub mod Loading
-pub mod Pushing

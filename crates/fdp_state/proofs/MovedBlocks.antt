@@ -13,7 +13,7 @@ use Rattle.fdp_base.specs.declared.entry.BlockName.{BlockName}
 use Rattle.fdp_base.specs.Numbers.{is_among, numbers_below, numbers_from}
 use Rattle.fdp_rules.specs.Room.{namespace_ids}
 use Rattle.fdp_image.specs.Changed.{moved_to}
-use Rattle.fdp_image.specs.Checkpoint.{page_in_lists}
+use Rattle.fdp_image.specs.Checkpoint.{page_in_lists, reading_of_state}
 use Rattle.fdp_image.specs.CheckpointRows.{is_namespace_id}
 use Rattle.fdp_image.specs.Reading.{Reading, blocks_in, blocks_on, has_page, size_in}
 use Rattle.fdp_state.specs.declared.owners.Owner.TheVariants as owned
@@ -21,8 +21,12 @@ use Rattle.fdp_state.specs.declared.parts.Parts.{Parts}
 use Rattle.fdp_state.specs.Parts.{IsSound, listed, reading_of}
 use Rattle.fdp_state.specs.Owners.{IsOwner, Pages, StandsAlone, moved_blocks, with_page, with_pages}
 use Rattle.fdp_state.proofs.Places.{id_is}
-use Rattle.fdp_state.proofs.Sayable.{each-piece}
 use Rattle.fdp_state.proofs.Listing.{listed-id, listed-within}
+
+-- what holds of each piece
+each-piece : {X Y : Type 0} (P : Y → Type 0) (f : X → List Y) → ((x : X) → All P (f x)) → (xs : List X) → All P (flat_map f xs)
+each-piece P f each [] = All-nil P
+each-piece P f each (x ∷ xs) = All-append P (f x) (flat_map f xs) (each x) (each-piece P f each xs)
 
 -- a block is this one
 abbrev is_this : ℕ → ℕ → BlockName → Bool
@@ -134,7 +138,7 @@ pub record LieWithin (r : Reading) : Type 0 where
 
 -- so it is in a loaded state
 pub sound-within : (s : Parts) → IsSound s → LieWithin (reading_of s)
-unfolding reading_of
+unfolding reading_of_state
 sound-within s h = record {
   ids = λ n l page at. listed-id s.pages.items n l page at;
   places = λ n l page at. omega (arith, listed-within s.pages.items n l page at, h.sizes n);
@@ -307,5 +311,5 @@ moved-listed s moves xs h is k d there =
 
 pub moved-said : (s : Parts) (moves : List (ℕ × ℕ)) (xs : List (BlockName × ℕ)) → IsSound s → xs ≡ moved_blocks (reading_of s) moves → (n l : ℕ)
     → with_pages (page_in_lists s.pages.items) xs n l ≡ option_map (moved_to moves) (page_in_lists s.pages.items n l)
-unfolding reading_of
+unfolding reading_of_state
 moved-said s moves xs h is n l = ap (λ (ys : List (BlockName × ℕ)). with_pages (page_in_lists s.pages.items) ys n l) is ∙ moved-all (reading_of s) moves (sound-within s h) n l

@@ -10,7 +10,7 @@ use Rattle.fdp_base.specs.declared.command.Range.{Range}
 use Rattle.fdp_base.specs.declared.entry.BlockName.{BlockName}
 use Rattle.fdp_base.specs.Numbers.{is_among}
 use Rattle.fdp_rules.specs.Effect.{is_in_ranges}
-use Rattle.fdp_image.specs.Checkpoint.{page_in_lists}
+use Rattle.fdp_image.specs.Checkpoint.{page_in_lists, reading_of_state}
 use Rattle.fdp_image.specs.Reading.{size_in}
 use Rattle.fdp_state.specs.declared.parts.Parts.{Parts}
 use Rattle.fdp_state.specs.Made.{HasPages}
@@ -29,26 +29,24 @@ page-twice pages b page other n l = of_test (n == b.nsid && l == b.lba) where
   of_test true = refl
   of_test false = refl
 
--- the parts with another page for a block
-module _ (old new : Parts) (rest : new ≡ record old { pages = new.pages; owners = new.owners }) (b : BlockName) (page : Option ℕ) where
-  put-size : (n : ℕ) → size_in (reading_of new) n ≡ size_in (reading_of old) n
-  unfolding reading_of
+-- the parts with other pages of the blocks
+module _ (old new : Parts) (rest : new ≡ record old { pages = new.pages; owners = new.owners }) where
+  pub put-size : (n : ℕ) → size_in (reading_of new) n ≡ size_in (reading_of old) n
+  unfolding reading_of_state
   put-size n = ap (λ (p : Parts). size_in (reading_of p) n) rest
 
   put-sound : IsSound old → length new.pages.items ≡ 16 → ((n : ℕ) → listed new.pages.items n ≡ listed old.pages.items n) → AreOwners (page_in_lists new.pages.items) new.owners.items → IsSound new
   put-sound h lists sizes owners = record {
-    spaces = ap (λ (p : Parts). length p.spaces.items) rest ∙ h.spaces;
     lists = lists;
     sizes = λ n. sizes n ∙ h.sizes n ∙ sym (put-size n);
-    host_events = subst (λ (n : ℕ). n ≤ 32) (sym (ap (λ (p : Parts). length p.host_events) rest)) h.host_events;
-    controller_events = subst (λ (n : ℕ). n ≤ 32) (sym (ap (λ (p : Parts). length p.controller_events) rest)) h.controller_events;
     owners = owners;
   }
 
-  pub one-put : IsSound old → length new.pages.items ≡ 16 → ((n : ℕ) → listed new.pages.items n ≡ listed old.pages.items n)
+  -- another page for a block
+  pub one-put : (b : BlockName) (page : Option ℕ) → IsSound old → length new.pages.items ≡ 16 → ((n : ℕ) → listed new.pages.items n ≡ listed old.pages.items n)
       → ((n l : ℕ) → page_in_lists new.pages.items n l ≡ with_page (page_in_lists old.pages.items) b page n l)
       → AreOwners (with_page (with_page (page_in_lists old.pages.items) b None) b page) new.owners.items → HasPages old new (with_page (page_in_lists old.pages.items) b page)
-  one-put h lists sizes said owners = record {
+  one-put b page h lists sizes said owners = record {
     rest = rest;
     said = said;
     sizes = sizes;

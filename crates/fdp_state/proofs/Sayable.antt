@@ -1,42 +1,30 @@
 -- What a checkpoint has room for stays so with each change that fits.
-use Rattle.std.proofs.Common.{◌≡◌, ℕ, ◌+◌, ◌-◌, ◌*◌, ◌^◌, ◌<◌, ◌≤◌, ◌++◌, ◌⊎◌, Bool, true, false, List, [], ◌∷◌, length, zero, suc, Option, None, Some, refl, ap, ◌∙◌, arith, inl, inr, filter, flat_map}
-use Rattle.std.specs.Prelude.{◌==◌, ◌&&◌, All, not, if◌then◌else◌, nat_lt, slice_get, find, zip, option_map}
-use Rattle.std.specs.List.{enumerate_from, list_all}
+use Rattle.std.proofs.Common.{◌≡◌, ℕ, ◌+◌, ◌-◌, ◌*◌, ◌^◌, ◌<◌, ◌≤◌, ◌++◌, ◌⊎◌, Bool, true, false, List, [], ◌∷◌, length, zero, suc, Option, None, Some, refl, ap, ◌∙◌, arith, inl, inr}
+use Rattle.std.specs.Prelude.{◌==◌, ◌&&◌, if◌then◌else◌, nat_lt, slice_get, find, zip, option_map}
+use Rattle.std.specs.List.{list_all}
 use Rattle.std.specs.Option.{option_map_or}
 use Rattle.std.proofs.lemmas.Bool.{and_parts, lt-ltb, ltb-true}
-use Rattle.std.proofs.lemmas.List.Elements.{All-append, All-cons, All-drop, All-filter, All-nil}
 use Rattle.std.proofs.lemmas.List.Folds.{list_all-append}
 use Rattle.std.proofs.Math.Nat.{mul-le-mul_right}
 use Rattle.fdp_base.specs.declared.config.DriveConfig.{DriveConfig}
-use Rattle.fdp_base.specs.declared.entry.BlockName.{BlockName}
 use Rattle.fdp_base.specs.declared.entry.Totals.{Totals}
-use Rattle.fdp_base.specs.declared.event.Event.{Event}
 use Rattle.fdp_base.specs.Config.{IsInRange}
 use Rattle.fdp_base.specs.Geometry.{data_units}
-use Rattle.fdp_base.specs.Numbers.{is_among, numbers_below}
+use Rattle.fdp_base.specs.Numbers.{is_among}
 use Rattle.fdp_base.specs.Placement.{geometry_of}
 use Rattle.fdp_rules.specs.Effect.{is_in_ranges}
-use Rattle.fdp_rules.specs.Events.{is_host_event, latest, not_fully_written, reallocated}
-use Rattle.fdp_rules.specs.PlainState.{PlainState}
-use Rattle.fdp_rules.specs.Room.{handles_in_force}
-use Rattle.fdp_rules.specs.Sites.{group_of}
-use Rattle.fdp_rules.specs.Target.{Target, named_by}
 use Rattle.fdp_records.specs.declared.change.Change.{Change}
 use Rattle.fdp_records.specs.declared.change.Change.TheVariants as changes
 use Rattle.fdp_records.specs.declared.change.UnitPages.{UnitPages}
 use Rattle.fdp_records.specs.Records.{target_or_none}
-use Rattle.fdp_snapshot.specs.Events.{IsPlain}
 use Rattle.fdp_image.specs.Applied.{applied}
 use Rattle.fdp_image.specs.Areas.{data_pages}
-use Rattle.fdp_image.specs.Bits.{has_bit}
-use Rattle.fdp_image.specs.ChangeEvents.{closed_event, events_of_change, invalid_event, kept_of_change, moved_of_handle}
 use Rattle.fdp_image.specs.Changed.{moved_to, moves_of, page_numbers, pages_after}
-use Rattle.fdp_image.specs.Outline.{outline_before}
 use Rattle.fdp_image.specs.Reading.{Reading}
 use Rattle.fdp_image.specs.Fits.{are_data_pages, are_of_data_unit, are_unit_pages, fits, names_what_is}
 use Rattle.fdp_state.specs.Good.{IsSayable}
 use Rattle.fdp_state.proofs.Moving.{no_pages}
-use Rattle.fdp_state.proofs.Named.{left, right, write_pages}
+use Rattle.fdp_outline.proofs.Naming.{left, right, write_pages}
 
 -- ---- numbers of pages
 
@@ -93,54 +81,6 @@ module _ (c : DriveConfig) where
   few-pages : IsInRange c → data_pages (geometry_of c) ≤ 262144
   few-pages h = let all = h.pages in let few : data_units (geometry_of c) * c.unit_pages ≤ c.unit_pages * (data_units (geometry_of c) + 2 * c.area_units) = grind arith in omega (arith, all, few)
 
--- ---- events
-
--- what holds of each piece
-pub each-piece : {X Y : Type 0} (P : Y → Type 0) (f : X → List Y) → ((x : X) → All P (f x)) → (xs : List X) → All P (flat_map f xs)
-each-piece P f each [] = All-nil P
-each-piece P f each (x ∷ xs) = All-append P (f x) (flat_map f xs) (each x) (each-piece P f each xs)
-
-one-plain : (e : Event) → IsPlain e → All IsPlain (e ∷ [])
-one-plain e h = All-cons IsPlain e [] h (All-nil IsPlain)
-
-closed-plain : (s : PlainState) (nsid pid : ℕ) (b : Bool) (o : Option Target) → All IsPlain (if b then option_map_or (λ (t : Target). not_fully_written s nsid pid t ∷ []) o [] else [])
-closed-plain s nsid pid false o = All-nil IsPlain
-closed-plain s nsid pid true None = All-nil IsPlain
-closed-plain s nsid pid true (Some t) = one-plain (not_fully_written s nsid pid t) (record { moved = inr refl; lba = inr refl })
-
-moved-plain : (s : PlainState) (rg ruh : ℕ) (blocks : List BlockName) → All IsPlain (reallocated s rg ruh blocks)
-moved-plain s rg ruh [] = All-nil IsPlain
-moved-plain s rg ruh (b ∷ bs) = one-plain _ (record { moved = inl refl; lba = inl refl })
-
-invalid-plain : (c : DriveConfig) (s : PlainState) (nsid pid : ℕ) (pages : List ℕ) (b : Bool) → All IsPlain (if b then invalid_event c s nsid pid pages ∷ [] else [])
-invalid-plain c s nsid pid pages true = one-plain (invalid_event c s nsid pid pages) (record { moved = inr refl; lba = inr refl })
-invalid-plain c s nsid pid pages false = All-nil IsPlain
-
-module _ (c : DriveConfig) (r : Reading) (s : PlainState) where
-  made-plain : (change : Change) → All IsPlain (events_of_change c r s change)
-  unfolding events_of_change
-  made-plain (changes.Write nsid slba pid invalid pages) = invalid-plain c s nsid pid pages invalid
-  made-plain (changes.Clear nsid ranges) = All-nil IsPlain
-  made-plain (changes.Update nsid closed pids) =
-      each-piece IsPlain (closed_event c s nsid closed) (λ (x : ℕ × ℕ). closed-plain s nsid x.1 (has_bit closed x.0) (named_by c s nsid x.1)) (enumerate_from 0 pids)
-  made-plain (changes.Create nsid size given handles) = All-nil IsPlain
-  made-plain (changes.Delete nsid) = All-nil IsPlain
-  made-plain (changes.SetFdp enabled index generation) = All-nil IsPlain
-  made-plain (changes.SetEvents ruh on mask) = All-nil IsPlain
-  made-plain (changes.Moved victim first second handles) =
-      each-piece IsPlain (λ ruh. reallocated s (group_of c victim.unit) ruh (moved_of_handle c r victim handles ruh))
-      (λ ruh. moved-plain s (group_of c victim.unit) ruh (moved_of_handle c r victim handles ruh)) (numbers_below (handles_in_force c s))
-  made-plain (changes.Shut rg ruh) = one-plain _ (record { moved = inr refl; lba = inr refl })
-
-kept-plain : (c : DriveConfig) (r : Reading) (position : ℕ) (change : Change) → All IsPlain (kept_of_change c r position change)
-unfolding kept_of_change
-kept-plain c r position change =
-    All-filter (λ (x : Event). r.reports x.ruh x.kind) IsPlain (events_of_change c r (outline_before c r position) change) (made-plain c r (outline_before c r position) change)
-
-latest-plain : (test : Event → Bool) (old kept : List Event) → All IsPlain old → All IsPlain kept → All IsPlain (latest (old ++ filter test kept))
-latest-plain test old kept h k =
-    All-drop IsPlain (length (old ++ filter test kept) - 32) (old ++ filter test kept) (All-append IsPlain old (filter test kept) h (All-filter test IsPlain kept k))
-
 -- ---- any change that fits
 
 module _ (c : DriveConfig) (r : Reading) (ranges : IsInRange c) (h : IsSayable r) where
@@ -182,10 +122,4 @@ module _ (c : DriveConfig) (r : Reading) (ranges : IsInRange c) (h : IsSayable r
 
   pub sayable-applied : (x : Change × Totals) → fits c r x ≡ true → IsSayable (applied c r x)
   unfolding applied
-  sayable-applied x e =
-      let kept = kept-plain c r x.1.position x.0 in
-      record {
-        pages = pages-few x.0 ((and_parts _ (names_what_is c r x.0) e).1);
-        host_events = latest-plain is_host_event r.host_events (kept_of_change c r x.1.position x.0) h.host_events kept;
-        controller_events = latest-plain (λ (y : Event). not (is_host_event y)) r.controller_events (kept_of_change c r x.1.position x.0) h.controller_events kept;
-      }
+  sayable-applied x e = record { pages = pages-few x.0 ((and_parts _ (names_what_is c r x.0) e).1) }

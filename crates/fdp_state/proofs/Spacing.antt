@@ -1,5 +1,5 @@
 -- A namespace is put in its place with its page list, or taken away.
-use Rattle.std.proofs.Common.{◌≡◌, ◌≢◌, ℕ, zero, suc, replicate, ◌∷◌, ◌+◌, ◌-◌, ◌<◌, ◌≤◌, Bool, true, false, IsTrue, List, [], length, Option, None, Some, refl, ap, sym, ◌∙◌, arith, ⊎_elim}
+use Rattle.std.proofs.Common.{◌≡◌, ◌≢◌, ℕ, zero, suc, ◌∷◌, ◌+◌, ◌-◌, ◌<◌, ◌≤◌, Bool, true, false, List, [], length, Option, None, Some, refl, ap, sym, ◌∙◌, arith, ⊎_elim}
 use Rattle.std.specs.Prelude.{◌==◌, ◌&&◌, ◌||◌, if◌then◌else◌, is_some, option_map, slice_get}
 use Rattle.std.specs.List.{list_all}
 use Rattle.std.specs.Option.{option_and_then, option_map_or}
@@ -7,31 +7,21 @@ use Rattle.std.proofs.lemmas.Bool.{eqb-true, leb-true}
 use Rattle.std.proofs.lemmas.Bool.Decides.{eqb_tells, nat_tests}
 use Rattle.fdp_base.specs.declared.command.Range.{Range}
 use Rattle.fdp_base.specs.declared.config.DriveConfig.{DriveConfig}
-use Rattle.fdp_base.specs.Numbers.{is_among, with_at}
+use Rattle.fdp_base.specs.Numbers.{is_among}
 use Rattle.fdp_rules.specs.PlainState.{Namespace}
 use Rattle.fdp_records.specs.declared.change.Change.{Change}
 use Rattle.fdp_snapshot.specs.declared.space.Space.{Space}
 use Rattle.fdp_image.specs.Changed.{changed, pages_after}
-use Rattle.fdp_image.specs.Checkpoint.{in_place, namespace_of, page_in_lists}
+use Rattle.fdp_image.specs.Checkpoint.{namespace_of, page_in_lists, reading_of_state}
 use Rattle.fdp_image.specs.CheckpointRows.{is_namespace_id}
 use Rattle.fdp_image.specs.Reading.{Reading, size_in}
 use Rattle.fdp_state.specs.declared.parts.Parts.{Parts}
 use Rattle.fdp_image.specs.Fits.{has_namespace, is_range_within, lie_within, lies_within}
-use Rattle.fdp_state.specs.Made.{IsMade}
+use Rattle.fdp_state.specs.Made.{HasPagesAfter}
 use Rattle.fdp_state.specs.Owners.{AreOwners, with_row}
 use Rattle.fdp_state.specs.Parts.{IsSound, listed, reading_of, row}
-use Rattle.fdp_state.proofs.Making.{made-spaces}
 use Rattle.fdp_state.proofs.Listing.{listed-within}
-use Rattle.fdp_state.proofs.Named.{left, right}
-
--- a namespace that is there has an identifier that it may have
-pub there_good : (s : Parts) (nsid : ℕ) → has_namespace (reading_of s) nsid ≡ true → IsTrue (is_namespace_id nsid)
-unfolding reading_of
-there_good s nsid there = of_id (is_namespace_id nsid) refl there where
-  of_id : (b : Bool) → is_namespace_id nsid ≡ b
-      → is_some (option_map namespace_of (if b then option_and_then (λ (x : Option Space). x) (slice_get s.spaces.items (nsid - 1)) else None)) ≡ true → is_namespace_id nsid ≡ true
-  of_id true is h = is
-  of_id false is h = cc
+use Rattle.fdp_outline.proofs.Naming.{left, right}
 
 -- a namespace that is not there has no block
 pub absent_size : (r : Reading) (nsid : ℕ) → has_namespace r nsid ≡ false → size_in r nsid ≡ 0
@@ -79,11 +69,8 @@ pub ranges_within : (s : Parts) (nsid : ℕ) (ranges : List Range) → IsSound s
 ranges_within s nsid ranges h all x k at some =
     within_list s nsid x.slba x.length h (some_within (reading_of s) nsid x some (all_at (is_range_within (reading_of s) nsid) ranges k x all at))
 
-map-if : (b : Bool) (x y : Option Space) → option_map namespace_of (if b then x else y) ≡ (if b then option_map namespace_of x else option_map namespace_of y)
-map-if true x y = refl
-map-if false x y = refl
-
-size-if : (b : Bool) (x y : Option Namespace) → option_map_or (λ (z : Namespace). z.size) (if b then x else y) 0
+-- the size of the one namespace or the other
+pub size-if : (b : Bool) (x y : Option Namespace) → option_map_or (λ (z : Namespace). z.size) (if b then x else y) 0
     ≡ (if b then option_map_or (λ (z : Namespace). z.size) x 0 else option_map_or (λ (z : Namespace). z.size) y 0)
 size-if true x y = refl
 size-if false x y = refl
@@ -92,32 +79,21 @@ pub space_size : (space : Option Space) → option_map_or (λ (x : Namespace). x
 space_size None = refl
 space_size (Some x) = refl
 
-module _ (old new : Parts) (rest : new ≡ record old { spaces = new.spaces; pages = new.pages; owners = new.owners }) (nsid : ℕ) (space : Option Space) (sound : IsSound old)
-    (spaces : length new.spaces.items ≡ 16) (lists : length new.pages.items ≡ 16)
-    (there : (n : ℕ) → in_place new.spaces.items n ≡ (if n == nsid then space else in_place old.spaces.items n))
+-- the page list of a namespace was put in its place, and none of its blocks has a page
+module _ (old new : Parts) (rest : new ≡ record old { pages = new.pages; owners = new.owners }) (nsid size : ℕ) (sound : IsSound old) (lists : length new.pages.items ≡ 16)
     (pages : (n lba : ℕ) → page_in_lists new.pages.items n lba ≡ (if n == nsid then None else page_in_lists old.pages.items n lba))
-    (sizes : (n : ℕ) → listed new.pages.items n ≡ (if n == nsid then option_map_or (λ (x : Space). x.size) space 0 else listed old.pages.items n))
+    (sizes : (n : ℕ) → listed new.pages.items n ≡ (if n == nsid then size else listed old.pages.items n))
     (owners : AreOwners (page_in_lists new.pages.items) new.owners.items) where
-  names : (n : ℕ) → option_map namespace_of (in_place new.spaces.items n) ≡ with_at (reading_of old).namespaces nsid (option_map namespace_of space) n
-  unfolding reading_of
-  names n = ap (option_map namespace_of) (there n) ∙ map-if (n == nsid) space (in_place old.spaces.items n)
-
-  new_sizes : (n : ℕ) → listed new.pages.items n ≡ size_in (reading_of new) n
-  unfolding reading_of
-  new_sizes n =
-      sizes n
-      ∙ ap (λ (k : ℕ). if n == nsid then k else listed old.pages.items n) (sym (space_size space))
-      ∙ ap (λ (k : ℕ). if n == nsid then option_map_or (λ (x : Namespace). x.size) (option_map namespace_of space) 0 else k) (sound.sizes n)
-      ∙ sym (size-if (n == nsid) (option_map namespace_of space) ((reading_of old).namespaces n))
-      ∙ sym (ap (λ (o : Option Namespace). option_map_or (λ (x : Namespace). x.size) o 0) (names n))
-
-  pub made_place : (c : DriveConfig) (position : ℕ) (change : Change)
-      → changed c (reading_of old) position change ≡ record (reading_of old) { namespaces = with_at (reading_of old).namespaces nsid (option_map namespace_of space) }
-      → ((n lba : ℕ) → pages_after c (reading_of old) change n lba ≡ (if n == nsid then None else (reading_of old).pages n lba)) → IsMade c position change old new
-  unfolding reading_of
-  made_place c position change same after =
-      made-spaces old new rest c position change sound spaces lists new_sizes owners (with_at (reading_of old).namespaces nsid (option_map namespace_of space)) same names
-      (λ n lba. pages n lba ∙ sym (after n lba))
+  pub placed_pages : (c : DriveConfig) (change : Change) → ((position n : ℕ) → size_in (changed c (reading_of old) position change) n ≡ (if n == nsid then size else size_in (reading_of old) n))
+      → ((n lba : ℕ) → pages_after c (reading_of old) change n lba ≡ (if n == nsid then None else (reading_of old).pages n lba)) → HasPagesAfter c change old new
+  unfolding reading_of_state
+  placed_pages c change same after = record {
+    rest = rest;
+    said = λ n lba. pages n lba ∙ sym (after n lba);
+    sizes = λ position n. sizes n ∙ ap (λ (k : ℕ). if n == nsid then size else k) (sound.sizes n) ∙ sym (same position n);
+    lists = lists;
+    owners = owners;
+  }
 
 -- a page list that is put in a place, where no address has a page
 pub empty_pages : (list : List (Option ℕ)) (new old : List (List (Option ℕ))) (nsid n lba : ℕ) → page_in_lists new n lba ≡ (if n == nsid then row list lba else page_in_lists old n lba)
@@ -127,7 +103,7 @@ empty_pages list new old nsid n lba e none = e ∙ ap (λ (o : Option ℕ). if n
 -- a namespace that was not there has no page to lose
 pub none_before : (s : Parts) (nsid : ℕ) → IsSound s → has_namespace (reading_of s) nsid ≡ false → (n lba : ℕ)
     → (reading_of s).pages n lba ≡ (if n == nsid then None else (reading_of s).pages n lba)
-unfolding reading_of
+unfolding reading_of_state
 none_before s nsid h absent n lba =
     ⊎_elim
     (λ (e : (n == nsid ≡ true) × (n ≡ nsid)).
@@ -163,9 +139,3 @@ cleared_all s nsid size h is n lba =
 pub twice_none : (b : Bool) (o : Option ℕ) → (if b then None else (if b then None else o)) ≡ (if b then None else o)
 twice_none true o = refl
 twice_none false o = refl
-
--- a list of empty rows
-pub blank_rows : (n lba : ℕ) → ◌≡◌ {A = Option ℕ} (row (replicate n None) lba) None
-blank_rows zero lba = refl
-blank_rows (suc n) zero = refl
-blank_rows (suc n) (suc lba) = blank_rows n lba

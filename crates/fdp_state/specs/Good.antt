@@ -1,9 +1,8 @@
 -- What an image may say of a drive, whatever stands on the pages that it names.
-use Rattle.std.specs.Prelude.{◌≡◌, ℕ, ◌+◌, ◌^◌, ◌<◌, ◌≤◌, IsTrue, All, length, Some}
+use Rattle.std.specs.Prelude.{◌≡◌, ℕ, ◌+◌, ◌^◌, ◌<◌, ◌≤◌, IsTrue, length, Some}
 use Rattle.fdp_base.specs.declared.config.DriveConfig.{DriveConfig}
 use Rattle.fdp_base.specs.Placement.{full_budget}
 use Rattle.fdp_rules.specs.PlainState.{Namespace}
-use Rattle.fdp_snapshot.specs.Events.{IsPlain}
 use Rattle.fdp_image.specs.CheckpointRows.{is_namespace_id}
 use Rattle.fdp_image.specs.Reading.{Reading}
 use Rattle.fdp_image.specs.Valid.{IsGoodNamespace}
@@ -24,8 +23,6 @@ pub record IsGood (c : DriveConfig) (r : Reading) : Type 0 where
   pub room : blocks_of_all r ≤ full_budget c (handles_in c r)
   pub blocks : (nsid lba page : ℕ) → r.pages nsid lba ≡ Some page → LiesWithin r nsid lba
 
--- what a checkpoint has room for: the numbers of the pages, and the events
+-- a checkpoint has room for the numbers of the pages
 pub record IsSayable (r : Reading) : Type 0 where
   pub pages : (nsid lba page : ℕ) → r.pages nsid lba ≡ Some page → page + 1 < 2 ^ 32
-  pub host_events : All IsPlain r.host_events
-  pub controller_events : All IsPlain r.controller_events

@@ -1,19 +1,20 @@
 -- A loaded state.
-use Rattle.std.specs.Prelude.{◌≡◌, ℕ, ◌<◌, ◌≤◌, IsTrue, length}
+use Rattle.std.specs.Prelude.{◌≡◌, ℕ, ◌≤◌, IsTrue, length}
 use Rattle.std.specs.List.{list_all}
 use Rattle.fdp_base.specs.declared.config.DriveConfig.{DriveConfig}
 use Rattle.fdp_base.specs.Config.{IsInRange}
 use Rattle.fdp_base.specs.Placement.{handle_count}
-use Rattle.fdp_image.specs.BadFields.{HasKnownRows, StandByClass}
+use Rattle.fdp_image.specs.BadFields.{HasKnownRows}
 use Rattle.fdp_image.specs.Checkpoint.{reading_of_state}
 use Rattle.fdp_image.specs.CheckpointFields.{same_keys}
 use Rattle.fdp_image.specs.Reading.{Reading, size_in}
 use Rattle.fdp_snapshot.specs.declared.keys.Keys.{Keys}
 use Rattle.fdp_snapshot.specs.declared.state.State.{State}
 use Rattle.fdp_snapshot.specs.Checkpoint.{IsState}
+use Rattle.fdp_outline.specs.Outline.{IsOutlineOf}
 use Rattle.fdp_state.specs.Good.{IsGood, IsSayable}
 use Rattle.fdp_state.specs.declared.parts.Parts.{Parts}
-use Rattle.fdp_state.specs.Parts.{IsSound, KnowsMasks, listed, reading_of}
+use Rattle.fdp_state.specs.Parts.{IsSound, listed, reading_of}
 
 -- the configuration of the drive, and its state
 pub record Loaded : Type 0 where
@@ -28,17 +29,14 @@ said_by s = reading_of s.parts
 abbrev pub NamesSizes : DriveConfig → Keys → Type 0
 NamesSizes c k = IsTrue (list_all (λ same. same) (same_keys c k))
 
--- the state is sound, names the sizes of the drive, says what such a drive may say, and a checkpoint has room for it; its masks are of
--- kinds and handles that there are, and its events stand by class
+-- the state is sound, says what a drive of the configuration may say, and a checkpoint has room for its pages; its outline is one of what it
+-- says
 pub record IsLoaded (c : DriveConfig) (s : Parts) : Type 0 where
   pub config : IsInRange c
   pub sound : IsSound s
-  pub index : s.index < length c.fdp
-  pub keys : NamesSizes c s.keys
   pub good : IsGood c (reading_of s)
   pub sayable : IsSayable (reading_of s)
-  pub masks : KnowsMasks c s
-  pub events : StandByClass s.host_events s.controller_events
+  pub outline : IsOutlineOf c (reading_of s) s.outline
 
 -- a state of a drive of this configuration: a checkpoint has room for it, it names the sizes of the drive, says what such a drive may
 -- say, and its rows are those of such a drive

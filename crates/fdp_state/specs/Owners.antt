@@ -5,6 +5,7 @@ use Rattle.fdp_base.specs.declared.entry.BlockName.{BlockName}
 use Rattle.fdp_base.specs.Numbers.{is_among}
 use Rattle.fdp_rules.specs.Effect.{is_in_ranges}
 use Rattle.fdp_image.specs.Reading.{Reading, blocks_on}
+use Rattle.fdp_outline.specs.declared.moved_block.MovedBlock.{MovedBlock}
 use Rattle.fdp_state.specs.declared.owners.Owner.{Owner}
 use Rattle.fdp_state.specs.declared.owners.Owner.TheVariants as owned
 
@@ -67,3 +68,7 @@ pages_before pages nsid lba n l = if is_before n l nsid lba then pages n l else 
 unfoldable pub moved_blocks : Reading → List (ℕ × ℕ) → List (BlockName × ℕ)
 moved_blocks r [] = []
 moved_blocks r (x ∷ xs) = moved_blocks r xs ++ map (λ (b : BlockName). (b, x.1)) (blocks_on r x.0)
+
+-- blocks with the handle that they were placed by
+abbrev pub with_handle : ℕ → List BlockName → List MovedBlock
+with_handle ruh blocks = map (λ (b : BlockName). record { name = b; ruh = ruh }) blocks

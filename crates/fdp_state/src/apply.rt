@@ -6,10 +6,9 @@ ghost use Rattle.fdp_image.specs.Fits.{are_born, fits, names_what_is};
 ghost use Rattle.fdp_state.specs.Loaded.{IsLoaded};
 ghost use Rattle.fdp_state.specs.Parts.{reading_of};
 
-use crate::events::kept_events;
 use crate::fits::are_born;
-use crate::latest::push_latest;
-use crate::make::make_change;
+use crate::make::put_pages;
+use crate::moved_list::list_moved;
 use crate::names::names_what_is;
 use crate::parts::Parts;
 use fdp_base::{DriveConfig, Totals};
@@ -37,7 +36,7 @@ pub fn apply_to(
         Ok(false) => return Err(Refusal::Unfit),
         Err(_) => return Err(Refusal::NoMemory),
     }
-    match make_whole(alloc, config, parts, change, totals) {
+    match make_whole(alloc, config, parts, &change, totals) {
         Ok(()) => Ok(()),
         Err(_) => Err(Refusal::NoMemory),
     }
@@ -61,26 +60,27 @@ fn fits(
     }
 }
 
-/// Makes a change that fits, with its events and totals.
+/// Makes a change that fits, with its events and totals. The blocks that it moves are listed while they stand where they stood, and all that may
+/// want memory comes first.
 fn make_whole(
     alloc: Global,
     config: &DriveConfig,
     parts: &mut Parts,
-    change: Change,
+    change: &Change,
     totals: Totals,
 ) -> Result<(), AllocError>
     requires loaded { IsLoaded config.now parts.old }
     requires born { are_born (reading_of parts.old) totals.position ≡ true }
-    requires fit { names_what_is config.now (reading_of parts.old) change ≡ true }
+    requires fit { names_what_is config.now (reading_of parts.old) change.now ≡ true }
     ensures loaded { OnOk result (IsLoaded config.now parts.new) }
-    ensures applied { OnOk result (reading_of parts.new ≡ applied config.now (reading_of parts.old) (change, totals)) }
+    ensures applied { OnOk result (reading_of parts.new ≡ applied config.now (reading_of parts.old) (change.now, totals)) }
     ensures refused { OnErr result (parts.new ≡ parts.old) }
 {
-    let kept = kept_events(alloc, config, parts, &change, totals.position)?;
-    let kept = kept.as_slice();
-    make_change(alloc, config, parts, totals.position, change)?;
-    parts.totals = totals;
-    push_latest(&mut parts.host_events, kept, true);
-    push_latest(&mut parts.controller_events, kept, false);
+    let moved = list_moved(alloc, config, parts, change)?;
+    put_pages(alloc, config, parts, change)?;
+    let change = change.borrowed();
+    parts
+        .outline
+        .apply(config, change, totals, moved.as_slice());
     Ok(())
 }

@@ -9,29 +9,27 @@ ghost use Rattle.fdp_image.specs.Areas.{data_pages};
 ghost use Rattle.fdp_image.specs.Reading.{size_in};
 ghost use Rattle.fdp_rules.specs.Room.{namespace_ids};
 ghost use Rattle.fdp_image.specs.Fits.{are_born, are_data_pages, blocks_of_all, has_namespace, is_born, is_handle_list, is_range_within, lie_within, lies_within};
-ghost use Rattle.fdp_state.specs.Parts.{IsSound, reading_of};
+ghost use Rattle.fdp_state.specs.Parts.{reading_of};
 
 use crate::parts::Parts;
-use crate::rows::space_at;
+use crate::rows::space_of;
 use fdp_base::{DriveConfig, Range};
 use fdp_commands::NAMESPACE_IDS;
 
 /// Whether there is a namespace with an identifier.
-#[tactic(auto, unfolding(crate::specs::Parts::reading_of))]
+#[tactic(auto, unfolding(fdp_image::specs::Checkpoint::reading_of_state))]
 pub fn has_namespace(parts: &Parts, nsid: u32) -> bool
-    requires { IsSound parts.now }
     ensures { result ≡ has_namespace (reading_of parts.now) nsid }
 {
-    space_at(parts.spaces.as_slice(), nsid).is_some()
+    space_of(parts, nsid).is_some()
 }
 
 /// The size of a namespace in blocks, 0 where it is not there.
-#[tactic(auto, unfolding(crate::specs::Parts::reading_of))]
+#[tactic(auto, unfolding(fdp_image::specs::Checkpoint::reading_of_state))]
 pub fn size_of(parts: &Parts, nsid: u32) -> u64
-    requires { IsSound parts.now }
     ensures { result ≡ size_in (reading_of parts.now) nsid }
 {
-    match space_at(parts.spaces.as_slice(), nsid) {
+    match space_of(parts, nsid) {
         Some(space) => space.size,
         None => 0,
     }
@@ -39,7 +37,6 @@ pub fn size_of(parts: &Parts, nsid: u32) -> u64
 
 /// Whether so many blocks from an address on lie within a namespace that is there.
 pub fn lies_within(parts: &Parts, nsid: u32, slba: u64, count: u64) -> bool
-    requires { IsSound parts.now }
     ensures { result ≡ lies_within (reading_of parts.now) nsid slba count }
 {
     has_namespace(parts, nsid) && ends_within(size_of(parts, nsid), slba, count)
@@ -53,7 +50,6 @@ fn ends_within(size: u64, slba: u64, count: u64) -> bool
 
 /// Whether each range lies within a namespace.
 pub fn lie_within(parts: &Parts, nsid: u32, ranges: &[Range]) -> bool
-    requires { IsSound parts.now }
     ensures { result ≡ lie_within (reading_of parts.now) nsid ranges.now }
 {
     ranges.iter().all(|x| is_range_within(parts, nsid, x))
@@ -61,7 +57,6 @@ pub fn lie_within(parts: &Parts, nsid: u32, ranges: &[Range]) -> bool
 
 /// Whether a range lies within a namespace; one of no blocks names none, and lies anywhere.
 fn is_range_within(parts: &Parts, nsid: u32, range: &Range) -> bool
-    requires { IsSound parts.now }
     ensures { result ≡ is_range_within (reading_of parts.now) nsid range.now }
 {
     range.length == 0 || lies_within(parts, nsid, range.slba, u64::from(range.length))
@@ -86,25 +81,22 @@ pub fn data_pages(config: &DriveConfig) -> u32
 
 /// Whether no namespace was created after a position.
 pub fn are_born(parts: &Parts, position: u64) -> bool
-    requires { IsSound parts.now }
     ensures { result ≡ are_born (reading_of parts.now) position }
 {
     all_born(parts, &NAMESPACE_IDS, position)
 }
 
 fn all_born(parts: &Parts, ids: &[u32], position: u64) -> bool
-    requires { IsSound parts.now }
     ensures { result ≡ list_all (λ nsid. is_born (reading_of parts.now) nsid position) ids.now }
 {
     ids.iter().all(|nsid| is_born(parts, *nsid, position))
 }
 
-#[tactic(auto, unfolding(crate::specs::Parts::reading_of))]
+#[tactic(auto, unfolding(fdp_image::specs::Checkpoint::reading_of_state))]
 fn is_born(parts: &Parts, nsid: u32, position: u64) -> bool
-    requires { IsSound parts.now }
     ensures { result ≡ is_born (reading_of parts.now) nsid position }
 {
-    match space_at(parts.spaces.as_slice(), nsid) {
+    match space_of(parts, nsid) {
         Some(space) => space.birth <= position,
         None => true,
     }
@@ -112,7 +104,6 @@ fn is_born(parts: &Parts, nsid: u32, position: u64) -> bool
 
 /// How many blocks the namespaces have together.
 pub fn blocks_of_all(parts: &Parts) -> u128
-    requires { IsSound parts.now }
     ensures value { result ≡ blocks_of_all (reading_of parts.now) }
     ensures bound { result ≤ 2 ^ 68 }
 {
@@ -125,14 +116,12 @@ pub fn blocks_of_all(parts: &Parts) -> u128
 
 /// Whether there is a namespace.
 pub fn has_any(parts: &Parts) -> bool
-    requires { IsSound parts.now }
     ensures { result ≡ list_any (has_namespace (reading_of parts.now)) namespace_ids }
 {
     has_any_of(parts, &NAMESPACE_IDS)
 }
 
 fn has_any_of(parts: &Parts, ids: &[u32]) -> bool
-    requires { IsSound parts.now }
     ensures { result ≡ list_any (has_namespace (reading_of parts.now)) ids.now }
 {
     ids.iter().any(|nsid| has_namespace(parts, *nsid))

@@ -2,24 +2,22 @@
 #![tactic(auto)]
 
 mod apply;
-mod events;
 mod fits;
 mod index;
-mod latest;
 mod lists;
 mod loaded;
 mod make;
 mod moved_blocks;
-mod moved_events;
+mod moved_list;
 mod moves;
 mod names;
 mod owners;
 mod parts;
 mod rows;
-mod update_events;
 
+pub use fdp_outline::space_at;
 pub use fdp_replay::{ReplayFault, replay};
 pub use fits::is_handle_list;
 pub use loaded::LoadedState;
 pub use names::full_budget;
-pub use rows::{list_at, space_at};
+pub use rows::list_at;

@@ -4,8 +4,9 @@ ghost use Rattle.fdp_image.specs.Checkpoint.{reading_of_state};
 
 use crate::apply::apply_to;
 use crate::index::owners_of;
-use crate::parts::{Parts, parts_of, state_of};
-use fdp_base::{DriveConfig, Totals};
+use crate::parts::Parts;
+use fdp_base::{DriveConfig, Sequence, Totals};
+use fdp_outline::Outline;
 use fdp_records::Change;
 use fdp_replay::{Refusal, Replayed};
 use fdp_snapshot::State;
@@ -33,7 +34,7 @@ impl<'a> LoadedState<'a> {
     ghost use Rattle.fdp_state.specs.Loaded.{IsDriveState, said_by};
 
     /// The state that a checkpoint says. It takes memory for a table of the data pages, and fails only for want of it.
-    #[tactic(auto, unfolding(crate::specs::Parts::reading_of, fdp_image::specs::Checkpoint::reading_of_state))]
+    #[tactic(auto, unfolding(fdp_image::specs::Checkpoint::reading_of_state))]
     pub fn new(
         alloc: Global,
         config: &'a DriveConfig,
@@ -45,20 +46,33 @@ impl<'a> LoadedState<'a> {
         ensures said { IfOk result (λ s. said_by s ≡ reading_of_state state) }
     {
         let owners = owners_of(alloc, config, &state)?;
+        let State { summary, pages } = state;
         Ok(LoadedState {
             config,
-            parts: parts_of(state, owners),
+            parts: Parts {
+                outline: Outline::new(alloc, summary),
+                pages: pages.into_vec(),
+                owners,
+            },
         })
     }
 
     /// The state, as a checkpoint says it.
-    #[tactic(auto, unfolding(crate::specs::Parts::reading_of, fdp_image::specs::Checkpoint::reading_of_state))]
+    #[tactic(auto, unfolding(fdp_image::specs::Checkpoint::reading_of_state))]
     pub fn into_state(self) -> State
         ensures said { reading_of_state result ≡ said_by self.entry }
         ensures state { IsDriveState self.entry.config result }
     {
         let LoadedState { config: _, parts } = self;
-        state_of(parts)
+        let Parts {
+            outline,
+            pages,
+            owners: _,
+        } = parts;
+        State {
+            summary: outline.into_summary(),
+            pages: Sequence::from_vec(pages),
+        }
     }
 }
 

@@ -1,4 +1,4 @@
-//! What a saved change makes of a loaded state.
+//! What a saved change makes of the pages of the blocks in a loaded state.
 
 ghost use Rattle.std.specs.Prelude.{◌≡◌, ◌+◌, ◌<◌, ◌≤◌, ℕ, All, Bool, List, None, IsTrue, IfSome, OnErr, OnOk, false, true, length};
 ghost use Rattle.fdp_base.specs.Config.{IsInRange};
@@ -11,7 +11,7 @@ ghost use Rattle.fdp_records.specs.declared.change.Change.TheVariants as changes
 ghost use Rattle.fdp_records.specs.declared.change.UnitPages.{UnitPages as Pages};
 ghost use Rattle.fdp_image.specs.Fits.{has_namespace, lie_within, lies_within, names_what_is};
 ghost use Rattle.fdp_image.specs.Checkpoint.{page_in_lists};
-ghost use Rattle.fdp_state.specs.Made.{HasPages, IsMade};
+ghost use Rattle.fdp_state.specs.Made.{HasPages, HasPagesAfter};
 ghost use Rattle.fdp_state.specs.Owners.{with_pages, with_row};
 ghost use Rattle.fdp_state.specs.Parts.{IsSound, listed, reading_of};
 
@@ -20,26 +20,22 @@ use crate::lists::blank_list;
 use crate::moved_blocks::push_moved_blocks;
 use crate::moves::moves_of;
 use crate::parts::Parts;
-use crate::rows::{put_page, set_list, set_space};
+use crate::rows::{put_page, set_list};
 use fdp_base::{BlockName, DriveConfig, Range, Sequence};
-use fdp_events::{no_reports, set_reports};
 use fdp_records::{Change, UnitPages};
-use fdp_snapshot::{NamespaceHandles, Space};
 use std::alloc::{AllocError, Global};
 
-/// Makes a change in a loaded state, at a position. All stays as it was where there is no memory.
-pub fn make_change(
+/// Gives the blocks the pages that they have behind a change. All stays as it was where there is no memory.
+pub fn put_pages(
     alloc: Global,
     config: &DriveConfig,
     parts: &mut Parts,
-    position: u64,
-    change: Change,
+    change: &Change,
 ) -> Result<(), AllocError>
     requires config { IsInRange config.now }
     requires sound { IsSound parts.old }
-    requires index { parts.old.index < length config.now.fdp }
-    requires fit { names_what_is config.now (reading_of parts.old) change ≡ true }
-    ensures made { OnOk result (IsMade config.now position change parts.old parts.new) }
+    requires fit { names_what_is config.now (reading_of parts.old) change.now ≡ true }
+    ensures made { OnOk result (HasPagesAfter config.now change.now parts.old parts.new) }
     ensures refused { OnErr result (parts.new ≡ parts.old) }
 {
     match change {
@@ -50,11 +46,11 @@ pub fn make_change(
             pid_invalid: _,
             pages,
         } => {
-            put_write(alloc, parts, nsid, slba, pages.as_slice());
+            put_write(alloc, parts, *nsid, *slba, pages.as_slice());
             Ok(())
         }
         Change::Clear { nsid, ranges } => {
-            clear(alloc, parts, nsid, ranges.as_slice());
+            clear(alloc, parts, *nsid, ranges.as_slice());
             Ok(())
         }
         Change::Update {
@@ -65,39 +61,29 @@ pub fn make_change(
         Change::Create {
             nsid,
             size,
-            given,
-            handles,
-        } => create(
-            alloc,
-            parts,
-            position,
-            nsid,
-            size,
-            given,
-            handles.as_slice(),
-        ),
+            given: _,
+            handles: _,
+        } => create(alloc, parts, *nsid, *size),
         Change::Delete { nsid } => {
-            delete(alloc, parts, nsid);
+            delete(alloc, parts, *nsid);
             Ok(())
         }
         Change::SetFdp {
-            enabled,
-            index,
-            generation,
-        } => {
-            set_placement(parts, enabled, index, generation);
-            Ok(())
-        }
-        Change::SetEvents { ruh, on, mask } => {
-            set_events(parts, ruh, on, mask);
-            Ok(())
-        }
+            enabled: _,
+            index: _,
+            generation: _,
+        } => Ok(()),
+        Change::SetEvents {
+            ruh: _,
+            on: _,
+            mask: _,
+        } => Ok(()),
         Change::Moved {
             victim,
             first,
             second,
             handles: _,
-        } => move_pages(alloc, config, parts, &victim, &first, &second),
+        } => move_pages(alloc, config, parts, victim, first, second),
         Change::Shut { rg: _, ruh: _ } => Ok(()),
     }
 }
@@ -105,7 +91,7 @@ pub fn make_change(
 fn put_write(alloc: Global, parts: &mut Parts, nsid: u32, slba: u64, pages: &[u32])
     requires sound { IsSound parts.old }
     requires within { lies_within (reading_of parts.old) nsid slba (length pages.now) ≡ true }
-    ensures made { (c : Config) (position pid : ℕ) (invalid : Bool) → IsMade c position (changes.Write nsid slba pid invalid pages.now) parts.old parts.new }
+    ensures made { (c : Config) (pid : ℕ) (invalid : Bool) → HasPagesAfter c (changes.Write nsid slba pid invalid pages.now) parts.old parts.new }
 {
     for (i, page) in pages.iter().enumerate() {
         put_page(alloc, parts, nsid, slba + i as u64, Some(*page));
@@ -116,7 +102,7 @@ fn clear(alloc: Global, parts: &mut Parts, nsid: u32, ranges: &[Range])
     requires sound { IsSound parts.old }
     requires there { has_namespace (reading_of parts.old) nsid ≡ true }
     requires within { lie_within (reading_of parts.old) nsid ranges.now ≡ true }
-    ensures made { (c : Config) (position : ℕ) → IsMade c position (changes.Clear nsid ranges.now) parts.old parts.new }
+    ensures made { (c : Config) → HasPagesAfter c (changes.Clear nsid ranges.now) parts.old parts.new }
 {
     for range in ranges {
         clear_row(alloc, parts, nsid, range.slba, u64::from(range.length));
@@ -134,61 +120,28 @@ fn clear_row(alloc: Global, parts: &mut Parts, nsid: u32, slba: u64, count: u64)
     }
 }
 
-fn create(
-    alloc: Global,
-    parts: &mut Parts,
-    position: u64,
-    nsid: u32,
-    size: u64,
-    given: bool,
-    handles: &[u8],
-) -> Result<(), AllocError>
+/// Makes the page list of a namespace that is created.
+fn create(alloc: Global, parts: &mut Parts, nsid: u32, size: u64) -> Result<(), AllocError>
     requires sound { IsSound parts.old }
-    requires few { length handles.now ≤ 16 }
     requires id { IsTrue (is_namespace_id nsid) }
     requires free { has_namespace (reading_of parts.old) nsid ≡ false }
-    ensures made { (c : Config) → OnOk result (IsMade c position (changes.Create nsid size given handles.now) parts.old parts.new) }
+    ensures made { (c : Config) (given : Bool) (handles : List ℕ) → OnOk result (HasPagesAfter c (changes.Create nsid size given handles) parts.old parts.new) }
     ensures refused { OnErr result (parts.new ≡ parts.old) }
 {
     let list = blank_list(alloc, size)?;
-    let space = Space {
-        size,
-        birth: position,
-        given,
-        handles: NamespaceHandles::of_slice(handles),
-    };
-    set_space(&mut parts.spaces, nsid, Some(space));
     set_list(&mut parts.pages, nsid, Sequence::from_vec(list));
     Ok(())
 }
 
+/// Gives up the page list of a namespace that is deleted.
 fn delete(alloc: Global, parts: &mut Parts, nsid: u32)
     requires sound { IsSound parts.old }
     requires there { has_namespace (reading_of parts.old) nsid ≡ true }
-    ensures made { (c : Config) (position : ℕ) → IsMade c position (changes.Delete nsid) parts.old parts.new }
+    ensures made { (c : Config) → HasPagesAfter c (changes.Delete nsid) parts.old parts.new }
 {
     let size = size_of(parts, nsid);
     clear_row(alloc, parts, nsid, 0, size);
-    set_space(&mut parts.spaces, nsid, None);
     set_list(&mut parts.pages, nsid, Sequence::new(alloc));
-}
-
-fn set_placement(parts: &mut Parts, enabled: bool, index: u8, generation: u32)
-    requires sound { IsSound parts.old }
-    ensures made { (c : Config) (position : ℕ) → IsMade c position (changes.SetFdp enabled index generation) parts.old parts.new }
-{
-    parts.enabled = enabled;
-    parts.index = index;
-    parts.generation = generation;
-    parts.masks = no_reports();
-}
-
-fn set_events(parts: &mut Parts, ruh: u8, on: bool, mask: u8)
-    requires sound { IsSound parts.old }
-    requires ruh { ruh < 16 }
-    ensures made { (c : Config) (position : ℕ) → IsMade c position (changes.SetEvents ruh on mask) parts.old parts.new }
-{
-    set_reports(&mut parts.masks, ruh, on, mask);
 }
 
 fn move_pages(
@@ -204,7 +157,7 @@ fn move_pages(
     requires victim { victim.now.unit < data_units (geometry_of config.now) }
     requires first { first.now.unit < data_units (geometry_of config.now) }
     requires second { IfSome second.now (λ (t : Pages). t.unit < data_units (geometry_of config.now)) }
-    ensures made { (position : ℕ) (handles : List ℕ) → OnOk result (IsMade config.now position (changes.Moved victim.now first.now second.now handles) parts.old parts.new) }
+    ensures made { (handles : List ℕ) → OnOk result (HasPagesAfter config.now (changes.Moved victim.now first.now second.now handles) parts.old parts.new) }
     ensures refused { OnErr result (parts.new ≡ parts.old) }
 {
     let moves = moves_of(alloc, config, victim, first, second)?;

@@ -82,7 +82,7 @@ pub fn push_blocks(blocks: &mut Vec<BlockName>, parts: &Parts, page: u32) -> Res
 }
 
 /// What is known of the blocks on a page.
-#[tactic(auto, unfolding(crate::specs::Parts::reading_of))]
+#[tactic(auto, unfolding(fdp_image::specs::Checkpoint::reading_of_state))]
 fn owner_of(parts: &Parts, page: u32) -> Owner
     requires { IsSound parts.now }
     ensures { IsOwner ((reading_of parts.now).pages) page result }

@@ -4,7 +4,7 @@ ghost use Rattle.std.specs.Prelude.{◌≡◌, ◌<◌, ◌≤◌, IfOk, length}
 ghost use Rattle.fdp_base.specs.Config.{IsInRange};
 ghost use Rattle.fdp_base.specs.Placement.{full_budget};
 ghost use Rattle.fdp_image.specs.Fits.{are_unit_pages, handles_in, has_room, is_free_id, may_create, may_have, names_what_is};
-ghost use Rattle.fdp_state.specs.Parts.{IsSound, reading_of};
+ghost use Rattle.fdp_state.specs.Parts.{reading_of};
 
 use crate::fits::{
     are_data_pages, blocks_of_all, has_any, has_namespace, is_handle_list, lie_within, lies_within,
@@ -24,8 +24,7 @@ pub fn names_what_is(
     change: &Change,
 ) -> Result<bool, AllocError>
     requires config { IsInRange config.now }
-    requires sound { IsSound parts.now }
-    requires index { parts.now.index < length config.now.fdp }
+    requires index { parts.now.outline.index < length config.now.fdp }
     ensures { IfOk result (λ b. b ≡ names_what_is config.now (reading_of parts.now) change.now) }
 {
     match change {
@@ -76,28 +75,27 @@ pub fn names_what_is(
 }
 
 /// How many handles are in force.
-#[tactic(auto, unfolding(crate::specs::Parts::reading_of))]
+#[tactic(auto, unfolding(fdp_image::specs::Checkpoint::reading_of_state))]
 fn handles_in(config: &DriveConfig, parts: &Parts) -> u8
     requires config { IsInRange config.now }
-    requires index { parts.now.index < length config.now.fdp }
+    requires index { parts.now.outline.index < length config.now.fdp }
     ensures value { result ≡ handles_in config.now (reading_of parts.now) }
     ensures bound { result ≤ 16 }
 {
-    config.handle_count(parts.enabled, parts.index)
+    let summary = parts.outline.summary();
+    config.handle_count(summary.enabled, summary.index)
 }
 
 /// Whether a namespace may be created.
 fn may_create(config: &DriveConfig, parts: &Parts, nsid: u32, size: u64, handles: &[u8]) -> bool
     requires config { IsInRange config.now }
-    requires sound { IsSound parts.now }
-    requires index { parts.now.index < length config.now.fdp }
+    requires index { parts.now.outline.index < length config.now.fdp }
     ensures { result ≡ may_create config.now (reading_of parts.now) nsid size handles.now }
 {
     is_free_id(parts, nsid) && may_have(config, parts, size, handles)
 }
 
 fn is_free_id(parts: &Parts, nsid: u32) -> bool
-    requires { IsSound parts.now }
     ensures { result ≡ is_free_id (reading_of parts.now) nsid }
 {
     1 <= nsid && nsid <= 16 && !has_namespace(parts, nsid)
@@ -105,8 +103,7 @@ fn is_free_id(parts: &Parts, nsid: u32) -> bool
 
 fn may_have(config: &DriveConfig, parts: &Parts, size: u64, handles: &[u8]) -> bool
     requires config { IsInRange config.now }
-    requires sound { IsSound parts.now }
-    requires index { parts.now.index < length config.now.fdp }
+    requires index { parts.now.outline.index < length config.now.fdp }
     ensures { result ≡ may_have config.now (reading_of parts.now) size handles.now }
 {
     0 < size && is_handle_list(handles_in(config, parts), handles) && has_room(config, parts, size)
@@ -115,8 +112,7 @@ fn may_have(config: &DriveConfig, parts: &Parts, size: u64, handles: &[u8]) -> b
 /// Whether there is room for so many blocks more.
 fn has_room(config: &DriveConfig, parts: &Parts, size: u64) -> bool
     requires config { IsInRange config.now }
-    requires sound { IsSound parts.now }
-    requires index { parts.now.index < length config.now.fdp }
+    requires index { parts.now.outline.index < length config.now.fdp }
     ensures { result ≡ has_room config.now (reading_of parts.now) size }
 {
     let room = full_budget(config, handles_in(config, parts));

@@ -6,24 +6,21 @@ ghost use Rattle.fdp_image.specs.Checkpoint.{in_place, page_in_lists};
 ghost use Rattle.fdp_image.specs.CheckpointRows.{is_namespace_id};
 ghost use Rattle.fdp_state.specs.Made.{HasPages};
 ghost use Rattle.fdp_state.specs.Owners.{with_page};
-ghost use Rattle.fdp_state.specs.Parts.{IsSound, handles_at, listed, reading_of, row};
+ghost use Rattle.fdp_state.specs.Parts.{IsSound, listed, reading_of, row};
 
 use crate::owners::{claim, release};
 use crate::parts::Parts;
 use fdp_base::{BlockName, Sequence};
+use fdp_outline::space_at;
 use fdp_snapshot::{PageList, Space};
 use std::alloc::Global;
 use std::mem;
 
-/// The namespace in the place of an identifier.
-pub fn space_at(spaces: &[Option<Space>], nsid: u32) -> Option<&Space>
-    requires { length spaces.now ≡ 16 }
-    ensures { option_copied result ≡ in_place spaces.now nsid }
+/// The namespace with an identifier, if there is one.
+pub fn space_of(parts: &Parts, nsid: u32) -> Option<&Space>
+    ensures { option_copied result ≡ in_place parts.now.outline.spaces nsid }
 {
-    if nsid == 0 || nsid > 16 {
-        return None;
-    }
-    spaces[nsid as usize - 1].as_ref()
+    space_at(parts.outline.summary().spaces.as_slice(), nsid)
 }
 
 /// The page list of an identifier.
@@ -39,7 +36,7 @@ pub fn list_at(lists: &[PageList], nsid: u32) -> &[Option<u32>]
 }
 
 /// The page of a block, if it has one.
-#[tactic(auto, unfolding(crate::specs::Parts::reading_of))]
+#[tactic(auto, unfolding(fdp_image::specs::Checkpoint::reading_of_state))]
 pub fn page_at(parts: &Parts, nsid: u32, lba: u64) -> Option<u32>
     requires { IsSound parts.now }
     ensures { result ≡ (reading_of parts.now).pages nsid lba }
@@ -60,29 +57,6 @@ fn take_list(alloc: Global, lists: &mut Vec<PageList>, nsid: u32) -> Vec<Option<
     ensures after { lists.new.items ≡ slice_set lists.old.items (nsid - 1) [] }
 {
     mem::replace(&mut lists[nsid as usize - 1], Sequence::new(alloc)).into_vec()
-}
-
-/// The handles of a namespace, none where it is not there.
-#[tactic(auto, unfolding(crate::specs::Parts::reading_of))]
-pub fn handles_at(parts: &Parts, nsid: u32) -> &[u8]
-    requires { IsSound parts.now }
-    ensures { result.now ≡ handles_at (reading_of parts.now) nsid }
-{
-    match space_at(parts.spaces.as_slice(), nsid) {
-        Some(space) => space.handles.as_slice(),
-        None => &[],
-    }
-}
-
-/// Puts a namespace, or none, in the place of an identifier.
-#[tactic(auto, using(crate::proofs::Places::id_is))]
-pub fn set_space(spaces: &mut Vec<Option<Space>>, nsid: u32, space: Option<Space>)
-    requires id { IsTrue (is_namespace_id nsid) }
-    requires rows { length spaces.old.items ≡ 16 }
-    ensures place { (n : ℕ) → in_place spaces.new.items n ≡ (if n == nsid then space else in_place spaces.old.items n) }
-    ensures rows { length spaces.new.items ≡ 16 }
-{
-    spaces[nsid as usize - 1] = space;
 }
 
 /// Puts a page list in the place of an identifier.

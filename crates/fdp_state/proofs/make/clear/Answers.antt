@@ -1,10 +1,10 @@
 use Rattle.std.proofs.Common.{◌+◌, ◌≤◌, ℕ, None, arith, get_or, refl, subst}
 use Rattle.std.proofs.lemmas.Option.{slice_get-get_or}
 use Rattle.fdp_base.specs.declared.command.Range.{Range}
-use Rattle.fdp_image.specs.Checkpoint.{page_in_lists}
+use Rattle.fdp_image.specs.Checkpoint.{page_in_lists, reading_of_state}
 use Rattle.fdp_state.specs.Made.{HasPages}
 use Rattle.fdp_state.specs.Owners.{with_row}
-use Rattle.fdp_state.specs.Parts.{listed, reading_of}
+use Rattle.fdp_state.specs.Parts.{listed}
 use Rattle.fdp_state.proofs.Making.{made-pages}
 use Rattle.fdp_state.proofs.Putting.{any-default, ranges-all, ranges-next, ranges-start}
 use Rattle.fdp_state.proofs.Spacing.{ranges_within}
@@ -33,9 +33,9 @@ loop-range-preserved c =
     (subst (λ (n : ℕ). HasPages c.loop-range.parts c.clear_row.new.parts (with_row (λ lba. None) (page_in_lists c.loop-range.parts.pages.items) c.args.nsid r.slba n)) c.from.ensures c.clear_row.ensures)
 
 pub returns : goal.returns
-unfolding reading_of
+unfolding reading_of_state
 returns c = record {
-  made = λ k position.
-      made-pages k position _ c.args.parts.now c.loop-range.parts _
-      (ranges-all c.args.parts.now c.loop-range.parts c.args.nsid c.args.ranges.now c.loop-range.range-index (omega (arith, c.loop-range-test.false)) c.loop-range.invariant) refl (λ n l. refl);
+  made = λ k.
+      made-pages k _ c.args.parts.now c.loop-range.parts _
+      (ranges-all c.args.parts.now c.loop-range.parts c.args.nsid c.args.ranges.now c.loop-range.range-index (omega (arith, c.loop-range-test.false)) c.loop-range.invariant) (λ position. refl) (λ n l. refl);
 }

@@ -1,23 +1,22 @@
 use Rattle.std.proofs.Common.{◌≡◌, ◌∙◌, ℕ, None, List, Option, ap, arith, length, refl, sym}
 use Rattle.std.specs.Prelude.{◌==◌, if◌then◌else◌}
-use Rattle.fdp_image.specs.Checkpoint.{in_place, page_in_lists}
+use Rattle.fdp_image.specs.Checkpoint.{page_in_lists, reading_of_state}
+use Rattle.fdp_outline.proofs.Naming.{there_good}
 use Rattle.fdp_state.specs.declared.parts.Parts.{Parts}
 use Rattle.fdp_state.specs.Parts.{listed, reading_of, row}
 use Rattle.fdp_state.proofs.Owning.{owners-as}
-use Rattle.fdp_state.proofs.Spacing.{cleared_all, empty_pages, made_place, there_good, twice_none}
+use Rattle.fdp_state.proofs.Spacing.{cleared_all, empty_pages, placed_pages, size-if, twice_none}
 use Rattle.fdp_state.proofs.make.delete.Goals as goal
 
 pub clear_row-requires-clause-within : goal.clear_row-requires-clause-within
 clear_row-requires-clause-within c some = omega (arith, c.size_of-size.ensures, c.requires.sound.sizes c.args.nsid)
 
-pub set_space-requires-clause-id : goal.set_space-requires-clause-id
-set_space-requires-clause-id c = there_good c.args.parts.now c.args.nsid c.requires.there
-
 pub set_list-requires-clause-id : goal.set_list-requires-clause-id
-set_list-requires-clause-id c = there_good c.args.parts.now c.args.nsid c.requires.there
+unfolding reading_of_state
+set_list-requires-clause-id c = there_good c.args.parts.now.outline c.args.nsid c.requires.there
 
 pub returns : goal.returns
-unfolding reading_of
+unfolding reading_of_state
 returns c =
     let old : Parts = c.args.parts.now in
     let mid : Parts = c.clear_row.new.parts in
@@ -32,11 +31,10 @@ returns c =
     ∙ ap (λ (o : Option ℕ). if n == nsid then None else o) (gone n l)
     ∙ twice_none (n == nsid) (page_in_lists old.pages.items n l) in
     record {
-      made = λ k position.
-          made_place old _ (ap (λ (q : Parts). record q { spaces = c.set_space.new.spaces; pages = c.set_list.new.lists }) h.rest) nsid None c.requires.sound c.set_space.ensures.rows c.set_list.ensures.rows
-          (λ n. c.set_space.ensures.place n ∙ ap (λ (q : Parts). if n == nsid then None else in_place q.spaces.items n) h.rest)
+      made = λ k.
+          placed_pages old _ (ap (λ (q : Parts). record q { pages = c.set_list.new.lists }) h.rest) nsid 0 c.requires.sound c.set_list.ensures.rows
           pages
           (λ n. c.set_list.ensures.sizes n ∙ ap (λ (m : ℕ). if n == nsid then m else listed mid.pages.items n) (ap length c.new.ensures) ∙ ap (λ (m : ℕ). if n == nsid then 0 else m) (h.sizes n))
           (owners-as (page_in_lists mid.pages.items) (page_in_lists lists) _ (λ n l. pages n l ∙ sym (gone n l)) h.sound.owners)
-          k position _ refl (λ n l. refl);
+          k _ (λ position n. size-if (n == nsid) None ((reading_of old).namespaces n)) (λ n l. refl);
     }

@@ -1,6 +1,7 @@
 use Rattle.std.proofs.Common.{◌∙◌, ◌++◌, ℕ, List, ap, refl}
 use Rattle.fdp_base.specs.declared.entry.BlockName.{BlockName}
 use Rattle.fdp_image.specs.Changed.{moves_of}
+use Rattle.fdp_image.specs.Checkpoint.{reading_of_state}
 use Rattle.fdp_state.specs.Owners.{moved_blocks}
 use Rattle.fdp_state.specs.Parts.{reading_of}
 use Rattle.fdp_state.proofs.Making.{made-pages}
@@ -14,10 +15,10 @@ put_blocks-requires-clause-within c =
     (c.as_slice-2.ensures.value ∙ c.in_ok-push_moved_blocks.ensures ∙ ap (λ (bs : List (BlockName × ℕ)). bs ++ moved_blocks r c.as_slice.result.now) c.new-blocks.ensures.items)
 
 pub returns-clause-made : goal.returns-clause-made
-unfolding reading_of
-returns-clause-made c position handles =
+unfolding reading_of_state
+returns-clause-made c handles =
     let r = reading_of c.args.parts.now in
-    made-pages c.args.config.now position _ c.args.parts.now _ _ c.put_blocks.ensures refl
+    made-pages c.args.config.now _ c.args.parts.now _ _ c.put_blocks.ensures (λ position. refl)
     (moved-said c.args.parts.now (moves_of c.args.config.now c.args.victim.now c.args.first.now c.args.second.now) c.as_slice-2.result.now c.requires.sound
     (c.as_slice-2.ensures.value
     ∙ c.in_ok-push_moved_blocks.ensures

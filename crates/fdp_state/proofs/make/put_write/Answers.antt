@@ -1,5 +1,6 @@
 use Rattle.std.proofs.Common.{◌≤◌, ◌+◌, arith, length, refl}
-use Rattle.fdp_state.specs.Parts.{listed, reading_of}
+use Rattle.fdp_image.specs.Checkpoint.{reading_of_state}
+use Rattle.fdp_state.specs.Parts.{listed}
 use Rattle.fdp_state.proofs.Making.{made-pages}
 use Rattle.fdp_state.proofs.Putting.{row-all, row-next, row-start, row-value}
 use Rattle.fdp_state.proofs.Spacing.{within_list}
@@ -27,8 +28,8 @@ loop-i-preserved c = (
 )
 
 pub returns : goal.returns
-unfolding reading_of
+unfolding reading_of_state
 returns c = record {
-  made = λ k position pid invalid.
-      made-pages k position _ c.args.parts.now c.loop-i.parts _ (row-all c.args.parts.now c.loop-i.parts _ c.args.nsid c.args.slba c.loop-i.i (length c.args.pages.now) (omega (arith, c.loop-i-test.false, c.loop-i.auto.i-end)) c.loop-i.invariant.0) refl (λ n l. refl);
+  made = λ k pid invalid.
+      made-pages k _ c.args.parts.now c.loop-i.parts _ (row-all c.args.parts.now c.loop-i.parts _ c.args.nsid c.args.slba c.loop-i.i (length c.args.pages.now) (omega (arith, c.loop-i-test.false, c.loop-i.auto.i-end)) c.loop-i.invariant.0) (λ position. refl) (λ n l. refl);
 }

@@ -1,13 +1,12 @@
 use Rattle.std.proofs.Common.{None, refl, sym}
-use Rattle.fdp_image.specs.Checkpoint.{page_in_lists}
+use Rattle.fdp_image.specs.Checkpoint.{page_in_lists, reading_of_state}
 use Rattle.fdp_state.specs.Owners.{with_page}
-use Rattle.fdp_state.specs.Parts.{reading_of}
 use Rattle.fdp_state.proofs.Owning.{block, with-page-here}
 use Rattle.fdp_state.proofs.Putting.{one-put}
 use Rattle.fdp_state.proofs.rows.put_page.Goals as goal
 
 pub returns : goal.returns
-unfolding reading_of
+unfolding reading_of_state
 returns c =
     let pages = page_in_lists c.args.parts.now.pages.items in
     let b = block c.args.nsid c.args.lba in
