@@ -3,22 +3,17 @@ use Rattle.std.proofs.Common.{◌≡◌, ℕ, zero, suc, ◌<◌, ◌≤◌, fal
 use Rattle.std.specs.Prelude.{All, is_none, nat_le, unwrap_or, slice_get, slice_index}
 use Rattle.std.proofs.lemmas.Bool.{leb-false, ltb-false, or_parts}
 use Rattle.std.proofs.lemmas.List.Elements.{All-cons, All-head, All-nil, All-tail}
-use Rattle.fdp_base.specs.declared.command.Command.{Command}
 use Rattle.fdp_base.specs.declared.command.Command.TheVariants as commands
 use Rattle.fdp_base.specs.declared.command.Create.{Create}
 use Rattle.fdp_base.specs.declared.command.Dealloc.{Dealloc}
-use Rattle.fdp_base.specs.declared.command.Delete.{Delete}
 use Rattle.fdp_base.specs.declared.command.HandleUpdate.{HandleUpdate}
 use Rattle.fdp_base.specs.declared.config.DriveConfig.{DriveConfig}
 use Rattle.fdp_base.specs.Config.{IsValidConfig}
 use Rattle.fdp_base.specs.Geometry.{IsWithin}
-use Rattle.fdp_book.specs.Book.{BookSeen}
-use Rattle.fdp_book.specs.Commanded.{MayTakeEffect}
 use Rattle.fdp_history.specs.OrderlyState.{IsOrderlyState}
 use Rattle.fdp_history.proofs.Bounds.{handles-in_force}
 use Rattle.fdp_history.proofs.Checks.{IsAcceptedCreate, accepted-create, passes}
 use Rattle.fdp_history.proofs.Spaces.{free-is}
-use Rattle.fdp_keeper.specs.Commands.{CanBeSaved}
 use Rattle.fdp_rules.specs.Effect.{chosen_handles, lowest_free}
 use Rattle.fdp_rules.specs.PlainState.{Namespace, PlainState}
 use Rattle.fdp_rules.specs.Point.{Point}
@@ -38,14 +33,6 @@ few-pids c p u e = let held = passes c p (commands.Update u) e in ltb-false 64 (
 some-namespace : (o : Option Namespace) → is_none o ≡ false → (n : Namespace) × (o ≡ Some n)
 some-namespace None e = absurd cc
 some-namespace (Some n) e = (n, refl)
-
--- a delete names one of sixteen namespaces
-pub deleted-id : (c : DriveConfig) (p : Point) (d : Delete) → IsOrderlyState c p.state → refusal_of c p (commands.Delete d) ≡ None → IsWithin 1 16 d.nsid
-unfolding checks_of
-deleted-id c p d orderly e =
-    let held = passes c p (commands.Delete d) e in
-    let there = some-namespace (p.state.namespaces d.nsid) held.0 in
-    (orderly.namespaces d.nsid there.0 there.1).identifier
 
 all-low : (bound : ℕ) (list : List ℕ) → bound ≤ 16 → All (λ ruh. nat_le bound ruh ≡ false) list → All (λ ruh. ruh < 16) list
 all-low bound [] few h = All-nil (λ ruh. ruh < 16)
@@ -83,7 +70,3 @@ pub index-or-none : (xs : List ℕ) (i : ℕ) → unwrap_or (slice_get xs i) 0 �
 index-or-none [] i = refl
 index-or-none (x ∷ xs) zero = refl
 index-or-none (x ∷ xs) (suc i) = index-or-none xs i
-
--- a command that may take effect in a queue can be saved
-pub effect-saved : (b : BookSeen) (queue : ℕ) (command : Command) → MayTakeEffect b queue command → CanBeSaved b command
-effect-saved b queue command h = record { formed = h.formed; accepted = h.accepted; saved = h.saved; other = h.other }

@@ -1,6 +1,6 @@
 -- A record can name the copies of blocks of a pass.
 use Rattle.std.proofs.lemmas.Bool.Decides.{eqb_tells}
-use Rattle.std.proofs.Common.{◌≡◌, ◌≢◌, ⊎_elim, ℕ, ◌+◌, ◌*◌, ◌/◌, ◌<◌, ◌≤◌, Bool, true, false, List, [], ◌∷◌, ◌++◌, length, map, filter, flat_map, Option, Some, None, refl, ap, sym, ◌∙◌, subst, arith, get_or}
+use Rattle.std.proofs.Common.{◌≡◌, ◌≢◌, ⊎_elim, ℕ, ◌+◌, ◌*◌, ◌/◌, ◌<◌, ◌≤◌, Bool, true, false, List, [], ◌∷◌, ◌++◌, length, map, filter, Option, Some, None, refl, ap, sym, ◌∙◌, subst, arith, get_or}
 use Rattle.std.specs.Prelude.{All, Contains, IfSome, ◌==◌, is_some}
 use Rattle.std.specs.Option.{option_map_or}
 use Rattle.std.proofs.Math.Nat.{mul-le-mul_right}
@@ -13,9 +13,7 @@ use Rattle.fdp_base.specs.declared.entry.Entry.{Entry}
 use Rattle.fdp_base.specs.declared.entry.Entry.TheVariants as entries
 use Rattle.fdp_base.specs.declared.entry.Spot.{Spot}
 use Rattle.fdp_base.specs.declared.entry.Totals.{Totals}
-use Rattle.fdp_base.specs.declared.event.Event.{Event}
 use Rattle.fdp_base.specs.Config.{IsValidConfig}
-use Rattle.fdp_base.specs.Numbers.{numbers_below}
 use Rattle.fdp_history.specs.Orderly.{IsOrderly}
 use Rattle.fdp_history.specs.Standing.{IsStanding}
 use Rattle.fdp_image.specs.Bits.{pages_of_set}
@@ -24,7 +22,7 @@ use Rattle.fdp_keeper.proofs.Moved.{ascending-old, filter-new, filter-old, handl
 use Rattle.fdp_durability.specs.fdp_locations.Located.{AreLed, next_in}
 use Rattle.fdp_durability.specs.fdp_locations.Written.{Written}
 use Rattle.fdp_outline.specs.declared.moved_block.MovedBlock.{MovedBlock}
-use Rattle.fdp_outline.specs.Events.{names_of_handle}
+use Rattle.fdp_outline.specs.Events.{ListsMoved, names_of_handle}
 use Rattle.fdp_owners.specs.declared.owner.Owner.{Owner}
 use Rattle.fdp_owners.specs.OwnerTable.{owner_at}
 use Rattle.fdp_durability.specs.fdp_pages.Joined.{AreJoined}
@@ -34,17 +32,17 @@ use Rattle.fdp_passes.specs.Due.{copies_in}
 use Rattle.fdp_passes.specs.GroupPasses.{Pass}
 use Rattle.fdp_pointers.specs.Facts.{Page}
 use Rattle.fdp_pointers.specs.Pointers.{Behind}
+use Rattle.fdp_durability.specs.fdp_readings.Drawn.{drawn}
 use Rattle.fdp_durability.specs.fdp_readings.Changes.{ArePagesOfUnit, FitsDrawn, MoveBlocks, NamesCopies, Saves, copies_of_blocks, known_handle}
 use Rattle.fdp_durability.proofs.fdp_readings.Fitting.{move-fits}
-use Rattle.fdp_durability.proofs.fdp_readings.Moving.{drawn-moved}
+use Rattle.fdp_durability.proofs.fdp_readings.Moving.{drawn-moved, lists}
 use Rattle.fdp_durability.proofs.fdp_readings.Passing.{copies-inside, copies-placed, pass-moves}
 use Rattle.fdp_records.specs.declared.change.Change.{Change}
 use Rattle.fdp_records.specs.declared.change.UnitPages.{UnitPages}
 use Rattle.fdp_records.specs.Records.{target_or_none}
-use Rattle.fdp_rules.specs.Events.{events_of_entry, is_of_handle, reallocated}
+use Rattle.fdp_rules.specs.Events.{is_of_handle}
 use Rattle.fdp_rules.specs.Next.{totals_with}
 use Rattle.fdp_rules.specs.Point.{Point}
-use Rattle.fdp_rules.specs.Room.{handles_in_force}
 use Rattle.fdp_rules.specs.Sites.{moved_blocks}
 use Rattle.fdp_rules.specs.Step.{IsDataUnit, IsPage}
 use Rattle.fdp_durability.specs.fdp_trails.Moves.{name_at, names_of}
@@ -110,26 +108,50 @@ victim-is t rg pass ruhs change joined group is move =
     let h = (joined.groups rg group).copied pass is in
     move.unit pass.victim (filter-old (λ (x : Copied). is_some (name_at (owner_at t.owners) x.from)) pass.victim 0 pass.copies (ascending-old pass.victim 0 pass.copies (λ k a e. (h.lie a (place-contains pass.copies k a e)).victim) (λ a e. omega arith) h.ascend))
 
-pub move-saved : (c : DriveConfig) (p : Point) (written : Spot → Option Written) (at : Behind Page) (t : PageTables) (rg : ℕ) (pass : Pass) (change : Change) → IsOrderly c p → IsStanding c p → AreLed c p written at t → rg < c.groups → cut_of t.units ≡ record { unit_pages = c.unit_pages; group_units = c.units; groups = c.groups } → AreJoined t → IsGroup t.units rg → (passes_at t rg).pass ≡ Some pass → (pass.copies ≡ [] → ⊥)
-    → CanBeNamed (copies_of_blocks (owner_at t.owners) pass.copies) → IsMoveOf (copies_of_blocks (owner_at t.owners) pass.copies) (map (λ (x : MovedBlock). x.ruh) (map (moved_of (owner_at t.owners)) (copies_of_blocks (owner_at t.owners) pass.copies))) change
-    → Saves c p change (entries.Moved (record { rg = rg; blocks = moved_blocks p rg }))
-move-saved c p written at t rg pass change orderly standing led low cut joined group is some can move =
-    let owners = owner_at t.owners in
-    let copies : List Copied = copies_of_blocks owners pass.copies in
+-- the blocks that are moved
+pub blocks-moved : (c : DriveConfig) (p : Point) (written : Spot → Option Written) (at : Behind Page) (t : PageTables) (rg : ℕ) (pass : Pass) → IsOrderly c p → AreLed c p written at t → rg < c.groups → (passes_at t rg).pass ≡ Some pass → (pass.copies ≡ [] → ⊥) → moved_blocks p rg ≡ names_of (owner_at t.owners) pass.copies
+blocks-moved c p written at t rg pass orderly led low is some =
     let same : copies_in (passes_at t rg) ≡ pass.copies = copies-are t rg pass is in
-    let victim = victim-is t rg pass (map (λ (x : MovedBlock). x.ruh) (map (moved_of owners) copies)) change joined group is move in
-    let stands = (joined.groups rg group).ready.victim pass is in
-    let moves = subst (λ (xs : List Copied). MoveBlocks p rg (copies_of_blocks owners xs)) same (pass-moves c p rg (next_in t.units) at owners (passes_at t rg) orderly led.table led.owned (led.passes rg low) (λ none. some (sym same ∙ none))) in
-    let named : NamesCopies c p rg copies (λ (x : Copied). known_handle owners x.from) move.victim move.first move.second (map (λ (x : MovedBlock). x.ruh) (map (moved_of owners) copies)) = record {
-      old = move.old.numbers c;
-      new = move.new.numbers c;
-      handles_are = known-ruhs owners copies;
-      group = ap (λ (u : ℕ). u / c.units) victim ∙ ap (λ (k : Cut). pass.victim / k.group_units) (sym cut) ∙ stands.group;
-      inside = copies-inside c p written at t pass.copies standing led;
-      placed = copies-placed c p written at t pass.copies standing led;
-    } in
-    subst (λ (x : Change). Saves c p x (entries.Moved (record { rg = rg; blocks = moved_blocks p rg }))) (sym move.change_is)
-    (drawn-moved c p rg copies (λ (x : Copied). known_handle owners x.from) move.victim move.first move.second (map (λ (x : MovedBlock). x.ruh) (map (moved_of owners) copies)) orderly standing moves named)
+    pass-listed c p rg (next_in t.units) at (owner_at t.owners) (passes_at t rg) orderly.state led.table led.owned (led.passes rg low) (λ none. some (sym same ∙ none)) ∙ ap (names_of (owner_at t.owners)) same
+
+-- what a pass moves, and what the change names of it
+module _ (c : DriveConfig) (p : Point) (written : Spot → Option Written) (at : Behind Page) (t : PageTables) (rg : ℕ) (pass : Pass) (change : Change) (orderly : IsOrderly c p) (standing : IsStanding c p) (led : AreLed c p written at t) (low : rg < c.groups)
+    (cut : cut_of t.units ≡ record { unit_pages = c.unit_pages; group_units = c.units; groups = c.groups }) (joined : AreJoined t) (group : IsGroup t.units rg) (is : (passes_at t rg).pass ≡ Some pass) (some : pass.copies ≡ [] → ⊥) where
+  abbrev kept : List Copied
+  kept = copies_of_blocks (owner_at t.owners) pass.copies
+
+  abbrev ruhs : List ℕ
+  ruhs = map (λ (x : MovedBlock). x.ruh) (map (moved_of (owner_at t.owners)) kept)
+
+  moves : MoveBlocks p rg kept
+  moves =
+      let same : copies_in (passes_at t rg) ≡ pass.copies = copies-are t rg pass is in
+      subst (λ (xs : List Copied). MoveBlocks p rg (copies_of_blocks (owner_at t.owners) xs)) same (pass-moves c p rg (next_in t.units) at (owner_at t.owners) (passes_at t rg) orderly led.table led.owned (led.passes rg low) (λ none. some (sym same ∙ none)))
+
+  named : (move : IsMoveOf kept ruhs change) → NamesCopies c p rg kept (λ (x : Copied). known_handle (owner_at t.owners) x.from) move.victim move.first move.second ruhs
+  named move = record {
+    old = move.old.numbers c;
+    new = move.new.numbers c;
+    handles_are = known-ruhs (owner_at t.owners) kept;
+    group = ap (λ (u : ℕ). u / c.units) (victim-is t rg pass ruhs change joined group is move) ∙ ap (λ (k : Cut). pass.victim / k.group_units) (sym cut) ∙ ((joined.groups rg group).ready.victim pass is).group;
+    inside = copies-inside c p written at t pass.copies standing led;
+    placed = copies-placed c p written at t pass.copies standing led;
+  }
+
+  pub move-saved : IsMoveOf kept ruhs change → Saves c p change (entries.Moved (record { rg = rg; blocks = moved_blocks p rg }))
+  move-saved move =
+      subst (λ (x : Change). Saves c p x (entries.Moved (record { rg = rg; blocks = moved_blocks p rg }))) (sym move.change_is)
+      (drawn-moved c p rg kept (λ (x : Copied). known_handle (owner_at t.owners) x.from) move.victim move.first move.second ruhs orderly standing moves (named move))
+
+  -- the blocks that are listed beside the change are those that it takes along
+  pub moved-listed : (bs : List MovedBlock) → IsMoveOf kept ruhs change → bs ≡ map (moved_of (owner_at t.owners)) kept → ListsMoved c (drawn c p) change bs
+  moved-listed bs move are =
+      subst (λ (x : Change). ListsMoved c (drawn c p) x bs) (sym move.change_is)
+      (λ ruh.
+      ap (λ (ys : List MovedBlock). names_of_handle ys ruh) are
+      ∙ handles-named c p written at t standing led ruh pass.copies
+      ∙ ap (filter (is_of_handle p.state ruh)) (sym (blocks-moved c p written at t rg pass orderly led low is some))
+      ∙ sym (lists c p rg kept (λ (x : Copied). known_handle (owner_at t.owners) x.from) move.victim move.first move.second ruhs orderly standing moves (named move) ruh))
 
 -- ---- the change of the move fits what is drawn
 
@@ -199,11 +221,6 @@ move-named-fits c p t rg pass ruhs change e orderly cut joined group is move =
 
 -- ---- the blocks that are moved
 
-pub blocks-moved : (c : DriveConfig) (p : Point) (written : Spot → Option Written) (at : Behind Page) (t : PageTables) (rg : ℕ) (pass : Pass) → IsOrderly c p → AreLed c p written at t → rg < c.groups → (passes_at t rg).pass ≡ Some pass → (pass.copies ≡ [] → ⊥) → moved_blocks p rg ≡ names_of (owner_at t.owners) pass.copies
-blocks-moved c p written at t rg pass orderly led low is some =
-    let same : copies_in (passes_at t rg) ≡ pass.copies = copies-are t rg pass is in
-    pass-listed c p rg (next_in t.units) at (owner_at t.owners) (passes_at t rg) orderly.state led.table led.owned (led.passes rg low) (λ none. some (sym same ∙ none)) ∙ ap (names_of (owner_at t.owners)) same
-
 pub none-moved : (owners : Spot → Option Owner) (xs : List Copied) → length (copies_of_blocks owners xs) ≡ 0 → names_of owners xs ≡ []
 none-moved owners xs none = names-listed owners xs ∙ ap (λ (ys : List Copied). map (λ (x : MovedBlock). x.name) (map (moved_of owners) ys)) (empty (copies_of_blocks owners xs) none) where
   empty : (ys : List Copied) → length ys ≡ 0 → ys ≡ []
@@ -224,16 +241,6 @@ totals-moved t rg blocks =
     ap (λ (n : ℕ). record t { position = t.position + 1; host_blocks = n }) (plus-none t.host_blocks)
     ∙ ap (λ (n : ℕ). record { position = t.position + 1; host_blocks = t.host_blocks + 0; media_blocks = n; erases = t.erases }) (plus-none t.media_blocks)
     ∙ ap (λ (n : ℕ). record { position = t.position + 1; host_blocks = t.host_blocks + 0; media_blocks = t.media_blocks + 0; erases = n }) (plus-none t.erases)
-
--- the events that are kept are those of the entry
-pub events-moved : (c : DriveConfig) (p : Point) (written : Spot → Option Written) (at : Behind Page) (t : PageTables) (rg n : ℕ) (pass : Pass) (bs : List MovedBlock) → IsStanding c p → AreLed c p written at t → moved_blocks p rg ≡ names_of (owner_at t.owners) pass.copies → bs ≡ map (moved_of (owner_at t.owners)) (copies_of_blocks (owner_at t.owners) pass.copies) → n ≡ handles_in_force c p.state
-    → flat_map (λ ruh. reallocated p.state rg ruh (names_of_handle bs ruh)) (numbers_below n) ≡ events_of_entry c p.state (entries.Moved (record { rg = rg; blocks = moved_blocks p rg }))
-unfolding events_of_entry
-events-moved c p written at t rg n pass bs standing led names are count =
-    let each : (λ ruh. reallocated p.state rg ruh (names_of_handle bs ruh)) ≡ (λ ruh. reallocated p.state rg ruh (filter (is_of_handle p.state ruh) (moved_blocks p rg))) =
-    λ i. λ ruh. reallocated p.state rg ruh ((ap (λ (ys : List MovedBlock). names_of_handle ys ruh) are ∙ handles-named c p written at t standing led ruh pass.copies ∙ ap (filter (is_of_handle p.state ruh)) (sym names)) i) in
-    ap (λ (f : ℕ → List Event). flat_map f (numbers_below n)) each
-    ∙ ap (λ (k : ℕ). flat_map (λ ruh. reallocated p.state rg ruh (filter (is_of_handle p.state ruh) (moved_blocks p rg))) (numbers_below k)) count
 
 true-false : true ≡ false → ⊥
 true-false e = cc

@@ -10,8 +10,6 @@ use Rattle.fdp_rules.specs.Change.{after, changed_by}
 use Rattle.fdp_rules.specs.Room.{handles_in_force}
 use Rattle.fdp_book.specs.Book.{BookSeen, point_in}
 use Rattle.fdp_flash.specs.FlashState.{FlashState}
-use Rattle.fdp_image.specs.Applied.{applied}
-use Rattle.fdp_image.specs.Changed.{changed}
 use Rattle.fdp_image.specs.Reading.{Reading}
 use Rattle.fdp_durability.specs.fdp_journal.JournalState.{JournalState}
 use Rattle.fdp_durability.specs.Saved.{SavesDrive, SavesEntries, SettlesDrive, firm_renewed, firm_with}
@@ -21,9 +19,7 @@ use Rattle.fdp_keeper.specs.Keeper.{CanGive, CanKeep, CanSave, KeeperSeen, Keeps
 use Rattle.fdp_outline.specs.Events.{AddsEvents}
 use Rattle.fdp_outline.specs.Outline.{IsOutlineOf}
 use Rattle.fdp_outline.proofs.Saying.{outline-totals}
-use Rattle.fdp_durability.specs.fdp_readings.Changes.{Saves}
 use Rattle.fdp_durability.specs.fdp_readings.Drawn.{drawn}
-use Rattle.fdp_records.specs.declared.change.Change.{Change}
 use Rattle.fdp_rules.specs.Events.{events_of_entry, kept_of_entry}
 use Rattle.fdp_rules.specs.Next.{next, totals_with}
 use Rattle.fdp_rules.specs.Point.{Point}
@@ -54,16 +50,6 @@ can-give b saver s now state t h is same = subst (λ (x : Summary). CanGive b sa
   stands = h.stands;
 })
 
--- what is drawn after an entry whose change concerns only pages and events
-pub adds : (c : DriveConfig) (p : Point) (change : Change) (e : Entry) → ((r : Reading) (position : ℕ) → changed c r position change ≡ r) → Saves c p change e → AddsEvents (drawn c p) (events_of_entry c p.state e) (drawn c (next c p e))
-unfolding applied next kept_of_entry
-adds c p change e plain saves =
-    let r : Reading = drawn c p in
-    let x : Reading = applied c r (change, totals_with p.totals e) in
-    let part : Reading → Reading = λ (y : Reading). record r { totals = y.totals; pages = y.pages; host_events = y.host_events; controller_events = y.controller_events } in
-    let own : x ≡ part x = ap (λ (y : Reading). record y { totals = x.totals; pages = x.pages; host_events = x.host_events; controller_events = x.controller_events }) (plain r (totals_with p.totals e).position) in
-    record { same = sym saves ∙ own ∙ ap part saves }
-
 plus-none : (n : ℕ) → n ≡ n + 0
 plus-none n = omega arith
 
@@ -73,9 +59,6 @@ totals-shut t rg ruh =
     ap (λ (n : ℕ). record t { position = t.position + 1; host_blocks = n }) (plus-none t.host_blocks)
     ∙ ap (λ (n : ℕ). record { position = t.position + 1; host_blocks = t.host_blocks + 0; media_blocks = n; erases = t.erases }) (plus-none t.media_blocks)
     ∙ ap (λ (n : ℕ). record { position = t.position + 1; host_blocks = t.host_blocks + 0; media_blocks = t.media_blocks + 0; erases = n }) (plus-none t.erases)
-
-pub can-keep-summary : (k : KeeperSeen) (saver : JournalState) (s : Summary) (firm : ℕ) → record { saver = saver; summary = s; firm = firm } ≡ k → s ≡ k.summary
-can-keep-summary k saver s firm is = ap (λ (x : KeeperSeen). x.summary) is
 
 pub can-keep-saver : (k : KeeperSeen) (saver : JournalState) (s : Summary) (firm : ℕ) → record { saver = saver; summary = s; firm = firm } ≡ k → saver ≡ k.saver
 can-keep-saver k saver s firm is = ap (λ (x : KeeperSeen). x.saver) is

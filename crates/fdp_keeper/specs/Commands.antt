@@ -1,5 +1,5 @@
 -- What saves a command other than a write.
-use Rattle.std.specs.Prelude.{◌≡◌, ℕ, ◌+◌, ◌*◌, ◌<◌, ◌≤◌, ◌==◌, ◌&&◌, Bool, false, IsFalse, IsTrue, List, [], ◌∷◌, None, if◌then◌else◌, length, nat_lt, slice_index, slice_index_or, unwrap_or}
+use Rattle.std.specs.Prelude.{◌≡◌, ℕ, ◌+◌, ◌*◌, ◌<◌, ◌==◌, ◌&&◌, Bool, false, IsFalse, IsTrue, List, [], ◌∷◌, None, if◌then◌else◌, length, nat_lt, slice_index, slice_index_or, unwrap_or}
 use Rattle.std.specs.List.{list_any}
 use Rattle.fdp_base.specs.declared.command.Command.{Command}
 use Rattle.fdp_base.specs.declared.command.Command.TheVariants as commands
@@ -11,10 +11,8 @@ use Rattle.fdp_base.specs.declared.config.DriveConfig.{DriveConfig}
 use Rattle.fdp_base.specs.declared.event.EventKind.{EventKind}
 use Rattle.fdp_base.specs.CommandKinds.{IsWellFormed, is_saved, is_write}
 use Rattle.fdp_base.specs.EventCodes.{kind_code}
-use Rattle.fdp_base.specs.Geometry.{IsWithin}
 use Rattle.fdp_book.specs.Book.{BookSeen, point_in}
 use Rattle.fdp_image.specs.Applied.{applied}
-use Rattle.fdp_image.specs.Checkpoint.{in_place}
 use Rattle.fdp_image.specs.CheckpointRows.{has_kind}
 use Rattle.fdp_image.specs.Reading.{Reading}
 use Rattle.fdp_base.specs.declared.entry.Totals.{Totals}
@@ -77,18 +75,6 @@ pub record AreMarked (c : DriveConfig) (s : PlainState) (marks : List Bool) (ref
 pub record AreListsOf (command : Command) (lists : CommandLists) : Type 0 where
   pub zeroed : (zero : Zero) → command ≡ commands.Zero zero → lists.zeroed ≡ record { slba = zero.slba; length = zero.count } ∷ []
   pub handles : (create : Create) → command ≡ commands.Create create → lists.handles.items ≡ chosen_handles create.list
-
--- a change can be kept in an outline: it is one of a command, and names what there may be
-abbrev pub CanBeKept : Summary → Change → Type 0
-CanBeKept s (changes.Write nsid slba pid pid_invalid pages) = ⊥
-CanBeKept s (changes.Clear nsid ranges) = Unit {0}
-CanBeKept s (changes.Update nsid closed pids) = length pids ≤ 64
-CanBeKept s (changes.Create nsid size given handles) = IsWithin 1 16 nsid × (in_place s.spaces nsid ≡ None) × (0 < size) × (length handles ≤ 16)
-CanBeKept s (changes.Delete nsid) = IsWithin 1 16 nsid
-CanBeKept s (changes.SetFdp enabled index generation) = Unit {0}
-CanBeKept s (changes.SetEvents ruh on mask) = ruh < 16
-CanBeKept s (changes.Moved victim first second handles) = ⊥
-CanBeKept s (changes.Shut rg ruh) = ⊥
 
 -- an outline is that behind a change, unless the answer is that it was not saved
 abbrev pub IsOutlineBehind : DriveConfig → Reading → Change × Totals → Summary → Summary → Saved → Type 0

@@ -1,5 +1,5 @@
 -- What saves a drive, as contracts see it, and what a saving makes of it.
-use Rattle.std.specs.Prelude.{◌≡◌, ℕ, ◌+◌, ◌<◌, ◌^◌, IsTrue, List, [], ◌∷◌, Some, map, true}
+use Rattle.std.specs.Prelude.{◌≡◌, ℕ, ◌+◌, ◌<◌, ◌^◌, IsTrue, List, [], ◌∷◌, map, true}
 use Rattle.fdp_base.specs.declared.command.Write.{Write}
 use Rattle.fdp_base.specs.declared.config.DriveConfig.{DriveConfig}
 use Rattle.fdp_base.specs.declared.entry.Entry.{Entry}
@@ -11,14 +11,12 @@ use Rattle.fdp_flash.specs.declared.answer.Wrote.{Wrote}
 use Rattle.fdp_flash.specs.FlashState.{FlashState}
 use Rattle.fdp_flash.specs.Layout.{page_number}
 use Rattle.fdp_durability.specs.fdp_journal.JournalState.{JournalState}
-use Rattle.fdp_outline.specs.Events.{with_events}
 use Rattle.fdp_outline.specs.Outline.{IsOutlineOf}
 use Rattle.fdp_durability.specs.fdp_readings.Changes.{AreItsPages, change_of_write}
 use Rattle.fdp_durability.specs.fdp_readings.Drawn.{drawn}
 use Rattle.fdp_records.specs.declared.change.Change.{Change}
 use Rattle.fdp_rules.specs.Next.{next}
-use Rattle.fdp_rules.specs.Events.{write_events}
-use Rattle.fdp_rules.specs.PlainState.{Going, PlainState}
+use Rattle.fdp_rules.specs.PlainState.{Going}
 use Rattle.fdp_rules.specs.Point.{Point}
 use Rattle.fdp_durability.specs.fdp_saving.declared.saved.Saved.{Saved}
 use Rattle.fdp_durability.specs.fdp_saving.declared.saved.Saved.TheVariants as answers
@@ -115,9 +113,3 @@ pub record IsWriteOf (b : BookSeen) (g : Going) (w : Write) (change : Change) : 
   pub spots : List Spot
   pub pages : AreItsPages (point_in b) g spots
   pub change_is : change ≡ change_of_write b.config w g spots
-
--- an outline with the event of a write, if it has one, unless the answer is that it was not saved
-abbrev pub IsWithEvent : PlainState → Going → Write → Summary → Summary → Saved → Type 0
-IsWithEvent state g w old new answers.Done = new ≡ with_events old (write_events state w.nsid w.dspec (Some g))
-IsWithEvent state g w old new (answers.Doubtful moment) = new ≡ with_events old (write_events state w.nsid w.dspec (Some g))
-IsWithEvent state g w old new (answers.Unsaved moment) = new ≡ old

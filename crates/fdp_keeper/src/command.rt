@@ -8,7 +8,7 @@ ghost use Rattle.fdp_durability.specs.fdp_readings.Changes.{completed};
 
 use crate::command_change::command_change;
 use crate::command_lists::lists_of;
-use crate::kept_change::keep_saved;
+use crate::made::make_saved;
 use crate::saving::save;
 use fdp_base::{Command, Totals};
 use fdp_book::Book;
@@ -40,6 +40,6 @@ pub fn save_command<F: Flash>(
         ..totals
     };
     let saved = save(saver, outline, flash, book, change, &after);
-    keep_saved(outline, book, change, after.position, saved);
+    make_saved(outline, book, change, after, saved);
     saved
 }

@@ -9,6 +9,7 @@ ghost use Rattle.fdp_passes.specs.Due.{IsDue};
 ghost use Rattle.fdp_rules.specs.Sites.{moved_blocks};
 
 use crate::change_room::ChangeRoom;
+use crate::made::make_change;
 use crate::move_change::{list_ruhs, move_change};
 use crate::moves::list_copies;
 use crate::saving::save;
@@ -50,8 +51,6 @@ pub fn save_move<F: Flash>(
         ..totals
     };
     let saved = save(saver, outline, flash, book, change, &after);
-    let summary = outline.summary();
-    let count = book.config().handle_count(summary.enabled, summary.index);
-    outline.keep_moved(after.position, rg, count, room.blocks.as_slice());
+    make_change(outline, book, change, after, room.blocks.as_slice());
     Some(saved)
 }

@@ -3,6 +3,7 @@ ghost use Rattle.fdp_book.specs.Book.{point_in};
 ghost use Rattle.fdp_keeper.specs.Keeper.{CanKeep, KeepsParts};
 ghost use Rattle.fdp_rules.specs.Step.{IsHandle};
 
+use crate::made::make_change;
 use crate::saving::save;
 use fdp_base::Totals;
 use fdp_book::Book;
@@ -34,6 +35,6 @@ pub fn save_shut<F: Flash>(
         ..totals
     };
     let saved = save(saver, outline, flash, book, change, &after);
-    outline.keep_shut(after.position, rg, ruh);
+    make_change(outline, book, change, after, &[]);
     saved
 }

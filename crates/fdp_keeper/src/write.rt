@@ -1,4 +1,4 @@
-ghost use Rattle.std.specs.Prelude.{◌≡◌, ◌+◌, ◌≤◌, ◌<◌, All, IsTrue, Some, length, map, vec_capacity};
+ghost use Rattle.std.specs.Prelude.{◌≡◌, ◌+◌, ◌≤◌, ◌<◌, All, IsTrue, length, map, vec_capacity};
 ghost use Rattle.fdp_base.specs.declared.command.Command.TheVariants as commands;
 ghost use Rattle.fdp_base.specs.declared.command.Write.{Write};
 ghost use Rattle.fdp_base.specs.declared.entry.Reply.{Reply};
@@ -9,16 +9,15 @@ ghost use Rattle.fdp_book.specs.Book.{point_in, state_in};
 ghost use Rattle.fdp_book.specs.Steps.{IsFlying, IsReady};
 ghost use Rattle.fdp_book.specs.Tickets.{IsTicketOf};
 ghost use Rattle.fdp_flash.specs.Layout.{page_number};
-ghost use Rattle.fdp_keeper.specs.Keeper.{AreNumbersOf, CanKeep, IsWithEvent, IsWriteOf, KeepsWrite};
-ghost use Rattle.fdp_outline.specs.Events.{with_events};
+ghost use Rattle.fdp_keeper.specs.Keeper.{AreNumbersOf, CanKeep, IsWriteOf, KeepsWrite};
 ghost use Rattle.fdp_base.specs.Geometry.{IsWithin};
 ghost use Rattle.fdp_records.specs.Borrowed.{change_of};
 ghost use Rattle.fdp_records.specs.Limits.{is_within_limits};
-ghost use Rattle.fdp_rules.specs.Events.{write_events};
 ghost use Rattle.fdp_durability.specs.fdp_readings.Changes.{completed};
 ghost use Rattle.fdp_rules.specs.PlainState.{Going};
 ghost use Rattle.fdp_rules.specs.Step.{IsPage, MaySucceed};
 
+use crate::made::make_saved;
 use crate::saving::save;
 use fdp_base::{DriveConfig, Spot, Totals};
 use fdp_book::{Book, Ticket};
@@ -27,7 +26,7 @@ use fdp_flash::Flash;
 use fdp_outline::Outline;
 use fdp_records::ChangeRef;
 
-/// Saves a going write that may succeed. The outline goes on with its event, unless the answer is that it was not saved.
+/// Saves a going write that may succeed. The outline goes on with its change, unless the answer is that it was not saved.
 pub fn save_write<F: Flash>(
     saver: &mut Saver,
     outline: &mut Outline,
@@ -56,7 +55,7 @@ pub fn save_write<F: Flash>(
         ..totals
     };
     let saved = save(saver, outline, flash, book, change, &after);
-    keep_write(outline, book, ticket, after.position, saved);
+    make_saved(outline, book, change, after, saved);
     saved
 }
 
@@ -90,32 +89,6 @@ fn write_change<'a>(numbers: &'a [u32], book: &Book, ticket: &Ticket) -> ChangeR
         pid_invalid: names.pid_invalid,
         pages: numbers,
     }
-}
-
-/// Keeps the event of a write, if it has one, where it was saved or may have been.
-fn keep_write(outline: &mut Outline, book: &Book, ticket: &Ticket, position: u64, saved: Saved)
-    requires { IsFlying book.now ticket.now }
-    ensures { (g : Going) (w : Write) → IsTicketOf (state_in book.now) ticket.now g → g.command ≡ commands.Write w → (state_in book.now).position + 1 ≡ position → IsWithEvent (state_in book.now) g w outline.old outline.new saved }
-{
-    match saved {
-        Saved::Done => keep_event(outline, book, ticket, position),
-        Saved::Doubtful { moment: _ } => keep_event(outline, book, ticket, position),
-        Saved::Unsaved { moment: _ } => {}
-    }
-}
-
-/// Keeps the event of a write, if its placement identifier was invalid.
-fn keep_event(outline: &mut Outline, book: &Book, ticket: &Ticket, position: u64)
-    requires { IsFlying book.now ticket.now }
-    ensures { (g : Going) (w : Write) → IsTicketOf (state_in book.now) ticket.now g → g.command ≡ commands.Write w → (state_in book.now).position + 1 ≡ position → outline.new ≡ with_events outline.old (write_events (state_in book.now) w.nsid w.dspec (Some g)) }
-{
-    outline.known(); // proof
-    let names = book.names_of_write(ticket);
-    if !names.pid_invalid {
-        return;
-    }
-    let place = book.place_of_write(ticket);
-    outline.keep_invalid(position, names.nsid, names.pid, place.rg, place.ruh);
 }
 
 /// Puts the numbers of these pages in place of what the list held; it has room for them.
