@@ -1,3 +1,4 @@
+use crate::form::{write_form, write_longer};
 use crate::usage::Usage;
 use crate::values::{Values, values_at};
 use fdp_base::{LONGEST_CONFIG, LONGEST_TRACE};
@@ -67,10 +68,10 @@ fn write_call<W: fmt::Write>(
     fault: &str,
 ) -> fmt::Result {
     match fault {
-        "5 flash" => write!(
+        "5 flash" => write_form(
             f,
             "`{}` cannot be taken, made or opened as an image: see to its folder, its rights and the room on its disk, or name another file",
-            word_at(words, 2)
+            &[word_at(words, 2)],
         ),
         "6 source" => f.write_str(
             "a configuration, a trace, a stream or a record cannot be read: name files that can be",
@@ -89,21 +90,24 @@ fn write_config<W: fmt::Write>(
 ) -> fmt::Result {
     let name = word_at(words, 1);
     match cause {
-        "absent" => write!(
+        "absent" => write_form(
             f,
-            "the configuration `{name}` is not there: name a file that is"
+            "the configuration `{}` is not there: name a file that is",
+            &[name],
         ),
-        "long" => write!(
+        "long" => {
+            write_form(f, "the configuration `{}`", &[name])?;
+            write_longer(f, LONGEST_CONFIG, "make it shorter")
+        }
+        "toml" => write_form(
             f,
-            "the configuration `{name}` has more than {LONGEST_CONFIG} bytes: make it shorter"
+            "the configuration `{}` is no TOML document in UTF-8, or has a number outside 64 bits: mend it",
+            &[name],
         ),
-        "toml" => write!(
+        "room" => write_form(
             f,
-            "the configuration `{name}` is no TOML document in UTF-8, or has a number outside 64 bits: mend it"
-        ),
-        "room" => write!(
-            f,
-            "the drive of `{name}` is too small for its namespaces, or its system areas for a checkpoint: lower `blocks`, or raise `units` or `area_units`"
+            "the drive of `{}` is too small for its namespaces, or its system areas for a checkpoint: lower `blocks`, or raise `units` or `area_units`",
+            &[name],
         ),
         _ => write_key(f, name, cause),
     }
@@ -114,18 +118,25 @@ fn write_key<W: fmt::Write>(f: &mut fmt::Formatter<W>, name: &str, cause: &str) 
         return f.write_str(cause);
     };
     match kind {
-        "unknown" => write!(
+        "unknown" => write_form(
             f,
-            "the configuration `{name}` has a key `{key}`, and no drive has one: take it out, or mend its name"
+            "the configuration `{}` has a key `{}`, and no drive has one: take it out, or mend its name",
+            &[name, key],
         ),
-        "missing" => write!(f, "the configuration `{name}` has no key `{key}`: add it"),
-        "kind" => write!(
+        "missing" => write_form(
             f,
-            "a value of another kind stands at `{key}` in the configuration `{name}`: docs/REFERENCE.md says what belongs there"
+            "the configuration `{}` has no key `{}`: add it",
+            &[name, key],
         ),
-        _ => write!(
+        "kind" => write_form(
             f,
-            "the value at `{key}` in the configuration `{name}` is out of its range: docs/REFERENCE.md has the ranges"
+            "a value of another kind stands at `{}` in the configuration `{}`: docs/REFERENCE.md says what belongs there",
+            &[key, name],
+        ),
+        _ => write_form(
+            f,
+            "the value at `{}` in the configuration `{}` is out of its range: docs/REFERENCE.md has the ranges",
+            &[key, name],
         ),
     }
 }
@@ -142,19 +153,21 @@ fn write_trace<W: fmt::Write>(
     match kind {
         "queue" => {
             let text = text_of(words);
-            write!(
+            write_form(
                 f,
-                "{text} {number}, `{name}`, has no queue: give fewer {text}s, or make a new image with more `queues`"
+                "{} {}, `{}`, has no queue: give fewer {}s, or make a new image with more `queues`",
+                &[text, number, name, text],
             )
         }
-        "absent" => write!(
+        "absent" => write_form(
             f,
-            "trace {number}, `{name}`, is not there: name a file that is"
+            "trace {}, `{}`, is not there: name a file that is",
+            &[number, name],
         ),
-        "long" => write!(
-            f,
-            "trace {number}, `{name}`, has more than {LONGEST_TRACE} bytes: split it"
-        ),
+        "long" => {
+            write_form(f, "trace {}, `{}`,", &[number, name])?;
+            write_longer(f, LONGEST_TRACE, "split it")
+        }
         _ => write_line(f, name, kind),
     }
 }
@@ -186,14 +199,15 @@ fn write_stream<W: fmt::Write>(
     };
     let name = name_behind(words, 2, number);
     match kind {
-        "absent" => write!(
+        "absent" => write_form(
             f,
-            "stream {number}, `{name}`, is not there: name a file that is"
+            "stream {}, `{}`, is not there: name a file that is",
+            &[number, name],
         ),
-        "long" => write!(
-            f,
-            "stream {number}, `{name}`, has more than {LONGEST_TRACE} bytes: split it"
-        ),
+        "long" => {
+            write_form(f, "stream {}, `{}`,", &[number, name])?;
+            write_longer(f, LONGEST_TRACE, "split it")
+        }
         _ => write_frame(f, name, kind),
     }
 }
@@ -209,9 +223,10 @@ fn write_frame<W: fmt::Write>(f: &mut fmt::Formatter<W>, name: &str, cause: &str
         "many" => "is the first one too many",
         _ => "is not whole",
     };
-    write!(
+    write_form(
         f,
-        "the frame {place} of the stream `{name}` {found}: docs/STREAMS.md has the frames byte by byte"
+        "the frame {} of the stream `{}` {}: docs/STREAMS.md has the frames byte by byte",
+        &[place, name, found],
     )
 }
 
@@ -222,14 +237,19 @@ fn write_record<W: fmt::Write>(
 ) -> fmt::Result {
     let (name, cause) = record_told(words, cause, 1);
     match cause {
-        "absent" => write!(f, "the record `{name}` is not there: name a file that is"),
-        "long" => write!(
+        "absent" => write_form(
             f,
-            "the record `{name}` has more than {LONGEST_TRACE} bytes: audit a shorter run"
+            "the record `{}` is not there: name a file that is",
+            &[name],
         ),
-        line => write!(
+        "long" => {
+            write_form(f, "the record `{}`", &[name])?;
+            write_longer(f, LONGEST_TRACE, "audit a shorter run")
+        }
+        line => write_form(
             f,
-            "with line {line} of `{name}` no record goes on: docs/REFERENCE.md has the form of each line"
+            "with line {} of `{}` no record goes on: docs/REFERENCE.md has the form of each line",
+            &[line, name],
         ),
     }
 }
@@ -253,9 +273,10 @@ fn write_verdict<W: fmt::Write>(
     match cause.split_once(' ') {
         Some(("output", line)) => {
             let (name, line) = record_told(words, line, 1);
-            write!(
+            write_form(
                 f,
-                "line {line} of `{name}` is not that of the output that its history gives: docs/AUDIT.md says what is compared"
+                "line {} of `{}` is not that of the output that its history gives: docs/AUDIT.md says what is compared",
+                &[line, name],
             )
         }
         Some(("lost", entry)) => write_lost(f, words, entry),
@@ -277,22 +298,25 @@ fn write_lost<W: fmt::Write>(
         return f.write_str(cause);
     };
     let (name, next) = (name_behind(words, 1, number), name_behind(words, 2, number));
-    write!(
+    write_form(
         f,
-        "`{name}` tells that the change at entry {at} was completed, and the run of `{next}` does not go on from it: docs/AUDIT.md has what may be lost"
+        "`{}` tells that the change at entry {} was completed, and the run of `{}` does not go on from it: docs/AUDIT.md has what may be lost",
+        &[name, at, next],
     )
 }
 
 /// What is wrong with an entry: the position that is due, and the rule under which the entry falls.
 fn write_entry<W: fmt::Write>(f: &mut fmt::Formatter<W>, name: &str, entry: &str) -> fmt::Result {
     match entry.split_once(' ') {
-        Some((at, "0")) => write!(
+        Some((at, "0")) => write_form(
             f,
-            "where the entry with position {at} is due in `{name}` stands one with another: docs/AUDIT.md has what a history is"
+            "where the entry with position {} is due in `{}` stands one with another: docs/AUDIT.md has what a history is",
+            &[at, name],
         ),
-        Some((at, why)) => write!(
+        Some((at, why)) => write_form(
             f,
-            "entry {at} of `{name}` is none that may follow those before it, by rule {why}: docs/AUDIT.md has the rules"
+            "entry {} of `{}` is none that may follow those before it, by rule {}: docs/AUDIT.md has the rules",
+            &[at, name, why],
         ),
         None => f.write_str(entry),
     }
@@ -310,16 +334,17 @@ fn write_line<W: fmt::Write>(f: &mut fmt::Formatter<W>, name: &str, cause: &str)
         "number" => "has something else in the place of a number",
         _ => "has a number that is out of its range",
     };
-    write!(
+    write_form(
         f,
-        "{place} of the trace `{name}` {found}: docs/REFERENCE.md has the form of each command"
+        "{} of the trace `{}` {}: docs/REFERENCE.md has the form of each command",
+        &[place, name, found],
     )
 }
 
-fn write_image<W: fmt::Write>(
+fn write_image<'a, W: fmt::Write>(
     f: &mut fmt::Formatter<W>,
-    words: &[String],
-    cause: &str,
+    words: &'a [String],
+    cause: &'a str,
     values: Option<Values>,
 ) -> fmt::Result {
     let (config, image) = (word_at(words, 1), word_at(words, 2));
@@ -329,27 +354,31 @@ fn write_image<W: fmt::Write>(
                 f,
                 "the image `{image}` was made with {key} = {made}, and `{config}` asks for {asked}"
             )?,
-            None => write!(
+            None => write_form(
                 f,
-                "the image `{image}` was made with another value of {key}"
+                "the image `{}` was made with another value of {}",
+                &[image, key],
             )?,
         }
         return f.write_str(": use another image, or the configuration that it was made with");
     }
     match cause {
-        "not-a-drive" => write!(
+        "not-a-drive" => write_form(
             f,
-            "the image `{image}` has data, but no system area that is whole"
+            "the image `{}` has data, but no system area that is whole",
+            &[image],
         )?,
-        "spent" => write!(
+        "spent" => write_form(
             f,
-            "the drive in the image `{image}` has counted as far as a drive may"
+            "the drive in the image `{}` has counted as far as a drive may",
+            &[image],
         )?,
         _ => {
             let page = cause.strip_prefix("bad ").unwrap_or("");
-            write!(
+            write_form(
                 f,
-                "the image `{image}` is damaged, as page {page} of its flash shows"
+                "the image `{}` is damaged, as page {} of its flash shows",
+                &[image, page],
             )?;
         }
     }

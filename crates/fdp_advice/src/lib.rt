@@ -2,6 +2,7 @@
 #![tactic(auto)]
 
 mod advice;
+mod form;
 mod heard;
 mod usage;
 mod values;

@@ -1,3 +1,4 @@
+use crate::form::write_form;
 use std::fmt;
 
 /// The words of a run of which one is wrong.
@@ -10,13 +11,14 @@ pub struct Usage<'a> {
 impl fmt::Display for Usage<'_> {
     fn fmt<W: fmt::Write>(&self, f: &mut fmt::Formatter<W>) -> fmt::Result {
         if let Some(word) = self.words.iter().find(|word| is_option(word)) {
-            return write!(
+            return write_form(
                 f,
-                "the word `{word}` begins with -, and there are no options: {HELP}"
+                "the word `{}` begins with -, and there are no options: {}",
+                &[word.as_str(), HELP],
             );
         }
         let [form, others @ ..] = self.words else {
-            return write!(f, "there are no words, or one is not UTF-8: {HELP}");
+            return write_form(f, "there are no words, or one is not UTF-8: {}", &[HELP]);
         };
         match form.as_str() {
             "run" => write_names(f, "run", "trace", others),
@@ -25,9 +27,10 @@ impl fmt::Display for Usage<'_> {
             "stream-record" => write_names(f, "stream-record", "stream", others),
             "make" => write_load(f, others),
             "audit" => write_audit(f, others),
-            _ => write!(
+            _ => write_form(
                 f,
-                "the first word `{form}` is none of run, record, stream, stream-record, make and audit: {HELP}"
+                "the first word `{}` is none of run, record, stream, stream-record, make and audit: {}",
+                &[form.as_str(), HELP],
             ),
         }
     }
@@ -53,18 +56,18 @@ fn write_names<W: fmt::Write>(
     words: &[String],
 ) -> fmt::Result {
     match words {
-        [] => write!(f, "a configuration is wanting behind `{form}`")?,
-        [config] => write!(f, "an image is wanting behind `{config}`")?,
-        [_, image] => write!(f, "a {text} is wanting behind `{image}`")?,
+        [] => write_form(f, "a configuration is wanting behind `{}`", &[form])?,
+        [config] => write_form(f, "an image is wanting behind `{}`", &[config.as_str()])?,
+        [_, image] => write_form(f, "a {} is wanting behind `{}`", &[text, image.as_str()])?,
         _ => match words.get(MOST_WORDS) {
-            Some(word) => write!(f, "`{word}` is a seventeenth {text}")?,
+            Some(word) => write_form(f, "`{}` is a seventeenth {}", &[word.as_str(), text])?,
             None => f.write_str("the words have no form")?,
         },
     }
-    write!(
+    write_form(
         f,
-        "\nusage: fdpdrive {form} CONFIG IMAGE {} .. (one to sixteen {text}s)",
-        place_of(text)
+        "\nusage: fdpdrive {} CONFIG IMAGE {} .. (one to sixteen {}s)",
+        &[form, place_of(text), text],
     )
 }
 
@@ -76,12 +79,13 @@ fn place_of(text: &str) -> &str {
 fn write_load<W: fmt::Write>(f: &mut fmt::Formatter<W>, words: &[String]) -> fmt::Result {
     match words {
         [] => f.write_str("a number is wanting behind `make`")?,
-        [number] => write!(f, "an image is wanting behind `{number}`")?,
-        [number, _] => write!(
+        [number] => write_form(f, "an image is wanting behind `{}`", &[number.as_str()])?,
+        [number, _] => write_form(
             f,
-            "`{number}` is no number of one to four digits up to 8192"
+            "`{}` is no number of one to four digits up to 8192",
+            &[number.as_str()],
         )?,
-        [_, _, word, ..] => write!(f, "the word `{word}` is one too many")?,
+        [_, _, word, ..] => write_form(f, "the word `{}` is one too many", &[word.as_str()])?,
     }
     f.write_str("\nusage: fdpdrive make NUMBER IMAGE")
 }
@@ -89,9 +93,9 @@ fn write_load<W: fmt::Write>(f: &mut fmt::Formatter<W>, words: &[String]) -> fmt
 fn write_audit<W: fmt::Write>(f: &mut fmt::Formatter<W>, words: &[String]) -> fmt::Result {
     match words {
         [] => f.write_str("a configuration is wanting behind `audit`")?,
-        [config] => write!(f, "a record is wanting behind `{config}`")?,
+        [config] => write_form(f, "a record is wanting behind `{}`", &[config.as_str()])?,
         _ => match words.get(MOST_AUDIT_WORDS) {
-            Some(word) => write!(f, "the word `{word}` is one too many")?,
+            Some(word) => write_form(f, "the word `{}` is one too many", &[word.as_str()])?,
             None => f.write_str("the words have no form")?,
         },
     }
