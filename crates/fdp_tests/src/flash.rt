@@ -4,7 +4,6 @@ mod plans;
 use fdp_base::{Geometry, Sequence, Spot};
 use fdp_flash::{Cell, Fetched, Flash, FlashMem, Outcome, Plan, Seen, Wrote, erase_area};
 use std::alloc::{AllocError, Global};
-use std::test::Fail;
 
 /// Two units of data and two of system areas, of two pages each.
 pub const SMALL: Geometry = Geometry {
@@ -37,7 +36,7 @@ const SCRIPT: [Step; 9] = [
 ];
 
 /// Programs a page, where the flash allows it, and names the answer by a letter.
-fn program(flash: &mut FlashMem, at: Spot, fill: u8) -> char {
+pub fn program(flash: &mut FlashMem, at: Spot, fill: u8) -> char {
     if flash.geometry().block != 512 || !flash.has_place(at) || !flash.has_room(at) {
         return '-';
     }
@@ -45,7 +44,7 @@ fn program(flash: &mut FlashMem, at: Spot, fill: u8) -> char {
 }
 
 /// Looks at a page, where there is one, and names the answer by a letter: of a whole page its last byte.
-fn look(flash: &mut FlashMem, at: Spot) -> char {
+pub fn look(flash: &mut FlashMem, at: Spot) -> char {
     if flash.geometry().block != 512 || !flash.has_place(at) {
         return '-';
     }
@@ -96,13 +95,22 @@ fn perform(flash: &mut FlashMem, step: Step) -> char {
     }
 }
 
-/// The answers to the steps, by their letters.
-fn play(alloc: Global, flash: &mut FlashMem, steps: &[Step]) -> Result<String, AllocError> {
-    let mut answers = String::new(alloc);
+/// Makes the calls of the steps, where the flash allows them.
+fn play(flash: &mut FlashMem, steps: &[Step]) {
     for step in steps {
-        answers.push(perform(flash, *step))?;
+        perform(flash, *step);
     }
-    Ok(answers)
+}
+
+/// Whether a flash answers the steps so, by their letters.
+fn answers(flash: &mut FlashMem, steps: &[Step], letters: &str) -> bool {
+    let mut letters = letters.chars();
+    for step in steps {
+        if letters.next() != Some(perform(flash, *step)) {
+            return false;
+        }
+    }
+    letters.next().is_none()
 }
 
 /// A page by its letter: a dot is blank, a tilde torn, and a whole page its first byte.
@@ -114,13 +122,15 @@ fn letter_in(cell: &Cell) -> char {
     }
 }
 
-/// The pages by their letters.
-fn drawn(alloc: Global, cells: &[Cell]) -> Result<String, AllocError> {
-    let mut letters = String::new(alloc);
+/// Whether pages have these letters.
+fn shows(cells: &[Cell], letters: &str) -> bool {
+    let mut letters = letters.chars();
     for cell in cells {
-        letters.push(letter_in(cell))?;
+        if letters.next() != Some(letter_in(cell)) {
+            return false;
+        }
     }
-    Ok(letters)
+    letters.next().is_none()
 }
 
 /// The one failure of a plan, if there is one.
@@ -155,16 +165,11 @@ fn made(
 }
 
 /// Whether a flash answers the steps so, and then has these pages.
-fn plays(
-    alloc: Global,
-    flash: &mut FlashMem,
-    steps: &[Step],
-    answers: &str,
-    cells: &str,
-) -> Result<bool, AllocError> {
-    let letters = play(alloc, flash, steps)?;
-    let drawing = drawn(alloc, flash.cells())?;
-    Ok(letters.as_str() == answers && drawing.as_str() == cells)
+fn plays(made: Result<FlashMem, AllocError>, steps: &[Step], letters: &str, cells: &str) -> bool {
+    match made {
+        Ok(mut flash) => answers(&mut flash, steps, letters) && shows(flash.cells(), cells),
+        Err(_) => false,
+    }
 }
 
 const TORN: [Step; 8] = [
@@ -191,19 +196,15 @@ const SKIPPED: [Step; 8] = [
 ];
 
 #[test]
-fn torn_pages(rt: HostRuntime) -> Result<(), Fail> {
-    let alloc = rt.alloc();
-    let mut flash = made(alloc, 0, Some((2, Outcome::Torn)), None)?;
-    assert!(rt; plays(alloc, &mut flash, &TORN, "DF~.OO--", "....6.~.")?);
-    Ok(())
+fn torn_pages(rt: HostRuntime) {
+    let made = made(rt.alloc(), 0, Some((2, Outcome::Torn)), None);
+    assert!(rt; plays(made, &TORN, "DF~.OO--", "....6.~."));
 }
 
 #[test]
-fn skipped_pages(rt: HostRuntime) -> Result<(), Fail> {
-    let alloc = rt.alloc();
-    let mut flash = made(alloc, 0, None, None)?;
-    assert!(rt; plays(alloc, &mut flash, &SKIPPED, "D-.4-DD7", "..7.....")?);
-    Ok(())
+fn skipped_pages(rt: HostRuntime) {
+    let made = made(rt.alloc(), 0, None, None);
+    assert!(rt; plays(made, &SKIPPED, "D-.4-DD7", "..7....."));
 }
 
 /// Erases the area of both units at the end, where there are these.
@@ -215,15 +216,17 @@ fn erase_end(flash: &mut FlashMem) -> Wrote {
 }
 
 /// Whether the area of both units at the end is blank once it is erased.
-fn erases_an_area(alloc: Global) -> Result<bool, AllocError> {
-    let mut flash = made(alloc, 0, None, None)?;
-    play(alloc, &mut flash, &TORN)?;
-    let wrote = erase_end(&mut flash);
-    Ok(wrote == Wrote::Done && drawn(alloc, flash.cells())?.as_str() == "........")
+fn erases_an_area(made: Result<FlashMem, AllocError>) -> bool {
+    match made {
+        Ok(mut flash) => {
+            play(&mut flash, &TORN);
+            erase_end(&mut flash) == Wrote::Done && shows(flash.cells(), "........")
+        }
+        Err(_) => false,
+    }
 }
 
 #[test]
-fn areas(rt: HostRuntime) -> Result<(), Fail> {
-    assert!(rt; erases_an_area(rt.alloc())?);
-    Ok(())
+fn areas(rt: HostRuntime) {
+    assert!(rt; erases_an_area(made(rt.alloc(), 0, None, None)));
 }

@@ -1,4 +1,4 @@
-//! The tests of the records, the checkpoint, the flash and the outside of a drive, of what is printed and of the generated load.
+//! The tests of the records, the checkpoint, the flash and the outside of a drive.
 #![tactic(auto)]
 
 #[cfg(test)]
@@ -7,10 +7,6 @@ mod flash;
 mod flash_file;
 #[cfg(test)]
 mod io;
-#[cfg(test)]
-mod make;
-#[cfg(test)]
-mod printing;
 #[cfg(test)]
 mod records;
 #[cfg(test)]

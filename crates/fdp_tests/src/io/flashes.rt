@@ -3,11 +3,11 @@
 ghost use Rattle.fdp_base.specs.Geometry.{IsValidGeometry};
 
 use super::failing_at;
-use crate::flash::SMALL;
+use crate::flash::{SMALL, look, program};
 use fdp_base::{Geometry, Spot};
-use fdp_flash::{Flash, FlashMem, Plan, Seen};
+use fdp_flash::{Flash, FlashMem, Plan};
 use fdp_io::{Bench, BenchFile, BenchMem, NotTaken};
-use std::alloc::{AllocError, Global};
+use std::alloc::Global;
 use std::fs;
 use std::test::Fail;
 
@@ -29,31 +29,15 @@ fn refuses<B: Bench>(alloc: Global, bench: &mut B, name: &str) -> bool {
     refused && bench.faults() == before.saturating_add(1)
 }
 
-/// What is seen of the first page of a flash.
-fn first_seen(flash: &mut FlashMem) -> Seen {
-    if flash.geometry().block != 512 || !flash.has_place(FIRST) {
-        return Seen::Failed;
-    }
-    flash.look(FIRST, &mut [0; 32], &mut [0; 512])
-}
-
-/// Programs the first page of a flash, if it is blank.
-fn program_first(flash: &mut FlashMem) {
-    if flash.geometry().block != 512 || !flash.has_place(FIRST) || !flash.has_room(FIRST) {
-        return;
-    }
-    flash.program(FIRST, &[7; 32], &[7; 512]);
-}
-
-/// Takes a flash, which is made with this geometry where there is none, programs its first page and gives it back. Whether it
-/// has two units, and its first page was seen so before.
-fn uses(alloc: Global, bench: &mut BenchMem, name: &str, geometry: Geometry, first: Seen) -> bool
+/// Takes a flash, which is made with this geometry where there is none, fills its first page with sevens and gives it back.
+/// Whether it has two units, and its first page had this letter before.
+fn uses(alloc: Global, bench: &mut BenchMem, name: &str, geometry: Geometry, first: char) -> bool
     requires { IsValidGeometry geometry }
 {
     match bench.take_flash(alloc, name, geometry) {
         Ok(mut flash) => {
-            let seen = first_seen(&mut flash);
-            program_first(&mut flash);
+            let seen = look(&mut flash, FIRST);
+            program(&mut flash, FIRST, b'7');
             let units = flash.geometry().units;
             bench.give_flash(name, flash);
             seen == first && units == 2
@@ -62,10 +46,12 @@ fn uses(alloc: Global, bench: &mut BenchMem, name: &str, geometry: Geometry, fir
     }
 }
 
-/// Lays a blank flash down in the place of what was there.
-fn lay_blank(alloc: Global, bench: &mut BenchMem, name: &str) -> Result<(), AllocError> {
-    let flash = FlashMem::new(alloc, SMALL, Plan::empty(alloc))?;
-    bench.lay_flash(alloc, name, flash)
+/// Lays a blank flash down in the place of what was there, if there is memory.
+fn lays_blank(alloc: Global, bench: &mut BenchMem, name: &str) -> bool {
+    match FlashMem::new(alloc, SMALL, Plan::empty(alloc)) {
+        Ok(flash) => bench.lay_flash(alloc, name, flash).is_ok(),
+        Err(_) => false,
+    }
 }
 
 fn has_flash(bench: &BenchMem, name: &str) -> bool {
@@ -81,11 +67,11 @@ fn takes_out(alloc: Global, bench: &mut BenchMem, name: &str) -> bool {
 fn flashes_are_taken_and_given_back(rt: HostRuntime) -> Result<(), Fail> {
     let alloc = rt.alloc();
     let mut bench = failing_at(alloc, 5)?;
-    assert!(rt; uses(alloc, &mut bench, "a", SMALL, Seen::Blank));
-    assert!(rt; uses(alloc, &mut bench, "a", LARGER, Seen::Whole));
+    assert!(rt; uses(alloc, &mut bench, "a", SMALL, '.'));
+    assert!(rt; uses(alloc, &mut bench, "a", LARGER, '7'));
     assert!(rt; refuses(alloc, &mut bench, "a"));
-    lay_blank(alloc, &mut bench, "a")?;
-    assert!(rt; uses(alloc, &mut bench, "a", LARGER, Seen::Blank));
+    assert!(rt; lays_blank(alloc, &mut bench, "a"));
+    assert!(rt; uses(alloc, &mut bench, "a", LARGER, '.'));
     assert!(rt; has_flash(&bench, "a") && !has_flash(&bench, "b"));
     assert!(rt; takes_out(alloc, &mut bench, "a"));
     assert!(rt; refuses(alloc, &mut bench, "a") && bench.faults() == 2);
@@ -124,37 +110,32 @@ fn files_hold_flashes(rt: HostRuntime) -> Result<(), Fail> {
 
 const TEXT: &str = "fdp_io_text";
 
-fn write_text(rt: &HostRuntime, text: &str) -> Result<(), Fail> {
-    fs::write(rt, TEXT, text)?;
-    Ok(())
+fn writes(rt: &HostRuntime, text: &str) -> bool {
+    fs::write(rt, TEXT, text).is_ok()
 }
 
-fn is_text(rt: &HostRuntime, text: &str) -> Result<bool, Fail> {
-    Ok(fs::read_to_string(rt, TEXT)?.as_str() == text)
+fn is_text(rt: &HostRuntime, text: &str) -> bool {
+    match fs::read(rt, TEXT) {
+        Ok(bytes) => bytes.as_slice() == text.as_bytes(),
+        Err(_) => false,
+    }
 }
 
 /// Whether a file of this text is refused as a flash, and stays what it is.
-fn stays<B: Bench>(rt: &HostRuntime, bench: &mut B, text: &str) -> Result<bool, Fail> {
-    write_text(rt, text)?;
-    let refused = refuses(rt.alloc(), bench, TEXT);
-    let same = is_text(rt, text)?;
-    Ok(refused && same)
+fn stays<B: Bench>(rt: &HostRuntime, bench: &mut B, text: &str) -> bool {
+    writes(rt, text) && refuses(rt.alloc(), bench, TEXT) && is_text(rt, text)
 }
+
+const LONGER_THAN_A_HEAD: &str = "a text that is longer than the head of a flash";
 
 /// Files of text, a folder, a name behind a file, one in no folder, and a file that is no plain one.
 #[test]
 fn others_are_no_flashes(rt: HostRuntime) -> Result<(), Fail> {
     let alloc = rt.alloc();
     let mut bench = BenchFile::new(alloc, &rt);
-    assert!(rt; stays(&rt, &mut bench, "")?);
-    assert!(rt; stays(&rt, &mut bench, "FDPFLASH")?);
-    assert!(rt;
-        stays(
-            &rt,
-            &mut bench,
-            "a text that is longer than the head of a flash"
-        )?
-    );
+    assert!(rt; stays(&rt, &mut bench, ""));
+    assert!(rt; stays(&rt, &mut bench, "FDPFLASH"));
+    assert!(rt; stays(&rt, &mut bench, LONGER_THAN_A_HEAD));
     assert!(rt; refuses(alloc, &mut bench, "."));
     assert!(rt; refuses(alloc, &mut bench, "fdp_io_text/under"));
     assert!(rt; refuses(alloc, &mut bench, "fdp_io_no_folder/image"));
