@@ -20,7 +20,6 @@ use Rattle.fdp_owners.specs.OwnerTable.{owner_at}
 use Rattle.fdp_readings.specs.fdp_pages.PageTables.{PageTables}
 use Rattle.fdp_pointers.specs.Facts.{Page}
 use Rattle.fdp_pointers.specs.Pointers.{Behind, Pointer, Pointer.of_block, Pointer.of_flight, is_outside, only, renamed}
-use Rattle.fdp_spaces.specs.SpaceTable.{SpaceTable, namespace_at}
 
 -- ---- after the pages of the writes are let go
 
@@ -28,10 +27,10 @@ use Rattle.fdp_spaces.specs.SpaceTable.{SpaceTable, namespace_at}
 abbrev apart : List (Option Flight) → ℕ → Behind Page → Behind Page
 apart flights nsid at = renamed (only (is_apart flights nsid (length flights))) at
 
-apart-mapped : (t : Tables) (nsid : ℕ) (now : PageTables) (at : Behind Page) → AreMapped at t.map t.pages → AreFlown at t.spaces t.flights.items t.pages → Releases t.spaces t.flights.items nsid (length t.flights.items) t.pages now → AreMapped (apart t.flights.items nsid at) t.map now
+apart-mapped : (t : Tables) (nsid : ℕ) (now : PageTables) (at : Behind Page) → AreMapped at t.map t.pages → AreFlown at t.outline t.flights.items t.pages → Releases t.outline t.flights.items nsid (length t.flights.items) t.pages now → AreMapped (apart t.flights.items nsid at) t.map now
 apart-mapped t nsid now at mapped flown h = record { owned = h.owners at flown; mapped = mapped.mapped }
 
-pub apart-pointers : (t : Tables) (nsid : ℕ) (now : PageTables) → ArePointed t → Releases t.spaces t.flights.items nsid (length t.flights.items) t.pages now → HasPointers t.map now
+pub apart-pointers : (t : Tables) (nsid : ℕ) (now : PageTables) → ArePointed t → Releases t.outline t.flights.items nsid (length t.flights.items) t.pages now → HasPointers t.map now
 apart-pointers t nsid now pointed h = record { at = apart t.flights.items nsid pointed.at; are = apart-mapped t nsid now pointed.at pointed.mapped pointed.flown h }
 
 -- ---- after the blocks are taken away
@@ -86,14 +85,12 @@ gone-blocks table nsid test n lba =
     (λ (ne : n ≢ nsid). gone-other (without_mapped table nsid test) nsid n lba ne ∙ ap (λ (b : Bool). if b && test lba then None else table n lba) (ne_eqb n nsid ne) ∙ sym (gone-other table nsid n lba ne))
     (cases_eq n nsid)
 
-pub deletes : (t : Tables) (nsid count : ℕ) (mid last : MapTable) (spaces : SpaceTable) (let_go now : PageTables) → count ≡ size_in t.map nsid →
-    Releases t.spaces t.flights.items nsid (length t.flights.items) t.pages let_go → Clears nsid (is_among 0 count) t.map mid let_go now →
+pub deletes : (t : Tables) (nsid count : ℕ) (mid last : MapTable) (let_go now : PageTables) → count ≡ size_in t.map nsid →
+    Releases t.outline t.flights.items nsid (length t.flights.items) t.pages let_go → Clears nsid (is_among 0 count) t.map mid let_go now →
     mapped_at last ≡ with_at (mapped_at mid) nsid (λ lba. None) → size_in last ≡ with_at (size_in mid) nsid 0 → last.geometry ≡ mid.geometry →
-    namespace_at spaces ≡ with_at (namespace_at t.spaces) nsid None → spaces.groups ≡ t.spaces.groups → (new : Tables) → new.spaces ≡ spaces → new.map ≡ last → new.pages ≡ now → new ≡ record t { spaces = new.spaces; map = new.map; pages = new.pages } →
+    (new : Tables) → new.map ≡ last → new.pages ≡ now → new ≡ record t { map = new.map; pages = new.pages } →
     Deletes t new nsid
-deletes t nsid count mid last spaces let_go now whole releases clears blocks sizes geometry namespaces groups new spaces_is map_is pages_is rest = record {
-  namespaces = ap namespace_at spaces_is ∙ namespaces;
-  groups = ap (λ (x : SpaceTable). x.groups) spaces_is ∙ groups;
+deletes t nsid count mid last let_go now whole releases clears blocks sizes geometry new map_is pages_is rest = record {
   blocks = ap mapped_at map_is ∙ blocks ∙ ap (λ (f : ℕ → ℕ → Option Mapped). with_at f nsid (λ (l : ℕ). None)) clears.blocks ∙ (λ e n lba. gone-blocks (mapped_at t.map) nsid (is_among 0 count) n lba e);
   sizes = ap size_in map_is ∙ sizes ∙ ap (λ (f : ℕ → ℕ). with_at f nsid 0) clears.sizes;
   geometry = ap (λ (m : MapTable). m.geometry) map_is ∙ geometry ∙ clears.geometry;

@@ -20,6 +20,7 @@ use Rattle.fdp_book.specs.Extent.{extent}
 use Rattle.fdp_book.specs.Forgetting.{EndsIn, Forgets}
 use Rattle.fdp_book.specs.Held.{IsHeld, flight_in, going_of}
 use Rattle.fdp_book.specs.Logged.{Logged}
+use Rattle.fdp_book.specs.Outlined.{Counts}
 use Rattle.fdp_book.specs.Room.{IsTwice}
 use Rattle.fdp_book.specs.Steps.{Completes, IsFlying, IsReady}
 use Rattle.fdp_book.specs.Tickets.{IsTicketOf}
@@ -35,22 +36,23 @@ use Rattle.fdp_rules.specs.History.{Found}
 use Rattle.fdp_rules.specs.PlainState.{Going}
 use Rattle.fdp_rules.specs.Room.{size_of}
 use Rattle.fdp_rules.specs.Step.{IsQueue, MaySucceed}
+use Rattle.fdp_snapshot.specs.declared.state.Summary.{Summary}
 
 -- ---- a command whose change is not made
 
-by-kind : (c : DriveConfig) (found : Found) (first : Spot → Option Written) (es : List Entry) (t now : Tables) (queue number : ℕ) (command : Command) (reply : Reply) (moment : ℕ) →
-    IsHeld c found first es t → IsQueue c queue → IsFalse reply.applied → (b : Bool) → is_write command ≡ b → MatchBool b (Forgets t now queue (flight_in t.flights.items queue)) (now ≡ t) →
-    IsHeld c found first (es ++ host queue number command reply moment ∷ []) now
-by-kind c found first es t now queue number command reply moment h queue_is unmade true write ends =
-    held-ended c found first es t now queue number command reply moment (flight_in t.flights.items queue) h queue_is write unmade ends
-by-kind c found first es t now queue number command reply moment h queue_is unmade false other same =
-    subst (λ (x : Tables). IsHeld c found first (es ++ host queue number command reply moment ∷ []) x) (sym same)
-    (held-answered c found first es t queue number command reply moment h other unmade)
+by-kind : (c : DriveConfig) (found : Found) (first : Spot → Option Written) (es : List Entry) (t now : Tables) (outline : Summary) (queue number : ℕ) (command : Command) (reply : Reply) (moment : ℕ) →
+    IsHeld c found first es t → IsQueue c queue → IsFalse reply.applied → (b : Bool) → is_write command ≡ b → MatchBool b (Forgets t now queue (flight_in t.flights.items queue)) (now ≡ t) → Counts 0 0 t.outline outline →
+    IsHeld c found first (es ++ host queue number command reply moment ∷ []) (record now { outline = outline })
+by-kind c found first es t now outline queue number command reply moment h queue_is unmade true write ends counts =
+    held-ended c found first es t now outline queue number command reply moment (flight_in t.flights.items queue) h queue_is write unmade ends counts
+by-kind c found first es t now outline queue number command reply moment h queue_is unmade false other same counts =
+    subst (λ (x : Tables). IsHeld c found first (es ++ host queue number command reply moment ∷ []) (record x { outline = outline })) (sym same)
+    (held-answered c found first es t outline queue number command reply moment h other unmade counts)
 
-pub held-completed : (c : DriveConfig) (found : Found) (first : Spot → Option Written) (es : List Entry) (t now : Tables) (queue number : ℕ) (command : Command) (reply : Reply) (moment : ℕ) →
-    IsHeld c found first es t → IsQueue c queue → IsFalse reply.applied → EndsIn t now queue command → IsHeld c found first (es ++ host queue number command reply moment ∷ []) now
-held-completed c found first es t now queue number command reply moment h queue_is unmade ends =
-    by-kind c found first es t now queue number command reply moment h queue_is unmade (is_write command) refl ends
+pub held-completed : (c : DriveConfig) (found : Found) (first : Spot → Option Written) (es : List Entry) (t now : Tables) (outline : Summary) (queue number : ℕ) (command : Command) (reply : Reply) (moment : ℕ) →
+    IsHeld c found first es t → IsQueue c queue → IsFalse reply.applied → EndsIn t now queue command → Counts 0 0 t.outline outline → IsHeld c found first (es ++ host queue number command reply moment ∷ []) (record now { outline = outline })
+held-completed c found first es t now outline queue number command reply moment h queue_is unmade ends counts =
+    by-kind c found first es t now outline queue number command reply moment h queue_is unmade (is_write command) refl ends counts
 
 -- ---- the flight of a ticket
 
@@ -81,12 +83,12 @@ ended-entry queue number moment f command r reply command_is twice =
     ap (λ (k : Command). host queue number k r.history moment) command_is ∙ ap (λ (y : Reply). host queue number f.room.command y moment) twice.history_is
 
 -- what the tables stand for after the end of a flight whose change is not made
-pub held-ending : (b now : BookSeen) (t left : Tables) (queue : ℕ) (ticket : Ticket) (f : Flight) (status : Status) (moment : ℕ) (old : Option Flight) →
-    IsHeld b.config b.found (first_in b) b.entries t → b ≡ now → queue ≡ ticket.queue → flight_in t.flights.items queue ≡ Some f → IsFlying now ticket → Forgets t left queue old →
-    IsHeld b.config b.found (first_in b) (b.entries ++ host queue f.number f.room.command (bare status false) moment ∷ []) left
-held-ending b now t left queue ticket f status moment old h same queue_is there flying forgets =
+pub held-ending : (b now : BookSeen) (t left : Tables) (outline : Summary) (queue : ℕ) (ticket : Ticket) (f : Flight) (status : Status) (moment : ℕ) (old : Option Flight) →
+    IsHeld b.config b.found (first_in b) b.entries t → b ≡ now → queue ≡ ticket.queue → flight_in t.flights.items queue ≡ Some f → IsFlying now ticket → Forgets t left queue old → Counts 0 0 t.outline outline →
+    IsHeld b.config b.found (first_in b) (b.entries ++ host queue f.number f.room.command (bare status false) moment ∷ []) (record left { outline = outline })
+held-ending b now t left outline queue ticket f status moment old h same queue_is there flying forgets counts =
     let k = ending b now t queue ticket f h same queue_is there flying in
-    held-ended b.config b.found (first_in b) b.entries t left queue f.number f.room.command (bare status false) moment old h k.orderly.queue_is k.orderly.write refl forgets
+    held-ended b.config b.found (first_in b) b.entries t left outline queue f.number f.room.command (bare status false) moment old h k.orderly.queue_is k.orderly.write refl forgets counts
 
 -- ---- a write that succeeds
 

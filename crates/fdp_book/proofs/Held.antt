@@ -1,4 +1,3 @@
-pub mod Sums
 pub mod Next
 pub mod Fresh
 pub mod Started

@@ -5,14 +5,12 @@ use Rattle.std.specs.Option.{option_map_or}
 use Rattle.fdp_base.specs.declared.config.DriveConfig.{DriveConfig}
 use Rattle.fdp_base.specs.CommandKinds.{nsid_of, pid_of, write_of}
 use Rattle.fdp_book.specs.declared.flight.Flight.{Flight}
-use Rattle.fdp_book.specs.declared.tables.Setting.{Setting}
-use Rattle.fdp_book.specs.Held.{AreFlightsOf, AreSpacesOf, IsMapOf, IsSettingOf, going_of}
+use Rattle.fdp_book.specs.Held.{AreFlightsOf, IsMapOf, going_of}
 use Rattle.fdp_map.specs.MapTable.{MapTable}
 use Rattle.fdp_rules.specs.PlainState.{Block, Going, Namespace, PlainState}
 use Rattle.fdp_rules.specs.Sites.{is_there}
 use Rattle.fdp_rules.specs.Step.{IsOnTarget, goes_to}
 use Rattle.fdp_rules.specs.Target.{target_of}
-use Rattle.fdp_spaces.specs.SpaceTable.{SpaceTable}
 
 -- the setting and the namespaces are as they were
 pub record IsAlike (s n : PlainState) : Type 0 where
@@ -20,12 +18,6 @@ pub record IsAlike (s n : PlainState) : Type 0 where
   pub index : n.index ≡ s.index
   pub generation : n.generation ≡ s.generation
   pub namespaces : n.namespaces ≡ s.namespaces
-
-pub setting-alike : (s n : PlainState) (x : Setting) → IsAlike s n → IsSettingOf s x → IsSettingOf n x
-setting-alike s n x a h = record { enabled = a.enabled ∙ h.enabled; index = a.index ∙ h.index; generation = a.generation ∙ h.generation }
-
-pub spaces-alike : (c : DriveConfig) (s n : PlainState) (x : SpaceTable) → IsAlike s n → AreSpacesOf c s x → AreSpacesOf c n x
-spaces-alike c s n x a h = record { groups = h.groups; namespaces = λ nsid. ap (λ (f : ℕ → Option Namespace). f nsid) a.namespaces ∙ h.namespaces nsid }
 
 pub map-alike : (c : DriveConfig) (s n : PlainState) (x : MapTable) → IsAlike s n → n.blocks ≡ s.blocks → IsMapOf c s x → IsMapOf c n x
 map-alike c s n x a blocks h = record {

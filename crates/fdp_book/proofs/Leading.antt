@@ -31,7 +31,8 @@ use Rattle.fdp_pointers.specs.Pointers.{Behind, Pointer, Pointer.of_block, Point
 use Rattle.fdp_pointers.proofs.Copies.{same-spot}
 use Rattle.fdp_rules.specs.PlainState.{Namespace, PlainState}
 use Rattle.fdp_rules.specs.Sites.{is_spot, is_there}
-use Rattle.fdp_spaces.specs.SpaceTable.{SpaceTable, namespace_at}
+use Rattle.fdp_outline.specs.Handles.{namespace_at}
+use Rattle.fdp_snapshot.specs.declared.state.Summary.{Summary}
 
 never : {X : Type 0} {x : X} → None ≡ Some x → ⊥
 never e = cc
@@ -180,7 +181,7 @@ its-pages s map flights at queue apart h = its-along at queue (live_of s (flight
 pub pages-owned : (s : PlainState) (map : MapTable) (flights : List (Option Flight)) (at : Behind Page) (o : OwnerTable) (queue : ℕ) → AreOwners (owner_at o) at → IsApart at → LeadsTo (lead_in s map flights) at → AreOwned o (live_of s (flight_in flights queue))
 pages-owned s map flights at o queue owned apart h = owned-along at o queue (live_of s (flight_in flights queue)) owned apart (led-along s map flights at queue h)
 
--- ---- by the table of namespaces
+-- ---- by an outline
 
 nsid-of : (command : Command) (x : Extent) (o : Option Write) → write_of command ≡ o → Some x ≡ option_map extent o → x.nsid ≡ nsid_of command
 nsid-of command x None is e = absurd cc
@@ -191,13 +192,13 @@ nsid-of command x (Some w) is e =
 pub nsid-known : (f : Flight) → f.extent.nsid ≡ nsid_of f.room.command
 nsid-known f = nsid-of f.room.command f.extent (write_of f.room.command) refl f.extent_is
 
-pub there-known : (s : PlainState) (spaces : SpaceTable) (f : Flight) → ((nsid : ℕ) → s.namespaces nsid ≡ namespace_at spaces nsid) → is_there_in spaces f ≡ is_there s (going_of f)
-there-known s spaces f all = sym (ap (λ (nsid : ℕ). option_map_or (λ (x : Namespace). x.birth == f.birth) (s.namespaces nsid) false) (sym (nsid-known f)) ∙ ap (λ (o : Option Namespace). option_map_or (λ (x : Namespace). x.birth == f.birth) o false) (all f.extent.nsid))
+pub there-known : (s : PlainState) (outline : Summary) (f : Flight) → ((nsid : ℕ) → s.namespaces nsid ≡ namespace_at outline nsid) → is_there_in outline f ≡ is_there s (going_of f)
+there-known s outline f all = sym (ap (λ (nsid : ℕ). option_map_or (λ (x : Namespace). x.birth == f.birth) (s.namespaces nsid) false) (sym (nsid-known f)) ∙ ap (λ (o : Option Namespace). option_map_or (λ (x : Namespace). x.birth == f.birth) o false) (all f.extent.nsid))
 
-pub live-known : (s : PlainState) (spaces : SpaceTable) (o : Option Flight) → ((nsid : ℕ) → s.namespaces nsid ≡ namespace_at spaces nsid) → live_pages spaces o ≡ live_of s o
-live-known s spaces None all = refl
-live-known s spaces (Some f) all = ap (λ (b : Bool). if b then f.pages.items else []) (there-known s spaces f all)
+pub live-known : (s : PlainState) (outline : Summary) (o : Option Flight) → ((nsid : ℕ) → s.namespaces nsid ≡ namespace_at outline nsid) → live_pages outline o ≡ live_of s o
+live-known s outline None all = refl
+live-known s outline (Some f) all = ap (λ (b : Bool). if b then f.pages.items else []) (there-known s outline f all)
 
--- the pointers of going writes lead where their flights say, by the table of namespaces
-pub flown-known : (s : PlainState) (map : MapTable) (spaces : SpaceTable) (flights : List (Option Flight)) (at : Behind Page) (queue : ℕ) → ((nsid : ℕ) → s.namespaces nsid ≡ namespace_at spaces nsid) → LeadsTo (lead_in s map flights) at → LeadsAlong at queue (live_pages spaces (flight_in flights queue))
-flown-known s map spaces flights at queue all h = subst (λ (xs : List Spot). LeadsAlong at queue xs) (sym (live-known s spaces (flight_in flights queue) all)) (led-along s map flights at queue h)
+-- the pointers of going writes lead where their flights say, by an outline
+pub flown-known : (s : PlainState) (map : MapTable) (outline : Summary) (flights : List (Option Flight)) (at : Behind Page) (queue : ℕ) → ((nsid : ℕ) → s.namespaces nsid ≡ namespace_at outline nsid) → LeadsTo (lead_in s map flights) at → LeadsAlong at queue (live_pages outline (flight_in flights queue))
+flown-known s map outline flights at queue all h = subst (λ (xs : List Spot). LeadsAlong at queue xs) (sym (live-known s outline (flight_in flights queue) all)) (led-along s map flights at queue h)

@@ -5,6 +5,10 @@ pub use Rattle.fdp_found.proofs.fdp_locations as fdp_locations
 pub use Rattle.fdp_found.proofs.fdp_pages as fdp_pages
 pub use Rattle.fdp_readings.proofs as fdp_readings
 pub use Rattle.fdp_found.proofs.fdp_trails as fdp_trails
+pub mod Outlining
+pub mod Telling
+pub mod Making
+pub mod Looking
 pub mod Kept
 pub mod Leading
 pub mod Flights

@@ -24,7 +24,7 @@ use Rattle.fdp_readings.specs.fdp_pages.Steps.{AreOwned, ChangesOwners, without}
 use Rattle.fdp_pointers.specs.Facts.{Page}
 use Rattle.fdp_pointers.specs.Pointers.{Behind, Pointer, Pointer.of_block, Pointer.of_flight, is_of_another, only, renamed}
 use Rattle.fdp_rules.specs.Sites.{is_spot}
-use Rattle.fdp_spaces.specs.SpaceTable.{SpaceTable}
+use Rattle.fdp_snapshot.specs.declared.state.Summary.{Summary}
 
 -- ---- pages that lose their owners
 
@@ -93,19 +93,19 @@ apart-less flights nsid queue at (of_flight q i) other =
     (cases_eq q queue)
 
 -- the write of the next queue has what it had
-next-along : (spaces : SpaceTable) (flights : List (Option Flight)) (nsid queue : ℕ) (at : Behind Page) (t : PageTables) → AreFlown at spaces flights t → LeadsAlong (renamed (only (is_apart flights nsid queue)) at) queue (live_pages spaces (flight_in flights queue))
-next-along spaces flights nsid queue at t h index =
+next-along : (outline : Summary) (flights : List (Option Flight)) (nsid queue : ℕ) (at : Behind Page) (t : PageTables) → AreFlown at outline flights t → LeadsAlong (renamed (only (is_apart flights nsid queue)) at) queue (live_pages outline (flight_in flights queue))
+next-along outline flights nsid queue at t h index =
     ap (λ (b : Bool). option_map (λ (y : Page). y.spot) (option_and_then at (if not (b && is_to flights nsid queue) then Some (of_flight queue index) else None))) (le-ltb queue queue (omega arith)) ∙ h.flown queue index
 
 -- ---- the pages of the next queue
 
-to-pages : (spaces : SpaceTable) (nsid : ℕ) (o : Option Flight) → option_map_or (goes_to nsid) o false ≡ true → pages_to spaces nsid o ≡ live_pages spaces o
-to-pages spaces nsid None goes = absurd cc
-to-pages spaces nsid (Some f) goes = ap (λ (b : Bool). if b then live_pages spaces (Some f) else []) goes
+to-pages : (outline : Summary) (nsid : ℕ) (o : Option Flight) → option_map_or (goes_to nsid) o false ≡ true → pages_to outline nsid o ≡ live_pages outline o
+to-pages outline nsid None goes = absurd cc
+to-pages outline nsid (Some f) goes = ap (λ (b : Bool). if b then live_pages outline (Some f) else []) goes
 
-to-none : (spaces : SpaceTable) (nsid : ℕ) (o : Option Flight) → option_map_or (goes_to nsid) o false ≡ false → pages_to spaces nsid o ≡ []
-to-none spaces nsid None other = refl
-to-none spaces nsid (Some f) other = ap (λ (b : Bool). if b then live_pages spaces (Some f) else []) other
+to-none : (outline : Summary) (nsid : ℕ) (o : Option Flight) → option_map_or (goes_to nsid) o false ≡ false → pages_to outline nsid o ≡ []
+to-none outline nsid None other = refl
+to-none outline nsid (Some f) other = ap (λ (b : Bool). if b then live_pages outline (Some f) else []) other
 
 none-owned : (o : OwnerTable) → AreOwned o []
 none-owned o = record { owned = λ spot has. absurd (omega (arith, has.1)); differ = λ i j spot a b. absurd (empty i spot a) }
@@ -118,33 +118,33 @@ by-test : (P : Type 0) (b : Bool) → (b ≡ true → P) → (b ≡ false → P)
 by-test P true first other = first refl
 by-test P false first other = other refl
 
-pub next-owned : (spaces : SpaceTable) (flights : List (Option Flight)) (nsid queue : ℕ) (t u : PageTables) → HasFlights spaces flights t → Releases spaces flights nsid queue t u → AreOwned u.owners (pages_to spaces nsid (flight_in flights queue))
-next-owned spaces flights nsid queue t u has h =
+pub next-owned : (outline : Summary) (flights : List (Option Flight)) (nsid queue : ℕ) (t u : PageTables) → HasFlights outline flights t → Releases outline flights nsid queue t u → AreOwned u.owners (pages_to outline nsid (flight_in flights queue))
+next-owned outline flights nsid queue t u has h =
     let at : Behind Page = renamed (only (is_apart flights nsid queue)) has.at in
     let owned : AreOwners (owner_at u.owners) at = h.owners has.at has.are in
-    by-test (AreOwned u.owners (pages_to spaces nsid (flight_in flights queue))) (is_to flights nsid queue)
-    (λ goes. subst (AreOwned u.owners) (sym (to-pages spaces nsid (flight_in flights queue) goes)) (owned-along at u.owners queue (live_pages spaces (flight_in flights queue)) owned (owners-apart (owner_at u.owners) at owned) (next-along spaces flights nsid queue has.at t has.are)))
-    (λ other. subst (AreOwned u.owners) (sym (to-none spaces nsid (flight_in flights queue) other)) (none-owned u.owners))
+    by-test (AreOwned u.owners (pages_to outline nsid (flight_in flights queue))) (is_to flights nsid queue)
+    (λ goes. subst (AreOwned u.owners) (sym (to-pages outline nsid (flight_in flights queue) goes)) (owned-along at u.owners queue (live_pages outline (flight_in flights queue)) owned (owners-apart (owner_at u.owners) at owned) (next-along outline flights nsid queue has.at t has.are)))
+    (λ other. subst (AreOwned u.owners) (sym (to-none outline nsid (flight_in flights queue) other)) (none-owned u.owners))
 
-pub releases-none : (spaces : SpaceTable) (flights : List (Option Flight)) (nsid : ℕ) (t : PageTables) → AreJoined t → Releases spaces flights nsid 0 t t
-releases-none spaces flights nsid t joined = record {
+pub releases-none : (outline : Summary) (flights : List (Option Flight)) (nsid : ℕ) (t : PageTables) → AreJoined t → Releases outline flights nsid 0 t t
+releases-none outline flights nsid t joined = record {
   owners = λ at are. subst (λ (x : Behind Page). AreOwners (owner_at t.owners) x) (λ e p. apart-none flights nsid at p e) are.owned;
   pages = lets-none t joined;
 }
 
-pub releases-next : (spaces : SpaceTable) (flights : List (Option Flight)) (nsid queue : ℕ) (t u v : PageTables) → owner_at v.owners ≡ without (owner_at u.owners) (pages_to spaces nsid (flight_in flights queue)) → ChangesOwners u v → Releases spaces flights nsid queue t u → Releases spaces flights nsid (queue + 1) t v
-releases-next spaces flights nsid queue t u v owners changes h = record {
+pub releases-next : (outline : Summary) (flights : List (Option Flight)) (nsid queue : ℕ) (t u v : PageTables) → owner_at v.owners ≡ without (owner_at u.owners) (pages_to outline nsid (flight_in flights queue)) → ChangesOwners u v → Releases outline flights nsid queue t u → Releases outline flights nsid (queue + 1) t v
+releases-next outline flights nsid queue t u v owners changes h = record {
   owners = λ at are.
       let first : Behind Page = renamed (only (is_apart flights nsid queue)) at in
       let owned : AreOwners (owner_at u.owners) first = h.owners at are in
       by-test (AreOwners (owner_at v.owners) (renamed (only (is_apart flights nsid (queue + 1))) at)) (is_to flights nsid queue)
       (λ goes.
-      let spots : List Spot = live_pages spaces (flight_in flights queue) in
+      let spots : List Spot = live_pages outline (flight_in flights queue) in
       subst (λ (x : Behind Page). AreOwners (owner_at v.owners) x) (λ e p. apart-more flights nsid queue at p goes e)
-      (owners-released (owner_at u.owners) (owner_at v.owners) first queue spots owned (its-along first queue spots (owners-apart (owner_at u.owners) first owned) (next-along spaces flights nsid queue at t are))
-      (owners ∙ ap (without (owner_at u.owners)) (to-pages spaces nsid (flight_in flights queue) goes))))
+      (owners-released (owner_at u.owners) (owner_at v.owners) first queue spots owned (its-along first queue spots (owners-apart (owner_at u.owners) first owned) (next-along outline flights nsid queue at t are))
+      (owners ∙ ap (without (owner_at u.owners)) (to-pages outline nsid (flight_in flights queue) goes))))
       (λ other.
       subst (λ (x : Behind Page). AreOwners (owner_at v.owners) x) (λ e p. apart-less flights nsid queue at p other e)
-      (subst (λ (o : Spot → Option Owner). AreOwners o first) (sym (owners ∙ ap (without (owner_at u.owners)) (to-none spaces nsid (flight_in flights queue) other))) owned));
-  pages = lets-on t u v h.pages (lets-released u v (pages_to spaces nsid (flight_in flights queue)) owners changes);
+      (subst (λ (o : Spot → Option Owner). AreOwners o first) (sym (owners ∙ ap (without (owner_at u.owners)) (to-none outline nsid (flight_in flights queue) other))) owned));
+  pages = lets-on t u v h.pages (lets-released u v (pages_to outline nsid (flight_in flights queue)) owners changes);
 }

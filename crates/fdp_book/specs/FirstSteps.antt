@@ -2,6 +2,7 @@
 use Rattle.std.specs.Prelude.{◌≡◌, ◌+◌, ◌<◌, ◌^◌, Bool, true, false, not, IsFalse, IsTrue, None, Some}
 use Rattle.fdp_base.specs.declared.command.Command.{Command}
 use Rattle.fdp_base.specs.declared.command.Command.TheVariants as commands
+use Rattle.fdp_base.specs.declared.command.GetLog.{GetLog}
 use Rattle.fdp_base.specs.declared.command.Read.{Read}
 use Rattle.fdp_base.specs.declared.command.Write.{Write}
 use Rattle.fdp_base.specs.CommandKinds.{is_saved, is_write}
@@ -41,30 +42,15 @@ is_answered (commands.SetEvents s) = false
 is_answered (commands.Create c) = false
 is_answered (commands.Other o) = false
 
--- a command that is neither a write nor a log
-abbrev pub is_another : Command → Bool
-is_another (commands.Write w) = false
-is_another (commands.Read r) = true
-is_another (commands.Zero z) = true
-is_another (commands.Dealloc d) = true
-is_another (commands.Flush f) = true
-is_another (commands.Delete d) = true
-is_another (commands.Status s) = true
-is_another (commands.Update u) = true
-is_another (commands.Log l) = false
-is_another (commands.SetFdp s) = true
-is_another (commands.GetFdp g) = true
-is_another (commands.SetEvents s) = true
-is_another (commands.Create c) = true
-is_another (commands.Other o) = true
-
-abbrev pub IsAnother : Command → Type 0
-IsAnother command = IsTrue (is_another command)
-
 -- a command that changes nothing so is accepted
 pub record IsAnswerable (b : BookSeen) (command : Command) : Type 0 where
   pub accepted : refusal_of b.config (point_in b) command ≡ None
   pub answered : IsTrue (is_answered command)
+
+-- a command is a log that is accepted
+pub record IsLogOf (b : BookSeen) (command : Command) (log : GetLog) : Type 0 where
+  pub command_is : command ≡ commands.Log log
+  pub accepted : refusal_of b.config (point_in b) command ≡ None
 
 -- a command other than a write is accepted, and its change is saved
 pub record IsSavable (b : BookSeen) (command : Command) : Type 0 where
@@ -72,11 +58,11 @@ pub record IsSavable (b : BookSeen) (command : Command) : Type 0 where
   pub saved : IsTrue (is_saved command)
   pub other : IsFalse (is_write command)
 
--- a command comes to this first: its refusal, or what it is that is accepted; of a log nothing is known yet
+-- a command comes to this first: its refusal, or what it is that is accepted
 abbrev pub ComesFirstTo : BookSeen → Command → FirstStep → Type 0
 ComesFirstTo b command (first.Refused status) = refusal_of b.config (point_in b) command ≡ Some status
 ComesFirstTo b command (first.Read read) = IsReadable b command read
 ComesFirstTo b command (first.Write admission) = IsAdmitted b command admission
 ComesFirstTo b command first.Answered = IsAnswerable b command
 ComesFirstTo b command first.Saved = IsSavable b command
-ComesFirstTo b command (first.Log log) = command ≡ commands.Log log
+ComesFirstTo b command (first.Log log) = IsLogOf b command log

@@ -11,31 +11,32 @@ use Rattle.fdp_owners.specs.OwnerTable.{owner_at}
 use Rattle.fdp_readings.specs.fdp_pages.Steps.{AreOwned, ChangesOwners, without}
 use Rattle.fdp_rules.specs.PlainState.{Namespace, PlainState}
 use Rattle.fdp_rules.specs.Sites.{is_there}
-use Rattle.fdp_spaces.specs.SpaceTable.{SpaceTable, namespace_at}
+use Rattle.fdp_outline.specs.Handles.{namespace_at}
+use Rattle.fdp_snapshot.specs.declared.state.Summary.{Summary}
 
--- the namespace of a flight is there, by a table of namespaces
-abbrev pub is_there_in : SpaceTable → Flight → Bool
-is_there_in spaces f = option_map_or (λ (x : Namespace). x.birth == f.birth) (namespace_at spaces f.extent.nsid) false
+-- the namespace of a flight is there, by an outline
+abbrev pub is_there_in : Summary → Flight → Bool
+is_there_in outline f = option_map_or (λ (x : Namespace). x.birth == f.birth) (namespace_at outline f.extent.nsid) false
 
 -- and by a state with the same namespaces
-abbrev pub IsThereIn : PlainState → SpaceTable → Flight → Bool → Type 0
-IsThereIn s spaces f there = ((nsid : ℕ) → s.namespaces nsid ≡ namespace_at spaces nsid) → there ≡ is_there s (going_of f)
+abbrev pub IsThereIn : PlainState → Summary → Flight → Bool → Type 0
+IsThereIn s outline f there = ((nsid : ℕ) → s.namespaces nsid ≡ namespace_at outline nsid) → there ≡ is_there s (going_of f)
 
 -- the pages of a write that may be going, while its namespace is there
-abbrev pub live_pages : SpaceTable → Option Flight → List Spot
-live_pages spaces None = []
-live_pages spaces (Some f) = if is_there_in spaces f then f.pages.items else []
+abbrev pub live_pages : Summary → Option Flight → List Spot
+live_pages outline None = []
+live_pages outline (Some f) = if is_there_in outline f then f.pages.items else []
 
 -- the pages of a queue's write have owners
 pub record MayForget (t : Tables) (queue : ℕ) : Type 0 where
   pub queue_is : queue < length t.flights.items
-  pub owned : AreOwned t.pages.owners (live_pages t.spaces (flight_in t.flights.items queue))
+  pub owned : AreOwned t.pages.owners (live_pages t.outline (flight_in t.flights.items queue))
 
 -- the write of a queue is gone, and its pages have no owner; all else stays
 pub record Forgets (old new : Tables) (queue : ℕ) (f : Option Flight) : Type 0 where
   pub flight_is : f ≡ flight_in old.flights.items queue
   pub flights_are : new.flights.items ≡ slice_set old.flights.items queue None
-  pub owners : owner_at new.pages.owners ≡ without (owner_at old.pages.owners) (live_pages old.spaces (flight_in old.flights.items queue))
+  pub owners : owner_at new.pages.owners ≡ without (owner_at old.pages.owners) (live_pages old.outline (flight_in old.flights.items queue))
   pub pages : ChangesOwners old.pages new.pages
   pub rest : new ≡ record old { flights = new.flights; pages = new.pages }
 

@@ -1,5 +1,5 @@
 -- How the tables of a book stand for its history: one record for each pair of a table and what it follows.
-use Rattle.std.specs.Prelude.{◌≡◌, ℕ, ◌+◌, ◌*◌, ◌^◌, ◌≤◌, ◌<◌, IsTrue, List, Option, Some, None, length, slice_get, option_and_then, option_map, if◌then◌else◌}
+use Rattle.std.specs.Prelude.{◌≡◌, ℕ, ◌+◌, ◌^◌, ◌≤◌, ◌<◌, IsTrue, List, Option, Some, None, length, slice_get, option_and_then, option_map, if◌then◌else◌}
 use Rattle.std.specs.Option.{option_flatten}
 use Rattle.fdp_base.specs.declared.config.DriveConfig.{DriveConfig}
 use Rattle.fdp_base.specs.declared.entry.Entry.{Entry}
@@ -7,11 +7,10 @@ use Rattle.fdp_base.specs.declared.entry.Spot.{Spot}
 use Rattle.fdp_base.specs.Config.{IsValidConfig}
 use Rattle.fdp_base.specs.Placement.{geometry_of}
 use Rattle.fdp_book.specs.declared.flight.Flight.{Flight}
-use Rattle.fdp_book.specs.declared.tables.Setting.{Setting}
-use Rattle.fdp_book.specs.declared.tables.Sums.{Sums}
 use Rattle.fdp_book.specs.declared.tables.Tables.{Tables}
 use Rattle.fdp_book.specs.Book.{BookSeen}
 use Rattle.fdp_book.specs.Logged.{Logged}
+use Rattle.fdp_book.specs.Outlined.{AreFew, IsOutlineAt}
 use Rattle.fdp_history.specs.Listed.{IsListed}
 use Rattle.fdp_history.specs.Orderly.{IsOrderly}
 use Rattle.fdp_history.specs.Standing.{IsStanding}
@@ -30,29 +29,7 @@ use Rattle.fdp_rules.specs.Point.{Point}
 use Rattle.fdp_rules.specs.Room.{size_of}
 use Rattle.fdp_rules.specs.Sites.{is_there}
 use Rattle.fdp_rules.specs.Step.{IsOnTarget}
-use Rattle.fdp_rules.specs.Totals.{erases, host_blocks, media_blocks}
-use Rattle.fdp_spaces.specs.SpaceTable.{SpaceTable, namespace_at}
 use Rattle.fdp_book.specs.declared.log.TheConstants.{MOST_STEP_ENTRIES}
-
--- the configuration in force
-pub record IsSettingOf (s : PlainState) (x : Setting) : Type 0 where
-  pub enabled : s.enabled ≡ x.enabled
-  pub index : s.index ≡ x.index
-  pub generation : s.generation ≡ x.generation
-
--- the sums with those that were found, and their bounds
-pub record AreSumsOf (found : Found) (es : List Entry) (x : Sums) : Type 0 where
-  pub host_blocks_are : found.totals.host_blocks + host_blocks es ≡ x.host_blocks
-  pub media_blocks_are : found.totals.media_blocks + media_blocks es ≡ x.media_blocks
-  pub erases_are : found.totals.erases + erases es ≡ x.erases
-  pub few_host_blocks : x.host_blocks ≤ 2 ^ 62 + 64 * length es
-  pub few_media_blocks : x.media_blocks ≤ 2 ^ 62 + length es
-  pub few_erases : x.erases ≤ 2 ^ 62 + length es
-
--- the namespaces
-pub record AreSpacesOf (c : DriveConfig) (s : PlainState) (x : SpaceTable) : Type 0 where
-  pub groups : c.groups ≡ x.groups
-  pub namespaces : (nsid : ℕ) → s.namespaces nsid ≡ namespace_at x nsid
 
 -- the map is of the flash of the configuration, has a place for each block of each namespace, and tells the group of each block; namespaces
 -- have at most 262,144 blocks
@@ -102,14 +79,13 @@ pub record ArePagesOf (c : DriveConfig) (p : Point) (written : Spot → Option W
   pub leads : LeadsTo (lead_in p.state map flights) at
 
 -- the tables stand for what stands at a point, after these entries, by which pages hold this
-pub record IsHeldAt (c : DriveConfig) (found : Found) (es : List Entry) (p : Point) (written : Spot → Option Written) (t : Tables) : Type 0 where
+pub record IsHeldAt (c : DriveConfig) (es : List Entry) (p : Point) (written : Spot → Option Written) (t : Tables) : Type 0 where
   pub config : IsValidConfig c
   pub orderly : IsOrderly c p
   pub standing : IsStanding c p
   pub listed : IsListed c p.state
-  pub setting_is : IsSettingOf p.state t.setting
-  pub sums_are : AreSumsOf found es t.sums
-  pub spaces_are : AreSpacesOf c p.state t.spaces
+  pub outline_is : IsOutlineAt c p t.outline
+  pub few : AreFew es t.outline.totals
   pub map_is : IsMapOf c p.state t.map
   pub flights_are : AreFlightsOf c p.state t.flights.items
   pub units_are : AreUnitsOf c p.state t.pages
@@ -117,7 +93,7 @@ pub record IsHeldAt (c : DriveConfig) (found : Found) (es : List Entry) (p : Poi
 
 -- the tables of a book stand for its history, which began with what was found
 abbrev pub IsHeld : DriveConfig → Found → (Spot → Option Written) → List Entry → Tables → Type 0
-IsHeld c found first es t = IsHeldAt c found es (point_of c found es) (written_by c found first es) t
+IsHeld c found first es t = IsHeldAt c es (point_of c found es) (written_by c found first es) t
 
 -- what is seen of a book, by its parts
 abbrev pub book_of : DriveConfig → Opening → Logged → Tables → BookSeen
@@ -144,4 +120,4 @@ pub record IsBook (c : DriveConfig) (opening : Opening) (log : Logged) (t : Tabl
   pub held : IsHeld c opening.found (pages_held c opening.cells) log.entries t
   pub before_is : log.before ≡ opening.found.totals.position
   pub names_are : log.names ≡ c.unit_pages
-  pub numbers : HasNumbers t.setting.generation log
+  pub numbers : HasNumbers t.outline.generation log

@@ -19,6 +19,8 @@ pub mod Places
 pub mod Steps
 pub mod Commanded
 pub mod Saving
+pub mod Changes
+pub mod Outlined
 pub mod Reopened
 pub mod Reading
 pub mod Answering

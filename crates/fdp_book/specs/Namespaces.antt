@@ -1,5 +1,5 @@
--- A namespace that is deleted, and one that is created, in the tables.
-use Rattle.std.specs.Prelude.{◌≡◌, ℕ, ◌<◌, ◌≤◌, ◌==◌, ◌&&◌, All, Bool, false, true, List, [], None, Option, Some, length, nat_lt, not, option_map, slice_get, if◌then◌else◌}
+-- A namespace that is deleted, and one that is created, in the tables beside the outline.
+use Rattle.std.specs.Prelude.{◌≡◌, ℕ, ◌≤◌, ◌==◌, ◌&&◌, Bool, false, true, List, [], None, Option, Some, nat_lt, not, option_map, slice_get, if◌then◌else◌}
 use Rattle.std.specs.Option.{option_map_or}
 use Rattle.fdp_base.specs.declared.command.Create.{Create}
 use Rattle.fdp_base.specs.declared.entry.Spot.{Spot}
@@ -16,30 +16,31 @@ use Rattle.fdp_owners.specs.OwnerTable.{owner_at}
 use Rattle.fdp_readings.specs.fdp_pages.PageTables.{PageTables}
 use Rattle.fdp_pointers.specs.Facts.{Page}
 use Rattle.fdp_pointers.specs.Pointers.{Behind, Pointer, Pointer.of_block, Pointer.of_flight, only, renamed}
-use Rattle.fdp_rules.specs.Effect.{chosen_handles, lowest_free}
-use Rattle.fdp_rules.specs.PlainState.{Namespace, PlainState}
-use Rattle.fdp_spaces.specs.SpaceTable.{SpaceTable, namespace_at}
+use Rattle.fdp_rules.specs.Effect.{lowest_free}
+use Rattle.fdp_rules.specs.PlainState.{PlainState}
+use Rattle.fdp_outline.specs.Handles.{namespace_at}
+use Rattle.fdp_snapshot.specs.declared.state.Summary.{Summary}
 
 -- ---- writes to a namespace
 
 -- the pointers of going writes lead where their flights say, and each page has the owner that points there
-pub record AreFlown (at : Behind Page) (spaces : SpaceTable) (flights : List (Option Flight)) (t : PageTables) : Type 0 where
+pub record AreFlown (at : Behind Page) (outline : Summary) (flights : List (Option Flight)) (t : PageTables) : Type 0 where
   pub owned : AreOwners (owner_at t.owners) at
-  pub flown : (queue index : ℕ) → option_map (λ (y : Page). y.spot) (at (of_flight queue index)) ≡ slice_get (live_pages spaces (flight_in flights queue)) index
+  pub flown : (queue index : ℕ) → option_map (λ (y : Page). y.spot) (at (of_flight queue index)) ≡ slice_get (live_pages outline (flight_in flights queue)) index
 
 -- in some way
-pub record HasFlights (spaces : SpaceTable) (flights : List (Option Flight)) (t : PageTables) : Type 0 where
+pub record HasFlights (outline : Summary) (flights : List (Option Flight)) (t : PageTables) : Type 0 where
   pub at : Behind Page
-  pub are : AreFlown at spaces flights t
+  pub are : AreFlown at outline flights t
 
 -- a write goes to a namespace
 abbrev pub goes_to : ℕ → Flight → Bool
 goes_to nsid f = f.extent.nsid == nsid
 
 -- the pages of a write that may be going to a namespace, while that is there
-abbrev pub pages_to : SpaceTable → ℕ → Option Flight → List Spot
-pages_to spaces nsid None = []
-pages_to spaces nsid (Some f) = if goes_to nsid f then live_pages spaces (Some f) else []
+abbrev pub pages_to : Summary → ℕ → Option Flight → List Spot
+pages_to outline nsid None = []
+pages_to outline nsid (Some f) = if goes_to nsid f then live_pages outline (Some f) else []
 
 -- the write in a queue goes to a namespace
 abbrev pub is_to : List (Option Flight) → ℕ → ℕ → Bool
@@ -51,8 +52,8 @@ is_apart flights nsid queues (of_block n lba) = true
 is_apart flights nsid queues (of_flight q i) = not (nat_lt q queues && is_to flights nsid q)
 
 -- the pages of the writes to a namespace in so many queues have no owner any more; all else of the pages stays
-pub record Releases (spaces : SpaceTable) (flights : List (Option Flight)) (nsid queues : ℕ) (t now : PageTables) : Type 0 where
-  pub owners : (at : Behind Page) → AreFlown at spaces flights t → AreOwners (owner_at now.owners) (renamed (only (is_apart flights nsid queues)) at)
+pub record Releases (outline : Summary) (flights : List (Option Flight)) (nsid queues : ℕ) (t now : PageTables) : Type 0 where
+  pub owners : (at : Behind Page) → AreFlown at outline flights t → AreOwners (owner_at now.owners) (renamed (only (is_apart flights nsid queues)) at)
   pub pages : LetsGo t now
 
 -- ---- a namespace that is deleted
@@ -66,48 +67,33 @@ is_away flights nsid (of_flight q i) = not (is_to flights nsid q)
 pub record ArePointed (t : Tables) : Type 0 where
   pub at : Behind Page
   pub mapped : AreMapped at t.map t.pages
-  pub flown : AreFlown at t.spaces t.flights.items t.pages
+  pub flown : AreFlown at t.outline t.flights.items t.pages
 
--- A namespace is gone, with its blocks, and the pages of these and of the writes to it have no owner any more. All else stays
+-- The blocks of a namespace are gone, with its places, and the pages of these and of the writes to it have no owner any more. All else stays
 pub record Deletes (old new : Tables) (nsid : ℕ) : Type 0 where
-  pub namespaces : namespace_at new.spaces ≡ with_at (namespace_at old.spaces) nsid None
-  pub groups : new.spaces.groups ≡ old.spaces.groups
   pub blocks : mapped_at new.map ≡ with_at (mapped_at old.map) nsid (λ lba. None)
   pub sizes : size_in new.map ≡ with_at (size_in old.map) nsid 0
   pub geometry : new.map.geometry ≡ old.map.geometry
-  pub owners : (at : Behind Page) → AreMapped at old.map old.pages → AreFlown at old.spaces old.flights.items old.pages → AreOwners (owner_at new.pages.owners) (renamed (only (is_away old.flights.items nsid)) at)
+  pub owners : (at : Behind Page) → AreMapped at old.map old.pages → AreFlown at old.outline old.flights.items old.pages → AreOwners (owner_at new.pages.owners) (renamed (only (is_away old.flights.items nsid)) at)
   pub pages : LetsGo old.pages new.pages
-  pub rest : new ≡ record old { spaces = new.spaces; map = new.map; pages = new.pages }
+  pub rest : new ≡ record old { map = new.map; pages = new.pages }
 
 -- ---- a namespace that is created
 
--- a created namespace, with this birth; an empty list counts as none
-abbrev pub born : Create → ℕ → Namespace
-born create birth = record {
-  size = create.size;
-  handles = chosen_handles create.list;
-  given = create.given && nat_lt 0 (length create.list);
-  birth = birth;
-}
-
--- an identifier is free, under which the map has no place; the namespace is not too large, and its list of handles fits
+-- an identifier is free, under which the map has no place; the namespace is not too large
 pub record CanCreate (t : Tables) (create : Create) : Type 0 where
   pub state : PlainState
-  pub agrees : (nsid : ℕ) → state.namespaces nsid ≡ namespace_at t.spaces nsid
+  pub agrees : (nsid : ℕ) → state.namespaces nsid ≡ namespace_at t.outline nsid
   pub nsid : ℕ
   pub free : lowest_free state ≡ Some nsid
   pub absent : size_in t.map nsid ≡ 0
   pub size : create.size ≤ 262144
-  pub few : length create.list ≤ 16
-  pub known : All (λ ruh. ruh < 16) create.list
 
--- A namespace is there under the lowest free identifier, without blocks. All else stays
-pub record Creates (old new : Tables) (create : Create) (birth : ℕ) : Type 0 where
+-- A namespace has its places in the map under the lowest free identifier, without blocks. All else stays
+pub record Creates (old new : Tables) (create : Create) : Type 0 where
   pub nsid : ℕ
-  pub free : (s : PlainState) → ((n : ℕ) → s.namespaces n ≡ namespace_at old.spaces n) → lowest_free s ≡ Some nsid
-  pub namespaces : namespace_at new.spaces ≡ with_at (namespace_at old.spaces) nsid (Some (born create birth))
-  pub groups : new.spaces.groups ≡ old.spaces.groups
+  pub free : (s : PlainState) → ((n : ℕ) → s.namespaces n ≡ namespace_at old.outline n) → lowest_free s ≡ Some nsid
   pub blocks : mapped_at new.map ≡ mapped_at old.map
   pub sizes : size_in new.map ≡ with_at (size_in old.map) nsid create.size
   pub geometry : new.map.geometry ≡ old.map.geometry
-  pub rest : new ≡ record old { spaces = new.spaces; map = new.map }
+  pub rest : new ≡ record old { map = new.map }

@@ -1,10 +1,15 @@
 -- What the steps of relocation make of a book.
-use Rattle.std.specs.Prelude.{◌≡◌, ℕ, ◌+◌, Bool, false, List, [], ◌∷◌, ◌++◌, length, slice_set}
+use Rattle.std.specs.Prelude.{◌≡◌, ℕ, ◌+◌, Bool, false, IsTrue, List, [], ◌∷◌, ◌++◌, None, Option, Some, length, slice_set}
 use Rattle.fdp_base.specs.declared.entry.Entry.{Entry}
 use Rattle.fdp_base.specs.declared.entry.Entry.TheVariants as entries
-use Rattle.fdp_book.specs.declared.tables.Sums.{Sums}
 use Rattle.fdp_book.specs.Book.{BookSeen, IsLonger, point_in}
+use Rattle.fdp_book.specs.Changes.{IsChangeOfEntry}
 use Rattle.fdp_book.specs.Logged.{Logged}
+use Rattle.fdp_book.specs.Outlined.{Counts}
+use Rattle.fdp_outline.specs.declared.moved_block.MovedBlock.{MovedBlock}
+use Rattle.fdp_records.specs.declared.change.Change.{Change}
+use Rattle.fdp_records.specs.Limits.{is_within_limits}
+use Rattle.fdp_snapshot.specs.declared.state.Summary.{Summary}
 use Rattle.fdp_readings.specs.fdp_collector.declared.step.Lost.TheVariants as lost
 use Rattle.fdp_readings.specs.fdp_collector.declared.step.Step.{Step}
 use Rattle.fdp_readings.specs.fdp_collector.declared.step.Step.TheVariants as steps
@@ -15,7 +20,7 @@ use Rattle.fdp_readings.specs.fdp_pages.PageTables.{copies_at, passes_at, reloca
 use Rattle.fdp_readings.specs.fdp_pages.Steps.{HasSize, Recounts, ended_move}
 use Rattle.fdp_rules.specs.Sites.{moved_blocks}
 use Rattle.fdp_rules.specs.Step.{Follows}
-use Rattle.fdp_rules.specs.Totals.{erases, media_blocks}
+use Rattle.fdp_rules.specs.Totals.{erases_of, media_blocks_of}
 use Rattle.fdp_readings.specs.fdp_trails.Moves.{owners_moved}
 
 -- the entry that tells of a step of relocation in a group, if one does
@@ -30,14 +35,17 @@ told_by rg (steps.Fault lost.None) = []
 told_by rg (steps.Fault (lost.Aside unit)) = entries.Aside (record { unit = unit }) ∷ []
 told_by rg (steps.Fault (lost.Retired unit)) = entries.Retired (record { unit = unit }) ∷ []
 
--- The log and the sums with the entry that tells of a step of relocation in a group, if one does.
-pub record Tells (rg : ℕ) (step : Step) (log now : Logged) (sums new : Sums) : Type 0 where
+-- an outline counts what these entries tell, one at most
+abbrev pub CountsTold : List Entry → Summary → Summary → Type 0
+CountsTold [] old new = new ≡ old
+CountsTold (e ∷ es) old new = Counts (media_blocks_of e) (erases_of e) old new
+
+-- The log and the outline with the entry that tells of a step of relocation in a group, if one does.
+pub record Tells (rg : ℕ) (step : Step) (log now : Logged) (outline new : Summary) : Type 0 where
   pub entries_are : now.entries ≡ log.entries ++ told_by rg step
   pub room_is : now.room + length (told_by rg step) ≡ log.room
   pub log_is : now ≡ record log { entries = now.entries; room = now.room }
-  pub host_blocks_are : new.host_blocks ≡ sums.host_blocks
-  pub media_blocks_are : new.media_blocks ≡ sums.media_blocks + media_blocks (told_by rg step)
-  pub erases_are : new.erases ≡ sums.erases + erases (told_by rg step)
+  pub counts : CountsTold (told_by rg step) outline new
 
 -- each of these entries may follow what stands; they are one at most
 abbrev pub MayFollow : BookSeen → List Entry → Type 0
@@ -52,6 +60,12 @@ pub record Relocates (old new : BookSeen) (before after : FlashState) (rg : ℕ)
   pub longer : IsLonger old new (told_by rg step)
   pub move_is : new.may_move ≡ old.may_move
   pub follows : MayFollow old (told_by rg step)
+
+-- the change by which the move of a group is saved, with the blocks that it takes along; none where it takes none
+abbrev pub IsMoveChange : BookSeen → ℕ → Option Change → List MovedBlock → Type 0
+IsMoveChange b rg None moved = moved_blocks (point_in b) rg ≡ []
+IsMoveChange b rg (Some change) moved =
+    IsChangeOfEntry b.config (point_in b) (entries.Moved (record { rg = rg; blocks = moved_blocks (point_in b) rg })) change moved × IsTrue (is_within_limits change)
 
 -- The pass of a group is moved: each copy whose old page is live gets its owner, and the entry lists the blocks among them. The pass goes
 -- on without copies. The step under way may not move another.

@@ -14,6 +14,7 @@ use std::marker::Model;
 
 mod answering;
 mod apply;
+mod changes;
 mod clearing;
 mod commit;
 mod complete;
@@ -138,15 +139,8 @@ impl Book {
         ensures totals { result ≡ totals_of self.now.found self.now.entries }
         ensures small { AreSmall result }
     {
-        let _ = self.log.entries(); // proof: there are few entries
-        let _ = self.log.spent(); // proof
-        let sums = self.tables.sums;
-        Totals {
-            position: self.log.position(),
-            host_blocks: sums.host_blocks,
-            media_blocks: sums.media_blocks,
-            erases: sums.erases,
-        }
+        self.counted(); // proof
+        self.tables.outline.summary().totals
     }
 
     /// What is kept of the pages of data.

@@ -14,6 +14,6 @@ pub enum FirstStep {
     Answered,
     /// A command that is not refused and whose change is saved, and is no write.
     Saved,
-    /// A log is asked for. Whether it is refused, those decide who know the events.
+    /// A log that is not refused.
     Log(GetLog),
 }

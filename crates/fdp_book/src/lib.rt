@@ -3,6 +3,7 @@
 #![tactic(auto)]
 
 mod book;
+mod changes;
 mod extent;
 mod first_step;
 mod flight;
@@ -16,6 +17,7 @@ mod write_names;
 mod write_place;
 
 pub use book::{Book, Page};
+pub use changes::lists::{CommandLists, lists_of};
 pub use fdp_found::{
     Lost, OpenFault, Opened, Pages, PagesFault, Step, find_pages, open_state,
     toil_is_what_can_be_won,
@@ -24,6 +26,6 @@ pub use first_step::FirstStep;
 pub use next_page::NextPage;
 pub use room::{Replies, Room};
 pub use stage::Stage;
+pub use tables::totals_behind;
 pub use ticket::{Done, Ticket};
-pub use write_names::WriteNames;
 pub use write_place::WritePlace;

@@ -48,7 +48,7 @@ module _ {F : Type 0} (state : F → FlashState) (x y : F) (handed : Counts) (b 
     pub written-whole : IsWhole handed (state y) (begun b) l block
     written-whole = record {
       sound = sound-begun handed (state y) b block (sound-prefix handed (state x) (state y) b keeps.saves.calls.calls block order.known written whole.sound);
-      kept = kept-written handed (state x) (state y) b (begun b) k l wrote.Done order.known.config refl whole.kept (low-faults handed b (state x) whole.sound.ledger) refl refl keeps.saves (record { geometry = keeps.keeper.geometry; outline = keeps.keeper.outline }) safe-there;
+      kept = kept-written handed (state x) (state y) b (begun b) k l wrote.Done order.known.config refl whole.kept (low-faults handed b (state x) whole.sound.ledger) refl refl keeps.saves (record { geometry = keeps.keeper.geometry }) safe-there;
     }
 
     pub written-stops : OutlastsStops state before (record { book = begun b; keeper = l; handed = handed; flash = y })

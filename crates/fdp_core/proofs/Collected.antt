@@ -9,7 +9,7 @@ use Rattle.fdp_relocation.specs.fdp_book.Book.{BookSeen, point_in}
 use Rattle.fdp_relocation.specs.fdp_book.Relocating.{told_by}
 use Rattle.fdp_relocation.specs.fdp_collector.declared.step.Step.{Step}
 use Rattle.fdp_core.specs.Sound.{IsKept}
-use Rattle.fdp_core.proofs.Kept.{kept-entry, kept-made, kept-over, kept-relocated, kept-settled, kept-unsettled}
+use Rattle.fdp_core.proofs.Kept.{kept-on, kept-over, kept-saved, kept-settled, kept-unsettled}
 use Rattle.fdp_relocation.specs.fdp_durability.Saved.{firm_renewed, firm_with}
 use Rattle.fdp_flash.specs.declared.answer.Wrote.TheVariants as wrote
 use Rattle.fdp_flash.specs.FlashState.{FlashState}
@@ -62,7 +62,7 @@ module _ {F : Type 0} (state : F → FlashState) (old new : Stage F) (rg : ℕ) 
     pub steps-kept : IsKept handed (state new.flash) new.book new.keeper
     steps-kept =
         subst (IsKept handed (state new.flash) new.book) (sym h.keeper)
-        (kept-relocated handed (state old.flash) (state new.flash) old.book new.book rg step old.keeper order was h.made.longer h.made.follows h.run.faults safe-there)
+        (kept-on handed (state old.flash) (state new.flash) old.book new.book (told_by rg step) old.keeper was h.made.longer h.run.faults safe-there)
 
     pub steps-survive : Survives new.book old.keeper.firm (length old.book.entries) (state old.flash) (state new.flash)
     steps-survive =
@@ -90,10 +90,10 @@ module _ {F : Type 0} (state : F → FlashState) (old new : Stage F) (rg : ℕ) 
       | inl none ↦
           subst (IsKept handed (state new.flash) new.book) (sym none.2)
           (let there = rested none.3 in
-          kept-entry handed (state new.flash) (state new.flash) old.book new.book moved old.keeper order there h.moved.longer (ap (λ (xs : List BlockName). length xs == 0) none.0) (λ pages. h.moved.follows true) (omega arith)
+          kept-on handed (state new.flash) (state new.flash) old.book new.book (moved ∷ []) old.keeper there h.moved.longer (omega arith)
           (safe-unmoved old.book new.book rg old.keeper.saver old.keeper.firm (state new.flash) order h.moved none.0 there.safe))
       | inr some ↦
-          kept-made handed (state old.flash) (state new.flash) old.book new.book moved old.keeper new.keeper answer order.known.config (some-moved (moved_blocks (point_in old.book) rg) some.0) was low_faults h.moved.longer some.1
+          kept-saved handed (state old.flash) (state new.flash) old.book new.book moved old.keeper new.keeper answer order.known.config (some-moved (moved_blocks (point_in old.book) rg) some.0) was low_faults h.moved.longer some.1
           (subst (λ (firm : ℕ). IsSafe new.book new.keeper.saver firm (state new.flash)) (sym some.1.firm_is)
           (safe-saved old.book new.book moved old.keeper.saver new.keeper.saver old.keeper.firm (state old.flash) (state new.flash) answer order geometry stored isolated was.safe some.1.saves then_order h.moved.longer (move-go old.book new.book rg h.moved) then_stored then_isolated (λ ne. refl)))
     ]

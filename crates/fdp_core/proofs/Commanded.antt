@@ -160,7 +160,7 @@ module _ {F : Type 0} (state : F → FlashState) (x y : F) (handed : Counts) (b 
   pub effect-whole : IsWhole handed (state y) d l block × OutlastsStops state (record { book = b; keeper = k; handed = handed; flash = x }) (record { book = d; keeper = l; handed = handed; flash = y })
   effect-whole =
       made-whole state x y handed b d k l block queue number command success done savings.Done order then_order whole keeps ends
-      (pages-left b.config command b.pages d.pages applies).go effect-sound refl (λ moment e. cc) (λ other. absurd (other refl))
+      (pages-left b.config command b.pages d.pages applies).go effect-sound refl (λ other. absurd (other refl))
 
   pub effect-completes : 0 < b.spare → steps.Completes state (record { book = b; keeper = k; handed = handed; flash = x }) (record { book = d; keeper = l; handed = handed; flash = y }) [] queue number command keeps.saves.calls.calls done
   effect-completes spare =
@@ -185,7 +185,7 @@ module _ {F : Type 0} (state : F → FlashState) (x y : F) (handed : Counts) (b 
   pub unsure-whole : IsWhole handed (state y) d l block × OutlastsStops state (record { book = b; keeper = k; handed = handed; flash = x }) (record { book = d; keeper = l; handed = handed; flash = y })
   unsure-whole =
       made-whole state x y handed b d k l block queue number command (bare statuses.WRITE_FAULT true) done (savings.Doubtful moment) order then_order whole keeps ends
-      (pages-left b.config command b.pages d.pages applies).go unsure-sound refl (λ other e. cc) (λ other. uncompleted command (bare statuses.WRITE_FAULT true) refl)
+      (pages-left b.config command b.pages d.pages applies).go unsure-sound refl (λ other. uncompleted command (bare statuses.WRITE_FAULT true) refl)
 
   pub unsure-completes : 0 < b.spare → steps.Completes state (record { book = b; keeper = k; handed = handed; flash = x }) (record { book = d; keeper = l; handed = handed; flash = y }) [] queue number command keeps.saves.calls.calls done
   unsure-completes spare =

@@ -1,24 +1,18 @@
 -- What saves a drive stands for its history behind each step.
-use Rattle.std.proofs.Common.{◌≡◌, ◌≢◌, ℕ, ◌+◌, ◌^◌, ◌≤◌, Bool, true, false, cond, IsTrue, List, [], ◌∷◌, ◌++◌, length, refl, sym, ◌∙◌, ap, subst, arith, append_assoc, length-append}
-use Rattle.std.specs.Prelude.{IsFalse, count_by}
-use Rattle.std.proofs.lemmas.List.{append-nil}
+use Rattle.std.proofs.Common.{◌≡◌, ℕ, ◌+◌, ◌^◌, ◌≤◌, Bool, true, false, cond, IsTrue, List, [], ◌∷◌, length, refl, sym, ◌∙◌, ap, subst, arith, length-append}
+use Rattle.std.specs.Prelude.{count_by}
 use Rattle.fdp_base.specs.declared.config.DriveConfig.{DriveConfig}
 use Rattle.fdp_base.specs.declared.entry.Entry.{Entry}
 use Rattle.fdp_base.specs.declared.entry.Entry.TheVariants as entries
 use Rattle.fdp_base.specs.declared.entry.Spot.{Spot}
-use Rattle.fdp_base.specs.declared.entry.Totals.{Totals}
 use Rattle.fdp_base.specs.declared.status.Status.{Status}
 use Rattle.fdp_base.specs.Config.{IsValidConfig}
 use Rattle.fdp_base.specs.Counts.{Rose}
 use Rattle.fdp_base.specs.Placement.{geometry_of}
 use Rattle.fdp_relocation.specs.fdp_book.declared.ticket.Done.{Done}
 use Rattle.fdp_relocation.specs.fdp_book.declared.ticket.Ticket.{Ticket}
-use Rattle.fdp_relocation.specs.fdp_book.Book.{BookSeen, IsLonger, point_in}
-use Rattle.fdp_relocation.specs.fdp_book.Relocating.{MayFollow, told_by}
+use Rattle.fdp_relocation.specs.fdp_book.Book.{BookSeen, IsLonger}
 use Rattle.fdp_relocation.specs.fdp_book.Shutting.{ShutsAndEnds}
-use Rattle.fdp_relocation.specs.fdp_collector.declared.step.Lost.TheVariants as lost
-use Rattle.fdp_relocation.specs.fdp_collector.declared.step.Step.{Step}
-use Rattle.fdp_relocation.specs.fdp_collector.declared.step.Step.TheVariants as steps
 use Rattle.fdp_core.specs.Sound.{IsKept}
 use Rattle.fdp_core.proofs.Sound.{begun}
 use Rattle.fdp_relocation.specs.fdp_durability.Saved.{SavesDrive, SavesEntries, SettlesDrive}
@@ -26,27 +20,13 @@ use Rattle.fdp_flash.specs.declared.answer.Wrote.{Wrote}
 use Rattle.fdp_flash.specs.declared.answer.Wrote.TheVariants as wrote
 use Rattle.fdp_flash.specs.declared.cell.Cell.{Cell}
 use Rattle.fdp_flash.specs.FlashState.{FlashState}
-use Rattle.fdp_history.specs.Orderly.{IsOrderly}
-use Rattle.fdp_history.specs.Standing.{IsStanding}
-use Rattle.fdp_history.proofs.Points.{orderly-next}
-use Rattle.fdp_history.proofs.Standing.{standing-next}
-use Rattle.fdp_image.specs.Reading.{Reading}
 use Rattle.fdp_relocation.specs.fdp_journal.JournalState.{JournalState}
-use Rattle.fdp_relocation.specs.fdp_keeper.Keeper.{IsKeeperOf, KeepsEntry, KeepsMade, KeeperSeen}
+use Rattle.fdp_relocation.specs.fdp_keeper.Keeper.{IsKeeperOf, KeepsEntry, KeeperSeen}
 use Rattle.fdp_loading.specs.fdp_ledger.declared.counts.Counts.{Counts}
-use Rattle.fdp_relocation.specs.fdp_outline.Outline.{IsOutlineOf}
 use Rattle.fdp_relocation.specs.fdp_pages.PageTables.{PageTables}
-use Rattle.fdp_pointers.specs.Contents.{leaves_pages}
-use Rattle.fdp_relocation.specs.fdp_readings.Drawn.{drawn}
-use Rattle.fdp_relocation.specs.fdp_readings.Lasting.{leaves_nothing}
-use Rattle.fdp_relocation.proofs.fdp_readings.Staying.{drawn-still}
 use Rattle.fdp_rules.specs.Answer.{bare}
-use Rattle.fdp_rules.specs.History.{Found, point_of, totals_of}
-use Rattle.fdp_rules.specs.Next.{next}
+use Rattle.fdp_rules.specs.History.{Found}
 use Rattle.fdp_rules.specs.PlainState.{Going}
-use Rattle.fdp_rules.specs.Point.{Point}
-use Rattle.fdp_rules.specs.Step.{Follows}
-use Rattle.fdp_rules.proofs.Pushes.{point_of-push}
 use Rattle.fdp_relocation.specs.fdp_saving.declared.saved.Saved.{Saved}
 use Rattle.fdp_relocation.specs.fdp_saving.declared.saved.Saved.TheVariants as answers
 use Rattle.fdp_relocation.specs.fdp_saving.Saver.{after_checkpoint, after_saving, needs_checkpoint, renewed}
@@ -56,69 +36,17 @@ use Rattle.fdp_snapshot.specs.declared.state.Summary.{Summary}
 use Rattle.fdp_loading.specs.JournalRoom.{HasSixteen, is_lasting, savings_left}
 use Rattle.fdp_loading.proofs.JournalRoom.{saved-left, settled-left, written-left}
 use Rattle.fdp_loading.proofs.fdp_ledger.Entries.{count-push}
-use Rattle.fdp_loading.specs.fdp_survival.Books.{IsInOrder, IsSafe}
+use Rattle.fdp_loading.specs.fdp_survival.Books.{IsSafe}
 use Rattle.fdp_loading.specs.fdp_survival.Safe.{IsSafeApart}
 
 no : true ≡ false → ⊥
 no e = cc
 
--- ---- the outline
-
--- an outline says nothing of the totals
-outline-totals : (c : DriveConfig) (r : Reading) (s : Summary) (totals : Totals) → IsOutlineOf c r s → IsOutlineOf c (record r { totals = totals }) s
-outline-totals c r s totals h = record { sizes = h.sizes; says = ap (λ (x : Reading). record x { totals = totals }) h.says; rows = h.rows }
-
--- that of the history of a book with some entries more is that of the book that has them
-outline-of : (b d : BookSeen) (es : List Entry) (s : Summary) → IsLonger b d es → IsOutlineOf b.config (drawn b.config (point_of b.config b.found (b.entries ++ es))) s → IsOutlineOf d.config (drawn d.config (point_in d)) s
-outline-of b d es s longer h =
-    subst (λ (c : DriveConfig). IsOutlineOf c (drawn c (point_of c d.found d.entries)) s) (sym longer.config_is)
-    (subst (λ (f : Found). IsOutlineOf b.config (drawn b.config (point_of b.config f d.entries)) s) (sym longer.found_is)
-    (subst (λ (xs : List Entry). IsOutlineOf b.config (drawn b.config (point_of b.config b.found xs)) s) (sym longer.entries_are) h))
-
--- an entry that leaves nothing changes the totals alone
-outline-still : (c : DriveConfig) (f : Found) (es : List Entry) (e : Entry) (s : Summary) → IsTrue (leaves_nothing e) → IsOrderly c (point_of c f es) → IsStanding c (point_of c f es) → (IsFalse (leaves_pages e) → Follows true c (point_of c f es) e)
-    → IsOutlineOf c (drawn c (point_of c f es)) s → IsOutlineOf c (drawn c (point_of c f (es ++ e ∷ []))) s
-outline-still c f es e s nothing orderly standing follows h =
-    subst (λ (r : Reading). IsOutlineOf c r s) (sym (drawn-still true c f es e nothing orderly standing follows)) (outline-totals c (drawn c (point_of c f es)) s (totals_of f (es ++ e ∷ [])) h)
-
 -- ---- the keeper
 
-keeper-of : (b d : BookSeen) (es : List Entry) (k l : KeeperSeen) → IsLonger b d es → IsKeeperOf b k → l.saver.geometry ≡ k.saver.geometry → IsOutlineOf b.config (drawn b.config (point_of b.config b.found (b.entries ++ es))) l.summary → IsKeeperOf d l
-keeper-of b d es k l longer kept geometry outline = record {
-  geometry = geometry ∙ kept.geometry ∙ ap geometry_of (sym longer.config_is);
-  outline = outline-of b d es l.summary longer outline;
-}
-
--- behind an entry that leaves nothing it is the same
-pub keeper-entry : (b d : BookSeen) (e : Entry) (k : KeeperSeen) → IsInOrder b → IsLonger b d (e ∷ []) → IsTrue (leaves_nothing e) → (IsFalse (leaves_pages e) → Follows true b.config (point_in b) e) → IsKeeperOf b k → IsKeeperOf d k
-keeper-entry b d e k order longer nothing follows kept =
-    keeper-of b d (e ∷ []) k k longer kept refl (outline-still b.config b.found b.entries e k.summary nothing order.known.orderly order.standing follows kept.outline)
-
--- so it is behind a step of relocation
-pub keeper-told : (b d : BookSeen) (rg : ℕ) (step : Step) (k : KeeperSeen) → IsInOrder b → IsLonger b d (told_by rg step) → MayFollow b (told_by rg step) → IsKeeperOf b k → IsKeeperOf d k
-keeper-told b d rg step k order longer may kept = by-step step longer may where
-  none : IsLonger b d [] → IsKeeperOf d k
-  none longer =
-      keeper-of b d [] k k longer kept refl
-      (subst (λ (xs : List Entry). IsOutlineOf b.config (drawn b.config (point_of b.config b.found xs)) k.summary) (sym (append-nil b.entries)) kept.outline)
-
-  one : (e : Entry) → IsTrue (leaves_nothing e) → IsLonger b d (e ∷ []) → ((told : Bool) → Follows told b.config (point_in b) e) → IsKeeperOf d k
-  one e nothing longer follows = keeper-entry b d e k order longer nothing (λ pages. follows true) kept
-
-  by-step : (step : Step) → IsLonger b d (told_by rg step) → MayFollow b (told_by rg step) → IsKeeperOf d k
-  by-step steps.Nothing longer may = none longer
-  by-step (steps.Copied copy) longer may = one _ refl longer may
-  by-step steps.ReadyToMove longer may = none longer
-  by-step (steps.Erased unit) longer may = one _ refl longer may
-  by-step steps.EraseDue longer may = none longer
-  by-step steps.Starved longer may = one _ refl longer may
-  by-step (steps.Fault lost.None) longer may = none longer
-  by-step (steps.Fault (lost.Aside unit)) longer may = one _ refl longer may
-  by-step (steps.Fault (lost.Retired unit)) longer may = one _ refl longer may
-
--- the outline with an entry that was saved, as the history has it
-with-entry : (b : BookSeen) (e : Entry) (s : Summary) → IsOutlineOf b.config (drawn b.config (next b.config (point_in b) e)) s → IsOutlineOf b.config (drawn b.config (point_of b.config b.found (b.entries ++ e ∷ []))) s
-with-entry b e s h = subst (λ (p : Point). IsOutlineOf b.config (drawn b.config p) s) (sym (point_of-push b.config b.found b.entries e)) h
+-- of a book of the same configuration, with a saver that is cut as before
+keeper-of : (b d : BookSeen) (k l : KeeperSeen) → d.config ≡ b.config → IsKeeperOf b k → l.saver.geometry ≡ k.saver.geometry → IsKeeperOf d l
+keeper-of b d k l config kept geometry = record { geometry = geometry ∙ kept.geometry ∙ ap geometry_of (sym config) }
 
 -- ---- faults and epochs
 
@@ -168,11 +96,11 @@ same-left b d s config = ap (λ (c : DriveConfig). savings_left c s) config
 -- ---- what is kept
 
 -- the keeper stays, while the history goes on
-pub kept-on : (handed : Counts) (f n : FlashState) (b d : BookSeen) (es : List Entry) (k : KeeperSeen) → IsKept handed f b k → IsLonger b d es → f.faults ≤ n.faults → IsKeeperOf d k → IsSafe d k.saver k.firm n → IsKept handed n d k
-kept-on handed f n b d es k was longer later keeper safe =
+pub kept-on : (handed : Counts) (f n : FlashState) (b d : BookSeen) (es : List Entry) (k : KeeperSeen) → IsKept handed f b k → IsLonger b d es → f.faults ≤ n.faults → IsSafe d k.saver k.firm n → IsKept handed n d k
+kept-on handed f n b d es k was longer later safe =
     let size : length d.entries ≡ length b.entries + length es = ap length longer.entries_are ∙ length-append b.entries es in
     record {
-      keeper = keeper;
+      keeper = keeper-of b d k k longer.config_is was.keeper refl;
       safe = safe;
       epochs = omega (arith, was.epochs, size, longer.spent_is);
       doubt = λ doubt. later-rose handed.faults f.faults n.faults later (was.doubt doubt);
@@ -192,13 +120,7 @@ kept-over handed f n b k was later safe = record {
 -- a book with other counts of steps
 pub kept-alike : (handed : Counts) (f : FlashState) (b d : BookSeen) (k : KeeperSeen) → d.config ≡ b.config → d.found ≡ b.found → d.opened ≡ b.opened → d.entries ≡ b.entries → d.pages ≡ b.pages → k.saver.stamp.epoch ≤ 2 ^ 62 + length d.entries + d.spent → IsKept handed f b k → IsKept handed f d k
 kept-alike handed f b d k config found opened entries_are pages epochs was = record {
-  keeper = record {
-    geometry = was.keeper.geometry ∙ ap geometry_of (sym config);
-    outline =
-        subst (λ (c : DriveConfig). IsOutlineOf c (drawn c (point_of c d.found d.entries)) k.summary) (sym config)
-        (subst (λ (x : Found). IsOutlineOf b.config (drawn b.config (point_of b.config x d.entries)) k.summary) (sym found)
-        (subst (λ (xs : List Entry). IsOutlineOf b.config (drawn b.config (point_of b.config b.found xs)) k.summary) (sym entries_are) was.keeper.outline));
-  };
+  keeper = keeper-of b d k k config was.keeper refl;
   safe =
       subst (λ (t : PageTables). IsSafeApart d.config d.found d.opened d.entries t.units k.saver k.firm f) (sym pages)
       (subst (λ (c : DriveConfig). IsSafeApart c d.found d.opened d.entries b.pages.units k.saver k.firm f) (sym config)
@@ -213,22 +135,12 @@ kept-alike handed f b d k config found opened entries_are pages epochs was = rec
 -- a step that has begun has changed nothing yet
 pub kept-begun : (handed : Counts) (f : FlashState) (b : BookSeen) (k : KeeperSeen) → IsKept handed f b k → IsKept handed f (begun b) k
 kept-begun handed f b k was = record {
-  keeper = record { geometry = was.keeper.geometry; outline = was.keeper.outline };
+  keeper = record { geometry = was.keeper.geometry };
   safe = was.safe;
   epochs = omega (arith, was.epochs);
   doubt = was.doubt;
   sixteen = was.sixteen;
 }
-
--- behind an entry that leaves nothing
-pub kept-entry : (handed : Counts) (f n : FlashState) (b d : BookSeen) (e : Entry) (k : KeeperSeen) → IsInOrder b → IsKept handed f b k → IsLonger b d (e ∷ []) → IsTrue (leaves_nothing e) → (IsFalse (leaves_pages e) → Follows true b.config (point_in b) e)
-    → f.faults ≤ n.faults → IsSafe d k.saver k.firm n → IsKept handed n d k
-kept-entry handed f n b d e k order was longer nothing follows later safe = kept-on handed f n b d (e ∷ []) k was longer later (keeper-entry b d e k order longer nothing follows was.keeper) safe
-
--- behind a step of relocation that called no system unit
-pub kept-relocated : (handed : Counts) (f n : FlashState) (b d : BookSeen) (rg : ℕ) (step : Step) (k : KeeperSeen) → IsInOrder b → IsKept handed f b k → IsLonger b d (told_by rg step) → MayFollow b (told_by rg step) → f.faults ≤ n.faults → IsSafe d k.saver k.firm n
-    → IsKept handed n d k
-kept-relocated handed f n b d rg step k order was longer may later safe = kept-on handed f n b d (told_by rg step) k was longer later (keeper-told b d rg step k order longer may was.keeper) safe
 
 -- ---- savings
 
@@ -249,24 +161,16 @@ saved-kept handed f n b d es e k l answer valid was low longer lasting some save
           omega (arith, left, lasting, more-lasting b d es longer, same-left b d l.saver longer.config_is);
     }
 
-pub kept-made : (handed : Counts) (f n : FlashState) (b d : BookSeen) (e : Entry) (k l : KeeperSeen) (answer : Saved) → IsValidConfig b.config → IsTrue (is_lasting e) → IsKept handed f b k → handed.faults ≤ f.faults → IsLonger b d (e ∷ []) → KeepsMade b e k l f n answer → IsSafe d l.saver l.firm n → IsKept handed n d l
-kept-made handed f n b d e k l answer valid lasting was low longer keeps safe =
-    saved-kept handed f n b d (e ∷ []) e k l answer valid was low longer (one-lasting e lasting) (omega arith) keeps.saves (keeper-of b d (e ∷ []) k l longer was.keeper keeps.geometry (with-entry b e l.summary keeps.outline)) safe
-
-pub kept-saved : (handed : Counts) (f n : FlashState) (b d : BookSeen) (e : Entry) (k l : KeeperSeen) (answer : Saved) → IsValidConfig b.config → IsTrue (is_lasting e) → ((moment : ℕ) → answer ≢ answers.Unsaved moment) → IsKept handed f b k → handed.faults ≤ f.faults → IsLonger b d (e ∷ []) → KeepsEntry b e k l f n answer
-    → IsSafe d l.saver l.firm n → IsKept handed n d l
-kept-saved handed f n b d e k l answers.Done valid lasting made was low longer keeps safe =
-    saved-kept handed f n b d (e ∷ []) e k l answers.Done valid was low longer (one-lasting e lasting) (omega arith) keeps.saves (keeper-of b d (e ∷ []) k l longer was.keeper keeps.geometry (with-entry b e l.summary keeps.outline)) safe
-kept-saved handed f n b d e k l (answers.Doubtful moment) valid lasting made was low longer keeps safe =
-    saved-kept handed f n b d (e ∷ []) e k l (answers.Doubtful moment) valid was low longer (one-lasting e lasting) (omega arith) keeps.saves (keeper-of b d (e ∷ []) k l longer was.keeper keeps.geometry (with-entry b e l.summary keeps.outline)) safe
-kept-saved handed f n b d e k l (answers.Unsaved moment) valid lasting made was low longer keeps safe = absurd (made moment refl)
+pub kept-saved : (handed : Counts) (f n : FlashState) (b d : BookSeen) (e : Entry) (k l : KeeperSeen) (answer : Saved) → IsValidConfig b.config → IsTrue (is_lasting e) → IsKept handed f b k → handed.faults ≤ f.faults → IsLonger b d (e ∷ []) → KeepsEntry b e k l f n answer → IsSafe d l.saver l.firm n → IsKept handed n d l
+kept-saved handed f n b d e k l answer valid lasting was low longer keeps safe =
+    saved-kept handed f n b d (e ∷ []) e k l answer valid was low longer (one-lasting e lasting) (omega arith) keeps.saves (keeper-of b d k l longer.config_is was.keeper keeps.geometry) safe
 
 -- behind an entry that was not saved, and is not made
 pub kept-not-saved : (handed : Counts) (f n : FlashState) (b : BookSeen) (e : Entry) (k l : KeeperSeen) (moment : ℕ) → IsKept handed f b k → handed.faults ≤ f.faults → KeepsEntry b e k l f n (answers.Unsaved moment) → IsSafe b l.saver l.firm n → IsKept handed n b l
 kept-not-saved handed f n b e k l moment was low keeps safe =
     let epoch : l.saver.stamp.epoch ≡ k.saver.stamp.epoch = ap (λ (s : JournalState). s.stamp.epoch) keeps.saves.saver_is in
     record {
-      keeper = record { geometry = keeps.geometry ∙ was.keeper.geometry; outline = keeps.outline };
+      keeper = record { geometry = keeps.geometry ∙ was.keeper.geometry };
       safe = safe;
       epochs = omega (arith, was.epochs, epoch);
       doubt = λ doubt. rose-on handed.faults f.faults n.faults low keeps.saves.ends.faulted.rose;
@@ -274,20 +178,13 @@ kept-not-saved handed f n b e k l moment was low keeps safe =
     }
 
 -- behind a handle that was shut, and the end of its write
-pub kept-shut : (handed : Counts) (f n : FlashState) (b d : BookSeen) (ticket : Ticket) (g : Going) (spot : Spot) (status : Status) (moment : ℕ) (done : Done) (k l : KeeperSeen) (answer : Saved) → IsInOrder b → IsKept handed f b k → handed.faults ≤ f.faults
-    → ShutsAndEnds b d ticket g spot status moment done → KeepsMade b (entries.Shut (record { rg = g.rg; ruh = g.ruh })) k l f n answer → IsSafe d l.saver l.firm n → IsKept handed n d l
-kept-shut handed f n b d ticket g spot status moment done k l answer order was low shuts keeps safe =
+pub kept-shut : (handed : Counts) (f n : FlashState) (b d : BookSeen) (ticket : Ticket) (g : Going) (spot : Spot) (status : Status) (moment : ℕ) (done : Done) (k l : KeeperSeen) (answer : Saved) → IsValidConfig b.config → IsKept handed f b k → handed.faults ≤ f.faults
+    → ShutsAndEnds b d ticket g spot status moment done → KeepsEntry b (entries.Shut (record { rg = g.rg; ruh = g.ruh })) k l f n answer → IsSafe d l.saver l.firm n → IsKept handed n d l
+kept-shut handed f n b d ticket g spot status moment done k l answer valid was low shuts keeps safe =
     let shut : Entry = entries.Shut (record { rg = g.rg; ruh = g.ruh }) in
     let ended : Entry = entries.Host (record { queue = ticket.queue; number = g.number; command = g.command; reply = bare status false; moment = moment }) in
-    let c = b.config in
-    let pushed = point_of-push c b.found b.entries shut in
-    let orderly : IsOrderly c (point_of c b.found (b.entries ++ shut ∷ [])) = subst (IsOrderly c) (sym pushed) (orderly-next true c (point_in b) shut order.known.config order.known.orderly (shuts.follows true)) in
-    let standing : IsStanding c (point_of c b.found (b.entries ++ shut ∷ [])) = subst (IsStanding c) (sym pushed) (standing-next true c (point_in b) shut order.known.orderly order.standing (shuts.follows true)) in
-    let one = with-entry b shut l.summary keeps.outline in
-    let two = outline-still c b.found (b.entries ++ shut ∷ []) ended l.summary refl orderly standing (λ wrong. absurd cc) one in
-    let both : IsOutlineOf c (drawn c (point_of c b.found (b.entries ++ shut ∷ ended ∷ []))) l.summary =
-    subst (λ (xs : List Entry). IsOutlineOf c (drawn c (point_of c b.found xs)) l.summary) (append_assoc b.entries (shut ∷ []) (ended ∷ [])) two in
-    saved-kept handed f n b d (shut ∷ ended ∷ []) shut k l answer order.known.config was low shuts.completes.step (omega arith) (omega arith) keeps.saves (keeper-of b d (shut ∷ ended ∷ []) k l shuts.completes.step was.keeper keeps.geometry both) safe
+    saved-kept handed f n b d (shut ∷ ended ∷ []) shut k l answer valid was low shuts.completes.step (omega arith) (omega arith) keeps.saves
+    (keeper-of b d k l shuts.completes.step.config_is was.keeper keeps.geometry) safe
 
 -- behind a checkpoint, for which a step is spent
 pub kept-written : (handed : Counts) (f n : FlashState) (b d : BookSeen) (k l : KeeperSeen) (answer : Wrote) → IsValidConfig b.config → d.config ≡ b.config → IsKept handed f b k → handed.faults ≤ f.faults → d.entries ≡ b.entries → d.spent ≡ b.spent + 1 → SavesDrive b.config b.found b.entries k.saver l.saver f n answer → IsKeeperOf d l

@@ -35,7 +35,7 @@ pub mod Silence
 pub mod Sound
 pub mod Storing
 pub mod Unfailing
-pub mod Views
+pub mod Logs
 pub mod Wholes
 pub mod Roomy
 pub mod RoomySteps

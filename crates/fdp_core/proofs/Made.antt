@@ -104,10 +104,10 @@ module _ {F : Type 0} (state : F → FlashState) (x y : F) (handed : Counts) (b 
         subst (λ (firm : ℕ). IsSafe d l.saver firm (state y)) (sym keeps.firm_is)
         (safe-saved (begun b) d change k.saver l.saver k.firm (state x) (state y) answer (order-begun b order) whole.sound.geometry whole.sound.stored apart-before whole.kept.safe keeps.saves then_order ends.step go so.stored apart-then none)
 
-    made-kept : reply.applied ≡ true → ((moment : ℕ) → answer ≢ savings.Unsaved moment) → IsSafe d l.saver l.firm (state y) → IsKept handed (state y) d l
-    made-kept applied made safe =
-        kept-saved handed (state x) (state y) (begun b) d change k l answer order.known.config (ap (λ (x : Bool). not (not x)) applied) made (kept-begun handed (state x) b k whole.kept) (low-faults handed b (state x) whole.sound.ledger) ends.step
-        (record { saves = keeps.saves; outline = keeps.outline; geometry = keeps.geometry; firm_is = keeps.firm_is }) safe
+    made-kept : reply.applied ≡ true → IsSafe d l.saver l.firm (state y) → IsKept handed (state y) d l
+    made-kept applied safe =
+        kept-saved handed (state x) (state y) (begun b) d change k l answer order.known.config (ap (λ (x : Bool). not (not x)) applied) (kept-begun handed (state x) b k whole.kept) (low-faults handed b (state x) whole.sound.ledger) ends.step
+        (record { saves = keeps.saves; geometry = keeps.geometry; firm_is = keeps.firm_is }) safe
 
     firm-up : (z : Saved) → k.firm ≤ firm_with b.entries (change ∷ []) k.firm z
     firm-up savings.Done = let size = length-append b.entries (change ∷ []) in omega (arith, whole.kept.safe.at.within, size)
@@ -125,8 +125,8 @@ module _ {F : Type 0} (state : F → FlashState) (x y : F) (handed : Counts) (b 
         (leaves-data b d (state x) (state y) ends.step.config_is ends.step.found_is ends.step.opened_is
         (data-prefix b (state x) (state y) keeps.saves.calls.calls (saving-prefix b change k.saver l.saver k.firm (state x) (state y) answer whole.kept.safe keeps.saves)) apart-then)
 
-    pub made-whole : reply.applied ≡ true → ((moment : ℕ) → answer ≢ savings.Unsaved moment) → (answer ≢ savings.Done → IsFalse (durable.completes change)) → IsWhole handed (state y) d l block × OutlastsStops state before after
-    made-whole applied made none = let safe = made-safe none in (record { sound = so; kept = made-kept applied made safe }, made-stops safe)
+    pub made-whole : reply.applied ≡ true → (answer ≢ savings.Done → IsFalse (durable.completes change)) → IsWhole handed (state y) d l block × OutlastsStops state before after
+    made-whole applied none = let safe = made-safe none in (record { sound = so; kept = made-kept applied safe }, made-stops safe)
 
   -- what it comes to
   pub made-completes : 0 < b.spare → list_any has_failed keeps.saves.calls.calls ≡ is_media_error reply.status → (IsTrue (is_media_error reply.status) → FailedAt (state x) (state y) (state y).moment) → steps.Completes state before after [] queue number command keeps.saves.calls.calls done

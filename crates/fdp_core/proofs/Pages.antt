@@ -26,7 +26,7 @@ use Rattle.fdp_loading.specs.fdp_survival.Safe.{IsSafeImage}
 use Rattle.fdp_relocation.specs.fdp_book.Tickets.{IsNextSpot, IsTicketOf}
 use Rattle.fdp_core.proofs.Passing.{IsPrefix, matches-joined, prefix-as, prefix-matches, saving-prefix}
 use Rattle.fdp_calls.specs.Media.{IsProgrammedTo}
-use Rattle.fdp_relocation.specs.fdp_keeper.Keeper.{KeeperSeen, KeepsMade}
+use Rattle.fdp_relocation.specs.fdp_keeper.Keeper.{KeeperSeen, KeepsEntry}
 use Rattle.fdp_loading.specs.fdp_ledger.Emptied.{OnlyErasesEmpty}
 use Rattle.fdp_core.specs.Stops.{IsSafeNow, KeepsPart, OutlastsStops}
 use Rattle.fdp_flash.specs.Cells.{ProgramMayLeave}
@@ -50,7 +50,7 @@ use Rattle.fdp_loading.proofs.fdp_ledger.Blank.{erased-none}
 use Rattle.fdp_relocation.specs.fdp_durability.Saved.{firm_with}
 use Rattle.fdp_base.specs.Placement.{geometry_of}
 use Rattle.fdp_core.proofs.Grown.{completes, host}
-use Rattle.fdp_core.proofs.Kept.{kept-begun, kept-entry, kept-over, kept-shut}
+use Rattle.fdp_core.proofs.Kept.{kept-begun, kept-on, kept-over, kept-shut}
 use Rattle.fdp_core.proofs.Outlasting.{outlasts-stops}
 use Rattle.fdp_flash.specs.Layout.{page_number}
 use Rattle.fdp_flash.proofs.Runs.{runs_joined}
@@ -88,7 +88,7 @@ module _ {F : Type 0} (state : F → FlashState) (x y : F) (handed : Counts) (b 
       (safe-page b ticket g spot spare bytes k.saver k.firm (state x) (state y) whole.sound.geometry whole.sound.stored goes order is named whole.sound.apart whole.kept.safe programmed)
 
   pub page-kept : IsKept handed (state y) d k
-  page-kept = kept-entry handed (state x) (state y) (begun b) d _ k (order-begun b order) (kept-begun handed (state x) b k whole.kept) placed.step refl (λ pages. (spot-begun b ticket g spot goes).follows true) programmed.kept.faults page-safe
+  page-kept = kept-on handed (state x) (state y) (begun b) d _ k (kept-begun handed (state x) b k whole.kept) placed.step programmed.kept.faults page-safe
 
   pub page-stops : IsSafeNow (state y) d k → OutlastsStops state (record { book = b; keeper = k; handed = handed; flash = x }) (record { book = d; keeper = k; handed = handed; flash = y })
   page-stops now =
@@ -114,7 +114,7 @@ failed-on f m n moment calls failed made = record {
 
 module _ {F : Type 0} (state : F → FlashState) (x m y : F) (handed : Counts) (b d : BookSeen) (k l : KeeperSeen) (block now : List ℕ) (ticket : Ticket) (g : Going) (spot : Spot) (spare bytes : List ℕ) (moment : ℕ) (done : Done) (answer : Saved)
     (order : IsInOrder b) (then_known : IsKnown d) (whole : IsWhole handed (state x) b k block) (goes : IsNextSpot b ticket g spot) (failed : FailsToProgram (state x) (state m) spot spare bytes)
-    (run : Runs (state x) (state m) (λ at image. ProgramMayLeave (state x).geometry (state x).cells spot spare bytes image)) (keeps : KeepsMade b (entries.Shut (record { rg = g.rg; ruh = g.ruh })) k l (state m) (state y) answer)
+    (run : Runs (state x) (state m) (λ at image. ProgramMayLeave (state x).geometry (state x).cells spot spare bytes image)) (keeps : KeepsEntry b (entries.Shut (record { rg = g.rg; ruh = g.ruh })) k l (state m) (state y) answer)
     (shuts : ShutsAndEnds (begun b) d ticket g spot statuses.WRITE_FAULT moment done) (is : IsTicketOf (state_in b) ticket g) (named : IsNextSpare b g spare) where
   abbrev shut : Entry
   shut = entries.Shut (record { rg = g.rg; ruh = g.ruh })
@@ -152,10 +152,10 @@ module _ {F : Type 0} (state : F → FlashState) (x m y : F) (handed : Counts) (
 
   shut-kept : IsKept handed (state y) d l
   shut-kept =
-      kept-shut handed (state m) (state y) (begun b) d ticket g spot statuses.WRITE_FAULT moment done k l answer (order-begun b order)
+      kept-shut handed (state m) (state y) (begun b) d ticket g spot statuses.WRITE_FAULT moment done k l answer order.known.config
       (kept-begun handed (state m) b k (kept-over handed (state x) (state m) b k whole.kept failed.made.run.faults unplaced))
       (let low = low-faults handed b (state x) whole.sound.ledger in let up = failed.made.run.faults in omega (arith, low, up)) shuts
-      (record { saves = keeps.saves; outline = keeps.outline; geometry = keeps.geometry; firm_is = keeps.firm_is }) shut-safe
+      (record { saves = keeps.saves; geometry = keeps.geometry; firm_is = keeps.firm_is }) shut-safe
 
   pub shut-whole : IsSound handed (state m) d now → IsWhole handed (state y) d l now
   shut-whole so = record { sound = shut-sound so; kept = shut-kept }

@@ -69,10 +69,10 @@ module _ {F : Type 0} (state : F → FlashState) (x y : F) (handed : Counts) (b 
       (known-begun b order.known) then_order.known.led is may legal fault ends owners
 
   pub written-whole : ((IsTrue (is_media_error status) → HasMoments (state y)) → IsEnd (state y).told b.config (point_in b) g (bare status true) (state y).moment) → (IsTrue (is_media_error status) → counted_more handed.faults (count_by is_media_reply b.entries + 1) ≤ (state y).faults) →
-      ((moment : ℕ) → answer ≢ savings.Unsaved moment) → (answer ≢ savings.Done → IsFalse (durable.completes (host ticket.queue g.number g.command (bare status true) (state y).moment))) →
+      (answer ≢ savings.Done → IsFalse (durable.completes (host ticket.queue g.number g.command (bare status true) (state y).moment))) →
       IsWhole handed (state y) d l block × OutlastsStops state (record { book = b; keeper = k; handed = handed; flash = x }) (record { book = d; keeper = l; handed = handed; flash = y })
-  written-whole legal fault made none =
-      made-whole state x y handed b d k l block ticket.queue g.number g.command (bare status true) done answer order then_order whole keeps ends (owners-go (begun b) d owners) (made-sound legal fault) refl made none
+  written-whole legal fault none =
+      made-whole state x y handed b d k l block ticket.queue g.number g.command (bare status true) done answer order then_order whole keeps ends (owners-go (begun b) d owners) (made-sound legal fault) refl none
 
   -- what it comes to
   pub ends-saved : (reply_is : bare status true ≡ done.reply) → 0 < b.spare → list_any has_failed keeps.saves.calls.calls ≡ is_media_error status → (IsTrue (is_media_error status) → FailedAt (state x) (state y) (state y).moment) →
@@ -93,7 +93,7 @@ module _ {F : Type 0} (state : F → FlashState) (x y : F) (handed : Counts) (b 
   pub saved-whole : IsWhole handed (state y) d l block × OutlastsStops state (record { book = b; keeper = k; handed = handed; flash = x }) (record { book = d; keeper = l; handed = handed; flash = y })
   saved-whole =
       written-whole state x y handed b d k l block ticket g statuses.SUCCESS done savings.Done order then_order whole is may keeps ends owners
-      (λ _. may-succeed (state y) b ticket g order.known.orderly is may) (λ wrong. absurd (false≢true wrong)) (λ moment e. cc) (λ other. absurd (other refl))
+      (λ _. may-succeed (state y) b ticket g order.known.orderly is may) (λ wrong. absurd (false≢true wrong)) (λ other. absurd (other refl))
 
   pub saved-ends : 0 < b.spare → EndsSaved state (record { book = b; keeper = k; handed = handed; flash = x }) (record { book = d; keeper = l; handed = handed; flash = y }) ticket g savings.Done (bare statuses.SUCCESS true) done
   saved-ends spare =
@@ -111,7 +111,7 @@ module _ {F : Type 0} (state : F → FlashState) (x y : F) (handed : Counts) (b 
   pub doubtful-whole : IsWhole handed (state y) d l block × OutlastsStops state (record { book = b; keeper = k; handed = handed; flash = x }) (record { book = d; keeper = l; handed = handed; flash = y })
   doubtful-whole =
       written-whole state x y handed b d k l block ticket g statuses.WRITE_FAULT done (savings.Doubtful moment) order then_order whole is may keeps ends owners
-      (λ moments. inr (inr (inr (inl (may, doubtful-fault.new (moments refl), inr refl))))) (λ _. doubtful-fault.fault) (λ other e. cc) (λ other. uncompleted g.command (bare statuses.WRITE_FAULT true) refl)
+      (λ moments. inr (inr (inr (inl (may, doubtful-fault.new (moments refl), inr refl))))) (λ _. doubtful-fault.fault) (λ other. uncompleted g.command (bare statuses.WRITE_FAULT true) refl)
 
   pub doubtful-ends : 0 < b.spare → EndsSaved state (record { book = b; keeper = k; handed = handed; flash = x }) (record { book = d; keeper = l; handed = handed; flash = y }) ticket g (savings.Doubtful moment) (bare statuses.WRITE_FAULT true) done
   doubtful-ends spare =

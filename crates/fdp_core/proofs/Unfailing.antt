@@ -1,6 +1,6 @@
 -- A run in which no call failed: nothing is lost, and with one group no command ends with Capacity Exceeded.
 use Rattle.std.proofs.Common.{◌≡◌, ◌⊎◌, ℕ, ◌+◌, ◌≤◌, Bool, true, false, ◌||◌, List, [], ◌∷◌, ◌++◌, refl, sym, ◌∙◌, ap, subst, arith, suc}
-use Rattle.std.specs.Prelude.{IsTrue, cond, if◌then◌else◌}
+use Rattle.std.specs.Prelude.{if◌then◌else◌}
 use Rattle.std.specs.List.{count_by, list_any}
 use Rattle.std.proofs.lemmas.List.Sums.{sum_by-cons}
 use Rattle.fdp_base.specs.declared.config.DriveConfig.{DriveConfig}

@@ -1,5 +1,5 @@
 -- A group behind an entry that saves nothing: what saves the drive stands for its history, and no stop in the step loses what was firm.
-use Rattle.std.proofs.Common.{◌≡◌, ℕ, ◌≤◌, false, not, List, [], ◌∷◌, length, refl, ap, arith}
+use Rattle.std.proofs.Common.{◌≡◌, ℕ, ◌≤◌, false, List, [], ◌∷◌, length, arith}
 use Rattle.std.specs.Prelude.{IsFalse}
 use Rattle.std.specs.List.{count_by}
 use Rattle.std.proofs.lemmas.List.Elements.{All-cons, All-nil}
@@ -16,7 +16,7 @@ use Rattle.fdp_core.specs.Sound.{IsKept, IsWhole}
 use Rattle.fdp_core.specs.Stops.{IsSafeNow, KeepsPart, LeavesIsolated, LeavesRoomy, Outlasts, OutlastsStops}
 use Rattle.fdp_core.proofs.Apart.{known-begun}
 use Rattle.fdp_core.proofs.Grown.{host}
-use Rattle.fdp_core.proofs.Kept.{kept-begun, kept-entry}
+use Rattle.fdp_core.proofs.Kept.{kept-begun, kept-on}
 use Rattle.fdp_core.proofs.Outlasting.{outlasts-part, outlasts-stops}
 use Rattle.fdp_core.proofs.Rooms.{begun_seen}
 use Rattle.fdp_core.proofs.Sound.{begun, sound-begun}
@@ -78,7 +78,7 @@ module _ (handed : Counts) (f n : FlashState) (b d : BookSeen) (queue number : �
   answered-safe = safe-answered b d queue number command reply moment done k.saver k.firm n order ends unapplied none owners (safe-fetched b k.saver k.firm f n read was.safe)
 
   pub answered-kept : IsKept handed n d k
-  answered-kept = kept-entry handed f n b d (host queue number command reply moment) k order was ends.step (ap not unapplied) (λ wrong. absurd cc) read.kept.faults answered-safe
+  answered-kept = kept-on handed f n b d (host queue number command reply moment ∷ []) k was ends.step read.kept.faults answered-safe
 
 -- ---- a write that is started
 
@@ -87,7 +87,7 @@ module _ (handed : Counts) (f : FlashState) (b d : BookSeen) (queue number : ℕ
   started-safe = safe-started b d queue number command ticket k.saver k.firm f order starts owners was.safe
 
   pub started-kept : IsKept handed f d k
-  started-kept = kept-entry handed f f b d _ k order was starts.step refl (λ wrong. absurd cc) (omega arith) started-safe
+  started-kept = kept-on handed f f b d _ k was starts.step (omega arith) started-safe
 
 -- ---- what was counted
 

@@ -1,4 +1,4 @@
--- What a book and an outline give a checkpoint.
+-- What a book gives a checkpoint.
 use Rattle.std.proofs.Common.{◌≡◌, ℕ, suc, ◌+◌, ◌-◌, ◌*◌, ◌^◌, ◌<◌, ◌≤◌, List, length, Option, Some, None, sym, arith, subst}
 use Rattle.std.specs.Prelude.{IfSome, sum_by}
 use Rattle.std.proofs.Math.Nat.{mul-le-mul_left}
@@ -8,6 +8,7 @@ use Rattle.fdp_durability.specs.fdp_checkpoint.Writing.{with_pages}
 use Rattle.fdp_base.specs.Config.{IsValidConfig}
 use Rattle.fdp_base.specs.Geometry.{area_pages}
 use Rattle.fdp_base.specs.Placement.{budget_of, full_budget, geometry_of, most_blocks}
+use Rattle.fdp_book.specs.Outlined.{IsOutlineAt}
 use Rattle.fdp_history.specs.Listed.{IsListed}
 use Rattle.fdp_history.specs.Orderly.{IsOrderly}
 use Rattle.fdp_history.proofs.Bounds.{handles-in_force}
@@ -78,12 +79,12 @@ pub record IsGiven (c : DriveConfig) (p : Point) (s : Summary) (lists : List (Li
   pub drive : reading_of_state (with_pages s lists) ≡ drawn c p
   pub saved : IsSavedBy c (with_pages s lists)
 
-pub given : (c : DriveConfig) (p : Point) (s : Summary) (lists : List (List (Option ℕ))) → IsValidConfig c → IsOrderly c p → IsListed c p.state → IsOutlineOf c (drawn c p) s → s.totals ≡ p.totals → IsWritable s → ArePagesOf (drawn c p) lists → IsGiven c p s lists
-given c p s lists valid orderly listed h totals w pages = record {
-  state = outline-state c (drawn c p) s lists h w pages;
-  room = room-left c p s valid orderly listed h w;
-  drive = says-reading c (drawn c p) s lists h totals pages.pages;
-  saved = outline-saved c (drawn c p) s lists h w totals orderly.state.index (namespaces-drawn c p orderly listed) listed.room;
+pub given : (c : DriveConfig) (p : Point) (s : Summary) (lists : List (List (Option ℕ))) → IsValidConfig c → IsOrderly c p → IsListed c p.state → IsOutlineAt c p s → IsWritable s → ArePagesOf (drawn c p) lists → IsGiven c p s lists
+given c p s lists valid orderly listed h w pages = record {
+  state = outline-state c (drawn c p) s lists h.outline w pages;
+  room = room-left c p s valid orderly listed h.outline w;
+  drive = says-reading c (drawn c p) s lists h.outline h.totals pages.pages;
+  saved = outline-saved c (drawn c p) s lists h.outline w h.totals orderly.state.index (namespaces-drawn c p orderly listed) listed.room;
 }
 
 pub room-for-record : (c : DriveConfig) (g : Geometry) (s : Summary) → g ≡ geometry_of c → pages_for c.block s + 17 ≤ area_pages (geometry_of c) → suc (pages_for g.block s) < area_pages g

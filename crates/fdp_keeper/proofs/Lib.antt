@@ -11,15 +11,9 @@ pub use Rattle.fdp_durability.proofs.fdp_saving as fdp_saving
 pub use Rattle.fdp_book.proofs.fdp_trails as fdp_trails
 pub mod Given
 pub mod Parts
-pub mod Writing
 pub mod PageSets
 pub mod Copies
 pub mod Runs
 pub mod Numbers
 pub mod Moved
 pub mod Naming
-pub mod Marking
-pub mod KindBits
-pub mod Accepted
-pub mod Behind
-pub mod Begun

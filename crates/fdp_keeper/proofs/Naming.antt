@@ -7,13 +7,13 @@ use Rattle.std.proofs.Math.Nat.{mul-le-mul_right}
 use Rattle.std.proofs.lemmas.List.Elements.{All-cons, All-contains, All-filter, All-head, All-map, All-nil, All-tail, All-weaker, filter-append}
 use Rattle.std.proofs.lemmas.Option.{slice_get-get_or}
 use Rattle.fdp_base.specs.declared.config.DriveConfig.{DriveConfig}
-use Rattle.fdp_base.specs.declared.entry.BlockName.{BlockName}
 use Rattle.fdp_base.specs.declared.entry.Copied.{Copied}
 use Rattle.fdp_base.specs.declared.entry.Entry.{Entry}
 use Rattle.fdp_base.specs.declared.entry.Entry.TheVariants as entries
 use Rattle.fdp_base.specs.declared.entry.Spot.{Spot}
-use Rattle.fdp_base.specs.declared.entry.Totals.{Totals}
 use Rattle.fdp_base.specs.Config.{IsValidConfig}
+use Rattle.fdp_book.specs.Changes.{IsChangeOfEntry, blocks_of_change}
+use Rattle.fdp_book.proofs.Making.Entries.{totals-entry}
 use Rattle.fdp_history.specs.Orderly.{IsOrderly}
 use Rattle.fdp_history.specs.Standing.{IsStanding}
 use Rattle.fdp_image.specs.Bits.{pages_of_set}
@@ -41,7 +41,6 @@ use Rattle.fdp_records.specs.declared.change.Change.{Change}
 use Rattle.fdp_records.specs.declared.change.UnitPages.{UnitPages}
 use Rattle.fdp_records.specs.Records.{target_or_none}
 use Rattle.fdp_rules.specs.Events.{is_of_handle}
-use Rattle.fdp_rules.specs.Next.{totals_with}
 use Rattle.fdp_rules.specs.Point.{Point}
 use Rattle.fdp_rules.specs.Sites.{moved_blocks}
 use Rattle.fdp_rules.specs.Step.{IsDataUnit, IsPage}
@@ -138,13 +137,13 @@ module _ (c : DriveConfig) (p : Point) (written : Spot → Option Written) (at :
     placed = copies-placed c p written at t pass.copies standing led;
   }
 
-  pub move-saved : IsMoveOf kept ruhs change → Saves c p change (entries.Moved (record { rg = rg; blocks = moved_blocks p rg }))
+  move-saved : IsMoveOf kept ruhs change → Saves c p change (entries.Moved (record { rg = rg; blocks = moved_blocks p rg }))
   move-saved move =
       subst (λ (x : Change). Saves c p x (entries.Moved (record { rg = rg; blocks = moved_blocks p rg }))) (sym move.change_is)
       (drawn-moved c p rg kept (λ (x : Copied). known_handle (owner_at t.owners) x.from) move.victim move.first move.second ruhs orderly standing moves (named move))
 
   -- the blocks that are listed beside the change are those that it takes along
-  pub moved-listed : (bs : List MovedBlock) → IsMoveOf kept ruhs change → bs ≡ map (moved_of (owner_at t.owners)) kept → ListsMoved c (drawn c p) change bs
+  moved-listed : (bs : List MovedBlock) → IsMoveOf kept ruhs change → bs ≡ map (moved_of (owner_at t.owners)) kept → ListsMoved c (drawn c p) change bs
   moved-listed bs move are =
       subst (λ (x : Change). ListsMoved c (drawn c p) x bs) (sym move.change_is)
       (λ ruh.
@@ -207,7 +206,7 @@ module _ (c : DriveConfig) (copies : List Copied) (between : All (IsBetweenPages
   second-pages None target low = tt
   second-pages (Some pages) target low = target-pages pages target low
 
-pub move-named-fits : (c : DriveConfig) (p : Point) (t : PageTables) (rg : ℕ) (pass : Pass) (ruhs : List ℕ) (change : Change) (e : Entry) → IsOrderly c p → cut_of t.units ≡ record { unit_pages = c.unit_pages; group_units = c.units; groups = c.groups } → AreJoined t → IsGroup t.units rg → (passes_at t rg).pass ≡ Some pass
+move-named-fits : (c : DriveConfig) (p : Point) (t : PageTables) (rg : ℕ) (pass : Pass) (ruhs : List ℕ) (change : Change) (e : Entry) → IsOrderly c p → cut_of t.units ≡ record { unit_pages = c.unit_pages; group_units = c.units; groups = c.groups } → AreJoined t → IsGroup t.units rg → (passes_at t rg).pass ≡ Some pass
     → IsMoveOf (copies_of_blocks (owner_at t.owners) pass.copies) ruhs change → FitsDrawn c p change e
 move-named-fits c p t rg pass ruhs change e orderly cut joined group is move =
     let copies : List Copied = copies_of_blocks (owner_at t.owners) pass.copies in
@@ -218,6 +217,30 @@ move-named-fits c p t rg pass ruhs change e orderly cut joined group is move =
     let first : ArePagesOfUnit c move.first = target-pages c copies between move.first move.new.first_target (all-left (λ page. page < c.unit_pages) (pages_of_set move.first.pages) (pages_of_set (target_or_none move.second).pages) low) in
     let second = second-pages c copies between move.second move.new.second_target (all-right (λ page. page < c.unit_pages) (pages_of_set move.first.pages) (pages_of_set (target_or_none move.second).pages) low) in
     subst (λ (x : Change). FitsDrawn c p x e) (sym move.change_is) (move-fits c p move.victim move.first move.second ruhs e orderly (old-pages c copies between move.victim unit move.old) first second)
+
+-- ---- the change of the move
+
+-- Where a change names the copies of blocks of a pass, and the blocks that they take along are listed beside it, the move is saved by it
+pub of-move : (c : DriveConfig) (p : Point) (written : Spot → Option Written) (at : Behind Page) (t : PageTables) (rg : ℕ) (pass : Pass) (change : Change) → IsOrderly c p → IsStanding c p → AreLed c p written at t → rg < c.groups
+    → cut_of t.units ≡ record { unit_pages = c.unit_pages; group_units = c.units; groups = c.groups } → AreJoined t → IsGroup t.units rg → (passes_at t rg).pass ≡ Some pass → (pass.copies ≡ [] → ⊥)
+    → (copies : List Copied) (handles : List ℕ) (blocks : List MovedBlock) → copies ≡ copies_of_blocks (owner_at t.owners) (copies_at t rg) → blocks ≡ map (moved_of (owner_at t.owners)) (copies_of_blocks (owner_at t.owners) (copies_at t rg)) → handles ≡ map (λ (x : MovedBlock). x.ruh) blocks
+    → IsMoveOf copies handles change → IsChangeOfEntry c p (entries.Moved (record { rg = rg; blocks = moved_blocks p rg })) change blocks
+of-move c p written at t rg pass change orderly standing led low cut joined group is some copies handles blocks copies_are blocks_are handles_are named =
+    let same : copies_of_blocks (owner_at t.owners) (copies_at t rg) ≡ copies_of_blocks (owner_at t.owners) pass.copies = ap (copies_of_blocks (owner_at t.owners)) (copies-are t rg pass is) in
+    of-kept (blocks_are ∙ ap (map (moved_of (owner_at t.owners))) same)
+    (subst (λ (xs : List Copied). IsMoveOf xs (map (λ (x : MovedBlock). x.ruh) blocks) change) (copies_are ∙ same) (subst (λ (ns : List ℕ). IsMoveOf copies ns change) handles_are named))
+  where
+    of-kept : blocks ≡ map (moved_of (owner_at t.owners)) (copies_of_blocks (owner_at t.owners) pass.copies) → IsMoveOf (copies_of_blocks (owner_at t.owners) pass.copies) (map (λ (x : MovedBlock). x.ruh) blocks) change
+        → IsChangeOfEntry c p (entries.Moved (record { rg = rg; blocks = moved_blocks p rg })) change blocks
+    of-kept listed move = record {
+      saves = move-saved c p written at t rg pass change orderly standing led low cut joined group is some (known listed move);
+      fits = move-named-fits c p t rg pass (map (λ (x : MovedBlock). x.ruh) blocks) change (entries.Moved (record { rg = rg; blocks = moved_blocks p rg })) orderly cut joined group is move;
+      totals = totals-entry p.totals (entries.Moved (record { rg = rg; blocks = moved_blocks p rg })) change (ap blocks_of_change move.change_is) refl refl;
+      lists = moved-listed c p written at t rg pass change orderly standing led low cut joined group is some blocks (known listed move) listed;
+    } where
+      known : blocks ≡ map (moved_of (owner_at t.owners)) (copies_of_blocks (owner_at t.owners) pass.copies) → IsMoveOf (copies_of_blocks (owner_at t.owners) pass.copies) (map (λ (x : MovedBlock). x.ruh) blocks) change
+          → IsMoveOf (copies_of_blocks (owner_at t.owners) pass.copies) (map (λ (x : MovedBlock). x.ruh) (map (moved_of (owner_at t.owners)) (copies_of_blocks (owner_at t.owners) pass.copies))) change
+      known listed move = subst (λ (bs : List MovedBlock). IsMoveOf (copies_of_blocks (owner_at t.owners) pass.copies) (map (λ (x : MovedBlock). x.ruh) bs) change) listed move
 
 -- ---- the blocks that are moved
 
@@ -232,15 +255,6 @@ some-moved owners xs some none = nothing (copies_of_blocks owners xs) some (sym 
   nothing : (ys : List Copied) → 0 < length ys → map (λ (x : MovedBlock). x.name) (map (moved_of owners) ys) ≡ [] → ⊥
   nothing [] low e = absurd (omega (arith, low))
   nothing (y ∷ ys) low e = cc
-
-plus-none : (n : ℕ) → n ≡ n + 0
-plus-none n = omega arith
-
-pub totals-moved : (t : Totals) (rg : ℕ) (blocks : List BlockName) → record t { position = t.position + 1 } ≡ totals_with t (entries.Moved (record { rg = rg; blocks = blocks }))
-totals-moved t rg blocks =
-    ap (λ (n : ℕ). record t { position = t.position + 1; host_blocks = n }) (plus-none t.host_blocks)
-    ∙ ap (λ (n : ℕ). record { position = t.position + 1; host_blocks = t.host_blocks + 0; media_blocks = n; erases = t.erases }) (plus-none t.media_blocks)
-    ∙ ap (λ (n : ℕ). record { position = t.position + 1; host_blocks = t.host_blocks + 0; media_blocks = t.media_blocks + 0; erases = n }) (plus-none t.erases)
 
 true-false : true ≡ false → ⊥
 true-false e = cc

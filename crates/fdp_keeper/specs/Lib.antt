@@ -14,6 +14,5 @@ pub use Rattle.fdp_durability.specs.fdp_saving as fdp_saving
 pub use Rattle.fdp_book.specs.fdp_state as fdp_state
 pub use Rattle.fdp_book.specs.fdp_trails as fdp_trails
 pub mod Keeper
-pub mod Commands
 pub mod Ready
 pub mod Moves

@@ -1,6 +1,6 @@
 //! How many entries of a history are firm.
 
-ghost use Rattle.std.specs.Prelude.{◌≡◌, ◌∷◌, []};
+ghost use Rattle.std.specs.Prelude.{◌≡◌, ◌<◌, ◌^◌, ◌∷◌, [], List, length};
 ghost use Rattle.fdp_base.specs.declared.entry.Entry.{Entry};
 ghost use Rattle.fdp_durability.specs.Saved.{firm_renewed, firm_with};
 
@@ -8,12 +8,13 @@ use fdp_book::Book;
 use fdp_durability::Saved;
 use fdp_flash::Wrote;
 
-/// So many after the saving of an entry: all with it, or those that were.
-pub fn firm_saved(book: &Book, firm: u64, saved: Saved) -> u64
-    ensures { (e : Entry) → result ≡ firm_with book.now.entries (e ∷ []) firm saved }
+/// So many after the saving of an entry behind so many: all with it, or those that were.
+pub fn firm_saved(entries: usize, firm: u64, saved: Saved) -> u64
+    requires { entries < 2 ^ 63 }
+    ensures { (es : List Entry) (e : Entry) → length es ≡ entries → result ≡ firm_with es (e ∷ []) firm saved }
 {
     match saved {
-        Saved::Done => book.entries().len() as u64 + 1,
+        Saved::Done => entries as u64 + 1,
         Saved::Doubtful { moment: _ } => firm,
         Saved::Unsaved { moment: _ } => firm,
     }

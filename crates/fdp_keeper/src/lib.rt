@@ -2,23 +2,14 @@
 #![tactic(auto)]
 
 mod change_room;
-mod command;
-mod command_change;
-mod command_lists;
-mod created;
 mod firm;
 mod keeper;
-mod kinds;
-mod made;
 mod move_change;
 mod moves;
 mod page_set;
 mod saved_move;
 mod saving;
-mod shut;
 mod targets;
-mod updated;
-mod write;
 
 pub use fdp_book::{
     Book, Done, FirstStep, Lost, NextPage, OpenFault, Opened, Pages, PagesFault, Replies, Room,

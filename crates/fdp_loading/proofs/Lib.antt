@@ -7,7 +7,6 @@ pub use Rattle.fdp_survival.proofs as fdp_survival
 pub mod JournalRoom
 pub mod Looked
 pub mod Drawing
-pub mod Reopening
 pub mod Blank
 pub mod Unwritten
 pub mod Opened

@@ -5,12 +5,10 @@ use Rattle.std.specs.List.{list_any}
 use Rattle.std.proofs.lemmas.Bool.{leb-false, or_parts}
 use Rattle.fdp_base.specs.declared.config.DriveConfig.{DriveConfig}
 use Rattle.fdp_base.specs.declared.config.Geometry.{Geometry}
-use Rattle.fdp_base.specs.declared.entry.Entry.{Entry}
-use Rattle.fdp_base.specs.declared.entry.Entry.TheVariants as entries
 use Rattle.fdp_base.specs.declared.entry.Spot.{Spot}
 use Rattle.fdp_base.specs.Config.{IsValidConfig}
 use Rattle.fdp_base.specs.Placement.{geometry_of}
-use Rattle.fdp_keeper.specs.fdp_book.Book.{BookSeen, first_in, point_in, written_in}
+use Rattle.fdp_keeper.specs.fdp_book.Book.{BookSeen, first_in, written_in}
 use Rattle.fdp_keeper.specs.fdp_book.Reopened.{IsReopened, cells_found}
 use Rattle.fdp_keeper.specs.fdp_durability.Beginnings.{NamesUsed}
 use Rattle.fdp_keeper.specs.fdp_durability.Durable.{IsDurable}
@@ -35,20 +33,15 @@ use Rattle.fdp_keeper.specs.Keeper.{KeeperSeen}
 use Rattle.fdp_loading.specs.Begun.{Begins}
 use Rattle.fdp_loading.specs.Loaded.{IsPrepared, SayOne}
 use Rattle.fdp_loading.specs.Made.{IsFoundDrive}
-use Rattle.fdp_loading.proofs.Drawing.{outline-found, position-drawn, written-reopened}
+use Rattle.fdp_loading.proofs.Drawing.{written-reopened}
 use Rattle.fdp_keeper.specs.fdp_locations.Held.{pages_held}
 use Rattle.fdp_keeper.specs.fdp_locations.Stored.{HoldsWritten}
 use Rattle.fdp_keeper.specs.fdp_locations.Written.{Written, written_by}
 use Rattle.fdp_keeper.specs.fdp_opening.Found.{IsFoundIn}
-use Rattle.fdp_keeper.specs.fdp_outline.Outline.{IsOutlineOf}
 use Rattle.fdp_owners.specs.declared.owner.Owner.{Owner}
 use Rattle.fdp_owners.specs.OwnerTable.{owner_at}
-use Rattle.fdp_keeper.specs.fdp_readings.Drawn.{drawn}
 use Rattle.fdp_keeper.specs.fdp_recovery.Opened.{CanGoOn, IsFound}
-use Rattle.fdp_rules.proofs.Pushes.{point_of-push}
-use Rattle.fdp_rules.specs.History.{Found, point_of}
-use Rattle.fdp_rules.specs.Next.{next}
-use Rattle.fdp_rules.specs.Point.{Point}
+use Rattle.fdp_rules.specs.History.{Found}
 use Rattle.fdp_keeper.specs.fdp_saving.Saver.{IsSaverIn, first_saver}
 use Rattle.fdp_keeper.proofs.fdp_saving.Beginning.{found_says, found_stands}
 use Rattle.fdp_snapshot.specs.declared.state.State.{State}
@@ -171,17 +164,6 @@ module _ (flash : FlashState) (b : BookSeen) (k : KeeperSeen) (s : State) (area 
   apart-here : IsTrue flash.told → ReadsIsolated b.config flash.cells → OpenedApart b.config b.found b.opened
   apart-here t reads = let l = (found-here t).left in opened-back t (image-apart b.config flash.cells r config l.valid (reads r l.reads))
 
-  point-here : point_in b ≡ next b.config (point_of b.config (found_in b.config cells r) []) entries.Reopened
-  point-here =
-      ap (λ (es : List Entry). point_of b.config b.found es) h.book.entries_are
-      ∙ ap (λ (f : Found). point_of b.config f (entries.Reopened ∷ [])) h.book.found_is
-      ∙ point_of-push b.config (found_in b.config cells r) [] entries.Reopened
-
-  outline-here : IsOutlineOf b.config (drawn b.config (point_in b)) k.summary
-  outline-here =
-      subst (λ (p : Point). IsOutlineOf b.config (drawn b.config p) k.summary) (sym point-here)
-      (h.outline (point_of b.config (found_in b.config cells r) []) (outline-found b.config cells s h.valid can-begin goes.state.keys goes.state.rows) (position-drawn b.config cells s))
-
   epoch-here : k.saver.stamp.epoch ≡ epoch
   epoch-here = ap (λ (x : JournalState). x.stamp.epoch) h.saver_is
 
@@ -195,7 +177,7 @@ module _ (flash : FlashState) (b : BookSeen) (k : KeeperSeen) (s : State) (area 
     says = says-here;
     said = said-here;
     can = record {
-      keeper = record { geometry = ap (λ (x : JournalState). x.geometry) h.saver_is; outline = outline-here };
+      keeper = record { geometry = ap (λ (x : JournalState). x.geometry) h.saver_is };
       geometry = h.was.cut;
       epoch = let e = epoch-here in let low = unspent-epoch r epoch goes.unspent in omega (arith, e, low);
       saver = λ t. let z = saver-here t in subst (IsSaverIn flash.cells) (sym z.2) (found_stands g flash.cells area z.0 z.1);

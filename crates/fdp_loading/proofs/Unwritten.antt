@@ -4,12 +4,11 @@ use Rattle.std.specs.Prelude.{IsTrue, take, if◌then◌else◌}
 use Rattle.std.specs.List.{list_all}
 use Rattle.fdp_base.specs.declared.config.DriveConfig.{DriveConfig}
 use Rattle.fdp_base.specs.declared.config.Geometry.{Geometry}
-use Rattle.fdp_base.specs.declared.entry.Entry.{Entry}
 use Rattle.fdp_base.specs.declared.entry.Spot.{Spot}
 use Rattle.fdp_base.specs.Config.{IsValidConfig}
 use Rattle.fdp_base.specs.Geometry.{all_pages}
 use Rattle.fdp_base.specs.Placement.{geometry_of}
-use Rattle.fdp_keeper.specs.fdp_book.Book.{BookSeen, IsFirst, first_in, point_in, written_in}
+use Rattle.fdp_keeper.specs.fdp_book.Book.{BookSeen, IsFirst, first_in, written_in}
 use Rattle.fdp_keeper.specs.fdp_durability.Durable.{IsDurable}
 use Rattle.fdp_keeper.proofs.fdp_durability.Starting.{begun-fresh}
 use Rattle.fdp_flash.specs.declared.cell.Cell.{Cell}
@@ -17,12 +16,10 @@ use Rattle.fdp_flash.specs.declared.cell.Cell.TheVariants.{Blank}
 use Rattle.fdp_flash.specs.FlashState.{FlashState, IsWellFormed}
 use Rattle.fdp_keeper.proofs.fdp_found.Loaded.{fresh-found}
 use Rattle.fdp_image.specs.Areas.{current_area, data_pages}
-use Rattle.fdp_image.specs.Reading.{Reading}
 use Rattle.fdp_image.specs.Reads.{fresh_reading, is_blank, reads_as, said_by_current}
 use Rattle.fdp_image.specs.StandsFor.{StandsFor}
 use Rattle.fdp_keeper.specs.fdp_journal.JournalState.{JournalState}
 use Rattle.fdp_keeper.specs.Keeper.{KeeperSeen}
-use Rattle.fdp_keeper.proofs.Begun.{drawn-fresh}
 use Rattle.fdp_loading.specs.Begun.{Begins}
 use Rattle.fdp_loading.specs.Loaded.{IsPrepared, SayOne}
 use Rattle.fdp_loading.specs.Made.{IsFreshDrive}
@@ -32,10 +29,8 @@ use Rattle.fdp_keeper.specs.fdp_locations.Stored.{HoldsWritten}
 use Rattle.fdp_keeper.specs.fdp_locations.Written.{Written, written_by, written_from}
 use Rattle.fdp_keeper.proofs.fdp_locations.Held.{held-blank}
 use Rattle.fdp_keeper.specs.fdp_durability.Beginnings.{NamesUsed}
-use Rattle.fdp_keeper.specs.fdp_outline.Outline.{IsOutlineOf}
-use Rattle.fdp_keeper.specs.fdp_readings.Drawn.{drawn}
 use Rattle.fdp_keeper.specs.fdp_recovery.Opened.{IsFresh}
-use Rattle.fdp_rules.specs.History.{Found, point_of}
+use Rattle.fdp_rules.specs.History.{Found}
 use Rattle.fdp_keeper.specs.fdp_saving.Saver.{IsSaverIn}
 use Rattle.fdp_keeper.proofs.fdp_saving.Beginning.{fresh_says, fresh_stands}
 use Rattle.fdp_survival.specs.Apart.{AreSaidApart}
@@ -112,11 +107,6 @@ module _ (flash : FlashState) (b : BookSeen) (k : KeeperSeen) (config : IsValidC
   epoch-here : k.saver.stamp.epoch ≡ 0
   epoch-here = ap (λ (s : JournalState). s.stamp.epoch) h.saver_is
 
-  drawn-here : drawn b.config (point_in b) ≡ fresh_reading b.config
-  drawn-here =
-      ap (λ (es : List Entry). drawn b.config (point_of b.config b.found es)) h.book.entries_are
-      ∙ ap (λ (f : Found). drawn b.config (point_of b.config f [])) h.book.found_is ∙ drawn-fresh b.config
-
   prepared-here : IsPrepared b.config flash b k 0
   prepared-here = record {
     order = h.order;
@@ -132,10 +122,7 @@ module _ (flash : FlashState) (b : BookSeen) (k : KeeperSeen) (config : IsValidC
         subst (λ (s : JournalState). AreSaidApart b.config s flash.cells) (sym h.saver_is)
         (said-fresh b.config flash.cells (fresh_reading b.config) (none-here t) (reads-fresh b.config flash.cells (none-here t) (fresh-here t).blank));
     can = record {
-      keeper = record {
-        geometry = ap (λ (s : JournalState). s.geometry) h.saver_is;
-        outline = subst (λ (r : Reading). IsOutlineOf b.config r k.summary) (sym drawn-here) h.outline;
-      };
+      keeper = record { geometry = ap (λ (s : JournalState). s.geometry) h.saver_is };
       geometry = cut;
       epoch = let e = epoch-here in omega (arith, e);
       saver = λ t. subst (IsSaverIn flash.cells) (sym h.saver_is) (fresh_stands g flash.cells (none-here t));

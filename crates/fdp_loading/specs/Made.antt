@@ -1,7 +1,6 @@
 -- What is made of a flash before its drive is saved.
 use Rattle.std.specs.Prelude.{◌≡◌, ℕ, IsTrue, Result, Ok, Err}
 use Rattle.fdp_base.specs.declared.config.DriveConfig.{DriveConfig}
-use Rattle.fdp_base.specs.declared.entry.Entry.TheVariants as entries
 use Rattle.fdp_base.specs.Placement.{geometry_of}
 use Rattle.fdp_keeper.specs.fdp_book.Book.{BookSeen, IsFirst}
 use Rattle.fdp_keeper.specs.fdp_book.Reopened.{IsReopened, WasFound, cells_found}
@@ -9,19 +8,14 @@ use Rattle.fdp_flash.specs.declared.answer.Wrote.TheVariants as wrote
 use Rattle.fdp_flash.specs.FlashState.{FlashState}
 use Rattle.fdp_image.specs.Checkpoint.{reading_of_state}
 use Rattle.fdp_image.specs.Reading.{Reading}
-use Rattle.fdp_image.specs.Reads.{fresh_reading}
 use Rattle.fdp_image.specs.Valid.{IsValid}
 use Rattle.fdp_keeper.specs.Keeper.{KeeperSeen, KeepsDrive}
 use Rattle.fdp_loading.specs.declared.loaded.Loaded.{Loaded}
 use Rattle.fdp_loading.specs.Begun.{Begins}
 use Rattle.fdp_loading.specs.Loaded.{IsPrepared}
 use Rattle.fdp_keeper.specs.fdp_opening.Found.{IsFirstAstray}
-use Rattle.fdp_keeper.specs.fdp_outline.Outline.{IsOutlineOf}
-use Rattle.fdp_keeper.specs.fdp_readings.Drawn.{drawn}
 use Rattle.fdp_keeper.specs.fdp_recovery.declared.opened.OpenFault.{OpenFault}
 use Rattle.fdp_keeper.specs.fdp_recovery.declared.opened.OpenFault.TheVariants as faults
-use Rattle.fdp_rules.specs.Next.{next}
-use Rattle.fdp_rules.specs.Point.{Point}
 use Rattle.fdp_keeper.specs.fdp_saving.Saver.{first_saver}
 use Rattle.fdp_snapshot.specs.declared.state.State.{State}
 use Rattle.fdp_survival.specs.Books.{IsInOrder}
@@ -32,9 +26,8 @@ pub record IsFreshDrive (c : DriveConfig) (b : BookSeen) (k : KeeperSeen) : Type
   pub order : IsInOrder b
   pub saver_is : k.saver ≡ first_saver (geometry_of c) 1 0
   pub firm_is : k.firm ≡ 0
-  pub outline : IsOutlineOf c (fresh_reading c) k.summary
 
--- a drive of a state that was found, with its area and epoch: its book behind the entry of the opening, and a keeper with the events of that
+-- a drive of a state that was found, with its area and epoch: its book behind the entry of the opening, and a keeper
 pub record IsFoundDrive (c : DriveConfig) (flash : FlashState) (state : State) (area epoch : ℕ) (b : BookSeen) (k : KeeperSeen) : Type 0 where
   pub was : WasFound c flash state b.pages
   pub book : IsReopened c (cells_found c flash b.pages) (reading_of_state state) b
@@ -42,7 +35,6 @@ pub record IsFoundDrive (c : DriveConfig) (flash : FlashState) (state : State) (
   pub order : IsInOrder b
   pub saver_is : k.saver ≡ first_saver (geometry_of c) area epoch
   pub firm_is : k.firm ≡ 0
-  pub outline : (p : Point) → IsOutlineOf c (drawn c p) state.summary → p.state.position ≡ state.summary.totals.position → IsOutlineOf c (drawn c (next c p entries.Reopened)) k.summary
 
 -- why the pages of a state that was found are not those of a drive, by the fault: there are no others than these three
 abbrev pub TellsPages : DriveConfig → FlashState → Reading → OpenFault → Type 0

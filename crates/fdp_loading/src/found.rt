@@ -96,8 +96,8 @@ fn made_of<F: Flash>(
     requires goes_on { CanGoOn config.now state area epoch }
     ensures { IfOk result (λ made. IsFoundDrive config.now (F.state flash.now) state area epoch made.book made.keeper) }
 {
-    let (book, summary) = Book::reopened(alloc, flash, config, state, pages)?;
+    let book = Book::reopened(alloc, flash, config, state, pages)?;
     book.known(); // proof
-    let keeper = Keeper::found(alloc, config, summary, area, epoch)?;
+    let keeper = Keeper::found(alloc, config, area, epoch)?;
     Ok(Loaded { book, keeper })
 }

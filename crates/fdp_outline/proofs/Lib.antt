@@ -7,3 +7,4 @@ pub mod Applying
 pub mod Saved
 pub mod Naming
 pub mod Telling
+pub mod Free

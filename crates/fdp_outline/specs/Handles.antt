@@ -1,11 +1,16 @@
--- The handles of a namespace in an outline, and what a placement identifier names by them.
+-- The namespaces of an outline, their handles, and what a placement identifier names by them.
 use Rattle.std.specs.Prelude.{ℕ, true, List, [], nat_lt, Option, None, if◌then◌else◌, slice_get, option_map}
 use Rattle.std.specs.Option.{option_map_or}
 use Rattle.fdp_base.specs.declared.config.DriveConfig.{DriveConfig}
+use Rattle.fdp_rules.specs.PlainState.{Namespace}
 use Rattle.fdp_rules.specs.Target.{Target, group_of_pid, handle_of_pid}
 use Rattle.fdp_snapshot.specs.declared.space.Space.{Space}
 use Rattle.fdp_snapshot.specs.declared.state.Summary.{Summary}
-use Rattle.fdp_image.specs.Checkpoint.{in_place}
+use Rattle.fdp_image.specs.Checkpoint.{in_place, namespace_of}
+
+-- the namespace with an identifier
+abbrev pub namespace_at : Summary → ℕ → Option Namespace
+namespace_at s nsid = option_map namespace_of (in_place s.spaces nsid)
 
 -- the handles of a namespace, none where it is not there
 abbrev pub handles_at : Summary → ℕ → List ℕ

@@ -22,6 +22,7 @@ pub fn fresh_summary(alloc: Global, config: &DriveConfig) -> Result<Summary, All
     requires { IsValidConfig config.now }
     ensures outline { IfOk result (λ s. IsOutlineOf config.now (fresh_reading config.now) s) }
     ensures writable { IfOk result (λ s. IsWritable s) }
+    ensures totals { IfOk result (λ s. s.totals ≡ (fresh_reading config.now).totals) }
 {
     let keys = keys_of(alloc, config)?;
     let spaces = configured_spaces(alloc, config.namespaces.as_slice())?;

@@ -6,6 +6,7 @@ mod fresh;
 mod groups;
 mod keep;
 mod laws;
+mod lookups;
 mod moved_block;
 mod named;
 mod outline;

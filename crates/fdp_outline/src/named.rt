@@ -1,6 +1,6 @@
 //! The handles of a namespace, and what a placement identifier names by them.
 
-ghost use Rattle.std.specs.Prelude.{◌≡◌, ◌-◌, ◌^◌, option_map, slice_index};
+ghost use Rattle.std.specs.Prelude.{◌≡◌, ◌-◌, ◌^◌, ◌≤◌, length, option_map, slice_index};
 ghost use Rattle.fdp_base.specs.Config.{IsInRange};
 ghost use Rattle.fdp_base.specs.Placement.{group_bits};
 ghost use Rattle.fdp_image.specs.Bits.{has_bit};
@@ -19,9 +19,10 @@ pub fn has_bit(closed: u64, place: usize) -> bool
 }
 
 /// The handles of a namespace, none where it is not there.
-fn handles_at(summary: &Summary, nsid: u32) -> &[u8]
+pub fn handles_at(summary: &Summary, nsid: u32) -> &[u8]
     requires { IsWritable summary.now }
-    ensures { result.now ≡ handles_at summary.now nsid }
+    ensures value { result.now ≡ handles_at summary.now nsid }
+    ensures few { length result.now ≤ 16 }
 {
     match space_at(summary.spaces.as_slice(), nsid) {
         Some(space) => space.handles.as_slice(),

@@ -1,6 +1,5 @@
 -- What a step of relocation came to, behind a step that rests.
-use Rattle.std.proofs.Common.{◌≡◌, ℕ, ◌+◌, ◌≤◌, Bool, true, not, IsTrue, List, [], ◌∷◌, length, inl, inr, refl, sym, ◌∙◌, ap, subst, arith}
-use Rattle.std.specs.Prelude.{◌==◌}
+use Rattle.std.proofs.Common.{◌≡◌, ℕ, ◌+◌, ◌≤◌, Bool, not, IsTrue, List, [], ◌∷◌, length, inl, inr, refl, sym, ◌∙◌, ap, subst, arith}
 use Rattle.fdp_base.specs.declared.entry.BlockName.{BlockName}
 use Rattle.fdp_base.specs.declared.entry.Entry.{Entry}
 use Rattle.fdp_base.specs.declared.entry.Entry.TheVariants as entries
@@ -16,10 +15,8 @@ use Rattle.fdp_flash.specs.declared.cell.Cell.{Cell}
 use Rattle.fdp_flash.specs.FlashState.{FlashState}
 use Rattle.fdp_flash.specs.Runs.{Runs}
 use Rattle.fdp_flash.proofs.Runs.{no_run, runs_joined}
-use Rattle.fdp_history.specs.Orderly.{IsOrderly}
-use Rattle.fdp_history.specs.Standing.{IsStanding}
 use Rattle.fdp_keeper.specs.fdp_journal.JournalState.{JournalState}
-use Rattle.fdp_keeper.specs.Keeper.{IsKeeperOf, KeeperSeen, KeepsMade, KeepsSettled}
+use Rattle.fdp_keeper.specs.Keeper.{IsKeeperOf, KeeperSeen, KeepsEntry, KeepsSettled}
 use Rattle.fdp_keeper.specs.fdp_locations.Located.{AreUnitsOf}
 use Rattle.fdp_keeper.specs.fdp_locations.Stored.{HoldsWritten}
 use Rattle.fdp_keeper.specs.fdp_pages.PageTables.{passes_at}
@@ -28,7 +25,7 @@ use Rattle.fdp_passes.specs.Due.{IsDue}
 use Rattle.fdp_relocation.specs.declared.advance.Advance.{Advance}
 use Rattle.fdp_relocation.specs.declared.advance.Advance.TheVariants as advance
 use Rattle.fdp_relocation.specs.Collected.{AreasTell, Collects, EndsDoubt, EndsMove, FailsToSettle, Moves, SavesMove, Stage, StaysUncalled, Steps, StepsSettled}
-use Rattle.fdp_relocation.proofs.Kept.{keeper-entry, keeper-of, more-entries, saved-epoch, with-entry}
+use Rattle.fdp_relocation.proofs.Kept.{keeper-of, more-entries, saved-epoch}
 use Rattle.fdp_relocation.proofs.Moving.{held-moved}
 use Rattle.fdp_relocation.proofs.Resting.{rests-book, saves-earlier, settles-earlier, uncalled-of}
 use Rattle.fdp_relocation.proofs.Storing.{held-on, move-same}
@@ -43,10 +40,9 @@ moved_entry b rg = entries.Moved (record { rg = rg; blocks = moved_blocks (point
 -- ---- behind a step that rests
 
 module _ (b : BookSeen) (k l : KeeperSeen) (f m n : FlashState) (rests : StaysUncalled f m) where
-  made-earlier : (e : Entry) (answer : Saved) → KeepsMade b e k l m n answer → KeepsMade b e k l f n answer
+  made-earlier : (e : Entry) (answer : Saved) → KeepsEntry b e k l m n answer → KeepsEntry b e k l f n answer
   made-earlier e answer h = record {
     saves = saves-earlier f m n rests b.config b.found b.entries k.saver l.saver e answer h.saves;
-    outline = h.outline;
     geometry = h.geometry;
     firm_is = h.firm_is;
   }
@@ -172,7 +168,7 @@ same-flash {F} state f n same = subst (λ (x : F). StaysUncalled (state f) (stat
 
 module _ {F : Type 0} (state : F → FlashState) (old new : Stage F) (rg : ℕ) (answer : Saved)
     (none : moved_blocks (point_in old.book) rg ≡ [] → (answer ≡ saved.Done) × (new.keeper ≡ old.keeper) × (new.flash ≡ old.flash))
-    (some : (moved_blocks (point_in old.book) rg ≡ [] → ⊥) → KeepsMade old.book (moved_entry old.book rg) old.keeper new.keeper (state old.flash) (state new.flash) answer) where
+    (some : (moved_blocks (point_in old.book) rg ≡ [] → ⊥) → KeepsEntry old.book (moved_entry old.book rg) old.keeper new.keeper (state old.flash) (state new.flash) answer) where
   pub saves-of : SavesMove state old new rg answer
   saves-of = by (moved_blocks (point_in old.book) rg) refl where
     by : (xs : List BlockName) → moved_blocks (point_in old.book) rg ≡ xs → SavesMove state old new rg answer
@@ -185,13 +181,10 @@ module _ {F : Type 0} (state : F → FlashState) (old new : Stage F) (rg : ℕ) 
 -- ---- the keeper behind a move
 
 module _ {F : Type 0} (state : F → FlashState) (old new : Stage F) (rg : ℕ) (answer : Saved) (h : Moves state old new rg answer) where
-  pub move-keeper : IsOrderly old.book.config (point_in old.book) → IsStanding old.book.config (point_in old.book) → IsKeeperOf old.book old.keeper → IsKeeperOf new.book new.keeper
-  move-keeper orderly standing kept = elim h.saved [
-    | inl none ↦
-        subst (IsKeeperOf new.book) (sym none.2)
-        (keeper-entry old.book new.book (moved_entry old.book rg) old.keeper orderly standing h.moved.longer (ap (λ (xs : List BlockName). length xs == 0) none.0) (λ pages. h.moved.follows true) kept)
-    | inr some ↦ keeper-of old.book new.book (moved_entry old.book rg ∷ []) old.keeper new.keeper h.moved.longer kept some.1.geometry (with-entry old.book (moved_entry old.book rg) new.keeper.summary some.1.outline)
-  ]
+  pub move-keeper : IsKeeperOf old.book old.keeper → IsKeeperOf new.book new.keeper
+  move-keeper kept = keeper-of old.book new.book (moved_entry old.book rg ∷ []) old.keeper new.keeper h.moved.longer same kept where
+    same : new.keeper.saver.geometry ≡ old.keeper.saver.geometry
+    same = elim h.saved [ inl none ↦ ap (λ (k : KeeperSeen). k.saver.geometry) none.2 | inr some ↦ some.1.geometry ]
 
   pub move-stored : AreUnitsOf old.book.config (state_in old.book) old.book.pages → (state old.flash).geometry ≡ geometry_of old.book.config → (IsTrue (state old.flash).told → AreasTell old.book old.keeper (state old.flash).cells)
       → (IsTrue (state old.flash).told → HoldsWritten (state old.flash).geometry (state old.flash).cells (written_in old.book) old.book.pages.units) → IsTrue (state old.flash).told

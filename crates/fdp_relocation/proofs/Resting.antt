@@ -26,8 +26,7 @@ use Rattle.fdp_image.specs.Saving.{SameDataPages}
 use Rattle.fdp_keeper.specs.fdp_journal.JournalState.{JournalState}
 use Rattle.fdp_keeper.specs.fdp_pages.PageTables.{no_passes, relocation_at}
 use Rattle.fdp_relocation.specs.Collected.{StaysUncalled}
-use Rattle.fdp_rules.specs.History.{Found, point_of}
-use Rattle.fdp_rules.specs.Next.{totals_with}
+use Rattle.fdp_rules.specs.History.{Found}
 use Rattle.fdp_keeper.specs.fdp_saving.Calls.{MakesSystemCalls}
 use Rattle.fdp_keeper.specs.fdp_saving.declared.saved.Saved.{Saved}
 use Rattle.fdp_keeper.specs.fdp_saving.declared.saved.Saved.TheVariants as answers

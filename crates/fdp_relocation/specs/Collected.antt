@@ -15,7 +15,7 @@ use Rattle.fdp_flash.specs.declared.answer.Wrote.TheVariants as wrote
 use Rattle.fdp_flash.specs.FlashState.{FlashState}
 use Rattle.fdp_flash.specs.Runs.{Runs}
 use Rattle.fdp_image.specs.Reading.{Reading}
-use Rattle.fdp_keeper.specs.Keeper.{KeepsMade, KeepsSettled, KeeperSeen}
+use Rattle.fdp_keeper.specs.Keeper.{KeepsEntry, KeepsSettled, KeeperSeen}
 use Rattle.fdp_keeper.specs.fdp_pages.PageTables.{passes_at}
 use Rattle.fdp_passes.specs.declared.due.Due.TheVariants as due
 use Rattle.fdp_passes.specs.Due.{IsDue}
@@ -49,7 +49,7 @@ pub record StaysUncalled (old new : FlashState) : Type 0 where
 abbrev pub SavesMove : {F : Type 0} → (F → FlashState) → Stage F → Stage F → ℕ → Saved → Type 0
 SavesMove state old new rg answer =
     ((moved_blocks (point_in old.book) rg ≡ []) × (answer ≡ saved.Done) × (new.keeper ≡ old.keeper) × StaysUncalled (state old.flash) (state new.flash))
-    ⊎ ((moved_blocks (point_in old.book) rg ≡ [] → ⊥) × KeepsMade old.book (entries.Moved (record { rg = rg; blocks = moved_blocks (point_in old.book) rg })) old.keeper new.keeper (state old.flash) (state new.flash) answer)
+    ⊎ ((moved_blocks (point_in old.book) rg ≡ [] → ⊥) × KeepsEntry old.book (entries.Moved (record { rg = rg; blocks = moved_blocks (point_in old.book) rg })) old.keeper new.keeper (state old.flash) (state new.flash) answer)
 
 -- the copies of a group were to be moved, and were, whether the saving of the move was done or not
 pub record Moves {F : Type 0} (state : F → FlashState) (old new : Stage F) (rg : ℕ) (answer : Saved) : Type 0 where

@@ -79,9 +79,7 @@ fn move_saved<F: Flash>(book: &mut Book, keeper: &mut Keeper, flash: &mut F, rg:
     ensures geometry { (F.state flash.new).geometry ≡ (F.state flash.old).geometry }
 {
     book.known(); // proof
-    let saved = keeper.save_move(flash, book, rg);
-    book.move_pass(rg);
-    match saved {
+    match keeper.save_move(flash, book, rg) {
         Saved::Done => Advance::Moved,
         Saved::Doubtful { .. } => Advance::Fault,
         Saved::Unsaved { .. } => Advance::Fault,

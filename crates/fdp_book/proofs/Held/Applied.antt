@@ -1,5 +1,5 @@
 -- The tables after a command other than a write whose change is made, by what it leaves of each.
-use Rattle.std.proofs.Common.{◌≡◌, ℕ, ◌≤◌, Bool, true, false, List, [], ◌∷◌, ◌++◌, Option, Some, None, refl, sym, ◌∙◌, ap, subst, arith, inl, ⊎_elim}
+use Rattle.std.proofs.Common.{◌≡◌, ℕ, ◌≤◌, Bool, true, false, List, [], ◌∷◌, ◌++◌, Option, Some, None, refl, sym, ◌∙◌, ap, subst, inl, ⊎_elim}
 use Rattle.std.specs.Prelude.{IsFalse, IsTrue, if◌then◌else◌, is_some, option_and_then}
 use Rattle.std.specs.Option.{option_map_or}
 use Rattle.std.proofs.lemmas.Bool.{false≢true}
@@ -12,12 +12,11 @@ use Rattle.fdp_base.specs.declared.entry.Spot.{Spot}
 use Rattle.fdp_base.specs.declared.status.TheConstants.Status as statuses
 use Rattle.fdp_base.specs.CommandKinds.{IsWellFormed, blocks_written, is_saved, is_write, write_of}
 use Rattle.fdp_base.specs.Numbers.{with_at}
-use Rattle.fdp_book.specs.declared.tables.Sums.{Sums}
 use Rattle.fdp_book.specs.declared.tables.Tables.{Tables}
 use Rattle.fdp_book.specs.Commanded.{applied_reply}
-use Rattle.fdp_book.specs.Held.{AreSumsOf, IsHeld, lead_in}
+use Rattle.fdp_book.specs.Held.{IsHeld, lead_in}
+use Rattle.fdp_book.specs.Outlined.{IsOutlineBehind}
 use Rattle.fdp_book.proofs.Held.Next.{AreTablesOf, held-next}
-use Rattle.fdp_book.proofs.Held.Sums.{are_sums-push}
 use Rattle.fdp_book.proofs.Histories.Commanded.{applied-succeeds, success-follows}
 use Rattle.fdp_readings.specs.fdp_locations.Located.{AreAlike, LeadsTo, next_in}
 use Rattle.fdp_readings.specs.fdp_locations.Written.{Written, written_by}
@@ -61,7 +60,7 @@ unfolding next after changed_by
 applied-going c p queue number command moment other = ap (λ (b : Bool). if b then with_at p.state.going queue None else p.state.going) other
 
 -- no block is written
-unwritten : (command : Command) → IsFalse (is_write command) → blocks_written command ≡ 0
+pub unwritten : (command : Command) → IsFalse (is_write command) → blocks_written command ≡ 0
 unwritten command other = by (write_of command) other
   where
     by : (o : Option Write) → is_some o ≡ false → option_map_or (λ (w : Write). w.count) o 0 ≡ 0
@@ -88,7 +87,6 @@ still-led s queue command at p y other e =
 
 -- The pages after such a command, and where the pointers lead by the tables
 pub record AreApplied (s n : PlainState) (queue : ℕ) (command : Command) (at : Behind Page) (t now : Tables) : Type 0 where
-  pub sums : now.sums ≡ t.sums
   pub owned : AreOwners (owner_at now.pages.owners) (renamed (ended_by s queue true command) at)
   pub up : (unit : ℕ) → next_in t.pages.units unit ≤ next_in now.pages.units unit
   pub passes : (rg : ℕ) → (passes_at now.pages rg).pass ≡ (passes_at t.pages rg).pass
@@ -97,9 +95,10 @@ pub record AreApplied (s n : PlainState) (queue : ℕ) (command : Command) (at :
 pub held-applied : (c : DriveConfig) (found : Found) (first : Spot → Option Written) (es : List Entry) (t now : Tables) (queue number : ℕ) (command : Command) (moment : ℕ) →
     (h : IsHeld c found first es t) → Follows true c (point_of c found es) (applied_entry queue number command (point_of c found es).state moment) → IsFalse (is_write command) →
     AreTablesOf c (next c (point_of c found es) (applied_entry queue number command (point_of c found es).state moment)).state now →
+    IsOutlineBehind c found es (applied_entry queue number command (point_of c found es).state moment) now.outline →
     AreApplied (point_of c found es).state (next c (point_of c found es) (applied_entry queue number command (point_of c found es).state moment)).state queue command h.pages_are.at t now →
     IsHeld c found first (es ++ applied_entry queue number command (point_of c found es).state moment ∷ []) now
-held-applied c found first es t now queue number command moment h follows other tables applied =
+held-applied c found first es t now queue number command moment h follows other tables outline applied =
     let p : Point = point_of c found es in
     let e : Entry = applied_entry queue number command p.state moment in
     let q : Point = next c p e in
@@ -107,10 +106,7 @@ held-applied c found first es t now queue number command moment h follows other 
     let r : Pointer → Option Pointer = ended_by p.state queue true command in
     let written : Spot → Option Written = written_by c found first es in
     let going : q.state.going ≡ p.state.going = applied-going c p queue number command moment other in
-    let none : blocks_written command ≡ 0 = unwritten command other in
-    held-next true c found first es e t now h follows tables
-    (subst (λ (x : Sums). AreSumsOf found (es ++ e ∷ []) x) (sym applied.sums)
-    (are_sums-push found es e t.sums t.sums h.sums_are (omega (arith, none)) (omega arith) (omega arith) (omega (arith, none)) (omega arith) (omega arith)))
+    held-next true c found first es e t now h follows tables outline
     (record {
       at = renamed r at;
       led = led-still true c p e written written at t.pages now.pages h.orderly.state follows refl

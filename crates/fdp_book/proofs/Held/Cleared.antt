@@ -15,10 +15,11 @@ use Rattle.fdp_book.specs.declared.flight.Flight.{Flight}
 use Rattle.fdp_book.specs.declared.tables.Tables.{Tables}
 use Rattle.fdp_book.specs.Clearing.{AreMapped, Clears, HasPointers}
 use Rattle.fdp_book.specs.Held.{IsHeld, IsMapOf, flight_in, lead_in}
+use Rattle.fdp_book.specs.Outlined.{IsOutlineBehind}
 use Rattle.fdp_book.proofs.Clearing.{mapped-still}
 use Rattle.fdp_book.proofs.Held.Applied.{applied_entry, applied-going, held-applied}
 use Rattle.fdp_book.proofs.Held.Ended.{passes-same}
-use Rattle.fdp_book.proofs.Kept.{IsAlike, flights-alike, setting-alike, spaces-alike}
+use Rattle.fdp_book.proofs.Kept.{IsAlike, flights-alike}
 use Rattle.fdp_book.proofs.Leading.{pages-same}
 use Rattle.fdp_readings.specs.fdp_locations.Located.{LeadsTo}
 use Rattle.fdp_readings.specs.fdp_locations.Written.{Written}
@@ -38,6 +39,7 @@ use Rattle.fdp_rules.specs.Next.{next}
 use Rattle.fdp_rules.specs.PlainState.{Block, Namespace, PlainState}
 use Rattle.fdp_rules.specs.Point.{Point}
 use Rattle.fdp_rules.specs.Step.{Follows}
+use Rattle.fdp_snapshot.specs.declared.state.Summary.{Summary}
 
 -- ---- where the pointers lead before
 
@@ -81,29 +83,27 @@ pub record ClearsTables (t now : Tables) (nsid : ℕ) (test : ℕ → Bool) : Ty
   pub clears : Clears nsid test t.map now.map t.pages now.pages
   pub rest : now ≡ record t { map = now.map; pages = now.pages }
 
-held-cleared : (c : DriveConfig) (found : Found) (first : Spot → Option Written) (es : List Entry) (t now : Tables) (queue number : ℕ) (command : Command) (moment nsid : ℕ) (test : ℕ → Bool) →
+held-cleared : (c : DriveConfig) (found : Found) (first : Spot → Option Written) (es : List Entry) (t now : Tables) (queue number : ℕ) (command : Command) (moment nsid : ℕ) (test : ℕ → Bool) (outline : Summary) →
     IsHeld c found first es t → Follows true c (point_of c found es) (applied_entry queue number command (point_of c found es).state moment) → IsFalse (is_write command) →
     IsCleared (point_of c found es).state (next c (point_of c found es) (applied_entry queue number command (point_of c found es).state moment)).state nsid test →
-    ended_by (point_of c found es).state queue true command ≡ only (is_outside nsid test) → ClearsTables t now nsid test →
-    IsHeld c found first (es ++ applied_entry queue number command (point_of c found es).state moment ∷ []) now
-held-cleared c found first es t now queue number command moment nsid test h follows other is ended cleared =
+    ended_by (point_of c found es).state queue true command ≡ only (is_outside nsid test) → ClearsTables t now nsid test → IsOutlineBehind c found es (applied_entry queue number command (point_of c found es).state moment) outline →
+    IsHeld c found first (es ++ applied_entry queue number command (point_of c found es).state moment ∷ []) (record now { outline = outline })
+held-cleared c found first es t now queue number command moment nsid test outline h follows other is ended cleared behind =
     let p : Point = point_of c found es in
     let e : Entry = applied_entry queue number command p.state moment in
     let q : Point = next c p e in
     let clears : Clears nsid test t.map now.map t.pages now.pages = cleared.clears in
     let at : Behind Page = h.pages_are.at in
-    let mid : Tables = record t { map = now.map; pages = now.pages } in
-    subst (λ (x : Tables). IsHeld c found first (es ++ e ∷ []) x) (sym cleared.rest)
+    let mid : Tables = record t { outline = outline; map = now.map; pages = now.pages } in
+    subst (λ (x : Tables). IsHeld c found first (es ++ e ∷ []) (record x { outline = outline })) (sym cleared.rest)
     (held-applied c found first es t mid queue number command moment h follows other
     (record {
-      setting_is = setting-alike p.state q.state t.setting is.alike h.setting_is;
-      spaces_are = spaces-alike c p.state q.state t.spaces is.alike h.spaces_are;
       map_is = map-cleared c p.state q.state nsid test t.map now.map t.pages now.pages is clears h.map_is;
       flights_are = flights-alike c p.state q.state t.flights.items is.alike (applied-going c p queue number command moment other) h.flights_are;
       units_are = units-same c p.state q.state t.pages now.pages is.units (owners-alike t.pages now.pages clears.pages.changes) clears.pages.changes.handles h.units_are;
     })
+    behind
     (record {
-      sums = refl;
       owned = subst (λ (r : Pointer → Option Pointer). AreOwners (owner_at now.pages.owners) (renamed r at)) (sym ended) (clears.owners at (told-mapped c found first es t h));
       up = λ unit. omega (arith, owners-next t.pages now.pages clears.pages.changes unit);
       passes = passes-same t.pages now.pages clears.pages.changes.passes;
@@ -121,11 +121,11 @@ zero-is c p queue number z moment = record {
   blocks = refl;
 }
 
-pub held-zeroed : (c : DriveConfig) (found : Found) (first : Spot → Option Written) (es : List Entry) (t now : Tables) (queue number : ℕ) (z : Zero) (moment : ℕ) →
-    IsHeld c found first es t → Follows true c (point_of c found es) (applied_entry queue number (commands.Zero z) (point_of c found es).state moment) → ClearsTables t now z.nsid (is_among z.slba z.count) →
-    IsHeld c found first (es ++ applied_entry queue number (commands.Zero z) (point_of c found es).state moment ∷ []) now
-held-zeroed c found first es t now queue number z moment h follows clears =
-    held-cleared c found first es t now queue number (commands.Zero z) moment z.nsid (is_among z.slba z.count) h follows refl (zero-is c (point_of c found es) queue number z moment) refl clears
+pub held-zeroed : (c : DriveConfig) (found : Found) (first : Spot → Option Written) (es : List Entry) (t now : Tables) (queue number : ℕ) (z : Zero) (moment : ℕ) (outline : Summary) →
+    IsHeld c found first es t → Follows true c (point_of c found es) (applied_entry queue number (commands.Zero z) (point_of c found es).state moment) → ClearsTables t now z.nsid (is_among z.slba z.count) → IsOutlineBehind c found es (applied_entry queue number (commands.Zero z) (point_of c found es).state moment) outline →
+    IsHeld c found first (es ++ applied_entry queue number (commands.Zero z) (point_of c found es).state moment ∷ []) (record now { outline = outline })
+held-zeroed c found first es t now queue number z moment outline h follows clears behind =
+    held-cleared c found first es t now queue number (commands.Zero z) moment z.nsid (is_among z.slba z.count) outline h follows refl (zero-is c (point_of c found es) queue number z moment) refl clears behind
 
 -- ---- a deallocation
 
@@ -137,10 +137,11 @@ dealloc-is c p queue number d moment = record {
   blocks = refl;
 }
 
-pub held-deallocated : (c : DriveConfig) (found : Found) (first : Spot → Option Written) (es : List Entry) (t now : Tables) (queue number : ℕ) (d : Dealloc) (moment : ℕ) →
-    IsHeld c found first es t → Follows true c (point_of c found es) (applied_entry queue number (commands.Dealloc d) (point_of c found es).state moment) → IsTrue d.deallocate → ClearsTables t now d.nsid (is_in_ranges d.ranges) →
-    IsHeld c found first (es ++ applied_entry queue number (commands.Dealloc d) (point_of c found es).state moment ∷ []) now
-held-deallocated c found first es t now queue number d moment h follows set clears =
+pub held-deallocated : (c : DriveConfig) (found : Found) (first : Spot → Option Written) (es : List Entry) (t now : Tables) (queue number : ℕ) (d : Dealloc) (moment : ℕ) (outline : Summary) →
+    IsHeld c found first es t → Follows true c (point_of c found es) (applied_entry queue number (commands.Dealloc d) (point_of c found es).state moment) → IsTrue d.deallocate → ClearsTables t now d.nsid (is_in_ranges d.ranges) → IsOutlineBehind c found es (applied_entry queue number (commands.Dealloc d) (point_of c found es).state moment) outline →
+    IsHeld c found first (es ++ applied_entry queue number (commands.Dealloc d) (point_of c found es).state moment ∷ []) (record now { outline = outline })
+held-deallocated c found first es t now queue number d moment outline h follows set clears behind =
     let bit : (λ (lba : ℕ). d.deallocate && is_in_ranges d.ranges lba) ≡ is_in_ranges d.ranges = (let with_bit : Bool → ℕ → Bool = λ b lba. b && is_in_ranges d.ranges lba in ap with_bit set) in
-    held-cleared c found first es t now queue number (commands.Dealloc d) moment d.nsid (λ lba. d.deallocate && is_in_ranges d.ranges lba) h follows refl (dealloc-is c (point_of c found es) queue number d moment) refl
+    held-cleared c found first es t now queue number (commands.Dealloc d) moment d.nsid (λ lba. d.deallocate && is_in_ranges d.ranges lba) outline h follows refl (dealloc-is c (point_of c found es) queue number d moment) refl
     (subst (λ (test : ℕ → Bool). ClearsTables t now d.nsid test) (sym bit) clears)
+    behind

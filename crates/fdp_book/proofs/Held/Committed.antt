@@ -16,11 +16,10 @@ use Rattle.fdp_base.specs.Numbers.{is_among, with_at}
 use Rattle.fdp_base.specs.Placement.{geometry_of}
 use Rattle.fdp_base.proofs.Writes.{write-is}
 use Rattle.fdp_book.specs.declared.flight.Flight.{Flight}
-use Rattle.fdp_book.specs.declared.tables.Setting.{Setting}
-use Rattle.fdp_book.specs.declared.tables.Sums.{Sums}
 use Rattle.fdp_book.specs.declared.tables.Tables.{Tables}
 use Rattle.fdp_book.specs.Flown.{place_in, with_pages}
-use Rattle.fdp_book.specs.Held.{AreSpacesOf, IsHeld, IsMapOf, IsSettingOf, flight_in, going_of, lead_in, page_in}
+use Rattle.fdp_book.specs.Held.{IsHeld, IsMapOf, flight_in, going_of, lead_in, page_in}
+use Rattle.fdp_book.specs.Outlined.{IsOutlineBehind}
 use Rattle.fdp_book.specs.Taking.{IsPageIn, MayTake}
 use Rattle.fdp_book.proofs.Committing.Points.{IsCommitted, blocks-count, blocks_with, committed}
 use Rattle.fdp_book.proofs.Flights.Flown.{page-sited}
@@ -28,9 +27,7 @@ use Rattle.fdp_book.proofs.Flights.Rows.{flight_in-set}
 use Rattle.fdp_book.proofs.Held.Ended.{flights-less, passes-same}
 use Rattle.fdp_book.proofs.Held.Next.{held-next}
 use Rattle.fdp_book.proofs.Held.Started.{copies-same}
-use Rattle.fdp_book.proofs.Held.Sums.{are_sums-push}
 use Rattle.fdp_book.proofs.Histories.Follows.{end-follows, write-succeeds}
-use Rattle.fdp_book.proofs.Kept.{setting-alike, spaces-alike}
 use Rattle.fdp_book.proofs.Leading.{live_of, page-led, pages-same}
 use Rattle.fdp_flash.proofs.Lists.{slice_get_there}
 use Rattle.fdp_readings.specs.fdp_locations.Located.{AreLed, LeadsTo}
@@ -55,7 +52,6 @@ use Rattle.fdp_rules.specs.PlainState.{Block, Going, Namespace, PageName.written
 use Rattle.fdp_rules.specs.Point.{Point}
 use Rattle.fdp_rules.specs.Sites.{is_there}
 use Rattle.fdp_rules.specs.Step.{Follows, MaySucceed}
-use Rattle.fdp_spaces.specs.SpaceTable.{SpaceTable}
 use Rattle.fdp_readings.proofs.fdp_trails.Grouping.{all-renamed}
 
 -- ---- the map
@@ -165,23 +161,21 @@ flight-lies c found first es t queue f h is there index spot e =
 
 -- the tables after the blocks of a flight took its pages
 pub record TakesPages (t now : Tables) (queue : ℕ) (f : Flight) (w : Write) : Type 0 where
-  pub sums : now.sums ≡ record t.sums { host_blocks = t.sums.host_blocks + w.count }
   pub put : mapped_at now.map ≡ with_pages (mapped_at t.map) w.nsid w.slba t.map.geometry f.pages.items w.count
   pub sizes : size_in now.map ≡ size_in t.map
   pub geometry : now.map.geometry ≡ t.map.geometry
   pub flights_are : now.flights.items ≡ slice_set t.flights.items queue None
   pub owners : (at : Behind Page) (k : ℕ) → MayTake at t.map t.pages k w.nsid w.slba f.pages.items → AreOwners (owner_at now.pages.owners) (renamed (taken_first k w.nsid w.slba w.count) at)
   pub pages : ChangesOwners t.pages now.pages
-  pub setting : now.setting ≡ t.setting
-  pub spaces : now.spaces ≡ t.spaces
 
-abbrev success : ℕ → Flight → ℕ → Entry
+-- the entry of a flight that succeeds
+abbrev pub success : ℕ → Flight → ℕ → Entry
 success queue f moment = host queue f.number f.room.command (bare statuses.SUCCESS true) moment
 
 pub held-committed : (c : DriveConfig) (found : Found) (first : Spot → Option Written) (es : List Entry) (t now : Tables) (queue moment : ℕ) (f : Flight) (w : Write) →
-    IsHeld c found first es t → flight_in t.flights.items queue ≡ Some f → MaySucceed c (point_of c found es) (going_of f) → write_of f.room.command ≡ Some w → TakesPages t now queue f w →
+    IsHeld c found first es t → flight_in t.flights.items queue ≡ Some f → MaySucceed c (point_of c found es) (going_of f) → write_of f.room.command ≡ Some w → TakesPages t now queue f w → IsOutlineBehind c found es (success queue f moment) now.outline →
     IsHeld c found first (es ++ success queue f moment ∷ []) now
-held-committed c found first es t now queue moment f w h is may write takes =
+held-committed c found first es t now queue moment f w h is may write takes outline =
     let e : Entry = success queue f moment in
     let p : Point = point_of c found es in
     let q : Point = next c p e in
@@ -190,7 +184,6 @@ held-committed c found first es t now queue moment f w h is may write takes =
     let there : queue < length t.flights.items = omega (arith, orderly.queue_is.1, h.flights_are.rows) in
     let done : IsCommitted c p q queue w = committed c p queue f.number f.room.command moment w write in
     let count : length f.pages.items ≡ w.count = may.placed ∙ blocks-count f.room.command w write in
-    let few : w.count ≤ 64 = omega (arith, orderly.count.1, h.config.ranges.blocks_per_command.1, blocks-count f.room.command w write) in
     let follows : Follows true c p e = end-follows true c p queue (going_of f) (bare statuses.SUCCESS true) moment orderly going (inr (inr (inl (may, write-succeeds true c p f.room.command orderly.write)))) in
     let command : f.room.command ≡ commands.Write w = write-is f.room.command w write in
     let r : Pointer → Option Pointer = taken_by queue w.nsid w.slba w.count in
@@ -199,19 +192,14 @@ held-committed c found first es t now queue moment f w h is may write takes =
     taken-all queue w.nsid w.slba w.count (owner_at now.pages.owners) pages.at
     (λ i past. no-page (pages.at (of_flight queue i)) (flight-page p.state t.map t.flights.items queue i f pages.at is may.there pages.leads ∙ none-behind f.pages.items i (omega (arith, past, count))))
     (takes.owners pages.at queue (may-take c found first es t queue f w h is may.there write)) in
-    let host_blocks : now.sums.host_blocks ≡ t.sums.host_blocks + w.count = ap (λ (x : Sums). x.host_blocks) takes.sums in
-    let media : now.sums.media_blocks ≡ t.sums.media_blocks = ap (λ (x : Sums). x.media_blocks) takes.sums in
-    let erases : now.sums.erases ≡ t.sums.erases = ap (λ (x : Sums). x.erases) takes.sums in
     let entry : (k : Command) → Entry = λ k. host queue f.number k (bare statuses.SUCCESS true) moment in
     held-next true c found first es e t now h follows
     (record {
-      setting_is = subst (λ (x : Setting). IsSettingOf q.state x) (sym takes.setting) (setting-alike p.state q.state t.setting done.alike h.setting_is);
-      spaces_are = subst (λ (x : SpaceTable). AreSpacesOf c q.state x) (sym takes.spaces) (spaces-alike c p.state q.state t.spaces done.alike h.spaces_are);
       map_is = map-committed c p.state q.state t.map now.map queue f w done.alike.namespaces done.blocks going count takes.put takes.sizes takes.geometry (flight-lies c found first es t queue f h is may.there) h.map_is;
       flights_are = flights-less c p.state q.state t.flights.items now.flights.items queue there done.alike done.going takes.flights_are h.flights_are;
       units_are = units-same c p.state q.state t.pages now.pages done.units (owners-alike t.pages now.pages takes.pages) takes.pages.handles h.units_are;
     })
-    (are_sums-push found es e t.sums now.sums h.sums_are (omega (arith, few, blocks-count f.room.command w write)) (omega arith) (omega arith) (omega (arith, host_blocks, blocks-count f.room.command w write)) (omega (arith, media)) (omega (arith, erases)))
+    outline
     (record {
       at = renamed r pages.at;
       led = subst (λ (k : Command). AreLed c (next c p (entry k)) (written_by c found first es) (renamed r pages.at) now.pages) (sym command)

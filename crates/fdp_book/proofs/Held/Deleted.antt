@@ -13,13 +13,15 @@ use Rattle.fdp_base.specs.Numbers.{with_at}
 use Rattle.fdp_book.specs.declared.flight.Flight.{Flight}
 use Rattle.fdp_book.specs.declared.tables.Tables.{Tables}
 use Rattle.fdp_book.specs.Held.{IsHeld, IsMapOf, flight_in, going_of, lead_in, page_in}
+use Rattle.fdp_book.specs.Outlined.{IsOutlineBehind}
 use Rattle.fdp_book.specs.Namespaces.{AreFlown, ArePointed, Deletes, goes_to, is_away, is_to}
 use Rattle.fdp_book.proofs.Clearing.{only-out}
 use Rattle.fdp_book.proofs.Held.Applied.{applied_entry, applied-going, held-applied}
 use Rattle.fdp_book.proofs.Held.Cleared.{told-mapped}
 use Rattle.fdp_book.proofs.Held.Ended.{passes-same}
-use Rattle.fdp_book.proofs.Held.Spaced.{at-read, flights-put, page-gone, page-other, spaces-put, there-put}
+use Rattle.fdp_book.proofs.Held.Spaced.{at-read, flights-put, page-gone, page-other, there-put}
 use Rattle.fdp_book.proofs.Leading.{flown-known, nsid-known}
+use Rattle.fdp_book.proofs.Outlining.{namespaces-said}
 use Rattle.fdp_readings.specs.fdp_locations.Located.{LeadsTo}
 use Rattle.fdp_readings.specs.fdp_locations.Written.{Written}
 use Rattle.fdp_readings.proofs.fdp_locations.Units.{HasSameUnits, owners-alike, owners-next, units-same}
@@ -36,13 +38,14 @@ use Rattle.fdp_rules.specs.Next.{next}
 use Rattle.fdp_rules.specs.PlainState.{Block, Going, Namespace, PlainState}
 use Rattle.fdp_rules.specs.Point.{Point}
 use Rattle.fdp_rules.specs.Step.{Follows}
+use Rattle.fdp_snapshot.specs.declared.state.Summary.{Summary}
 
 -- ---- where the pointers lead before
 
-told-flown : (c : DriveConfig) (found : Found) (first : Spot → Option Written) (es : List Entry) (t : Tables) → (h : IsHeld c found first es t) → AreFlown h.pages_are.at t.spaces t.flights.items t.pages
+told-flown : (c : DriveConfig) (found : Found) (first : Spot → Option Written) (es : List Entry) (t : Tables) → (h : IsHeld c found first es t) → AreFlown h.pages_are.at t.outline t.flights.items t.pages
 told-flown c found first es t h = record {
   owned = h.pages_are.led.owned;
-  flown = λ queue. flown-known (point_of c found es).state t.map t.spaces t.flights.items h.pages_are.at queue h.spaces_are.namespaces h.pages_are.leads;
+  flown = λ queue. flown-known (point_of c found es).state t.map t.outline t.flights.items h.pages_are.at queue (namespaces-said c (point_of c found es) t.outline h.outline_is) h.pages_are.leads;
 }
 
 pub are-pointed : (c : DriveConfig) (found : Found) (first : Spot → Option Written) (es : List Entry) (t : Tables) → IsHeld c found first es t → ArePointed t
@@ -52,9 +55,6 @@ are-pointed c found first es t h = record { at = h.pages_are.at; mapped = told-m
 
 -- what a state keeps of which a namespace is deleted
 record IsDeleted (s n : PlainState) (nsid : ℕ) : Type 0 where
-  enabled : n.enabled ≡ s.enabled
-  index : n.index ≡ s.index
-  generation : n.generation ≡ s.generation
   namespaces : n.namespaces ≡ with_at s.namespaces nsid None
   blocks : n.blocks ≡ (λ k lba. if k == nsid && true then None else s.blocks k lba)
   units : HasSameUnits s n
@@ -62,9 +62,6 @@ record IsDeleted (s n : PlainState) (nsid : ℕ) : Type 0 where
 deleted-is : (c : DriveConfig) (p : Point) (queue number : ℕ) (d : Delete) (moment : ℕ) → IsDeleted p.state (next c p (applied_entry queue number (commands.Delete d) p.state moment)).state d.nsid
 unfolding next after changed_by effect_of
 deleted-is c p queue number d moment = record {
-  enabled = refl;
-  index = refl;
-  generation = refl;
   namespaces = refl;
   blocks = refl;
   units = record { enabled = refl; index = refl; references = refl; is_lost = refl; is_worn = refl };
@@ -140,27 +137,26 @@ leads-deleted s n t now flights nsid at is deletes going h (of_flight q i) =
         ap (λ (b : Bool). option_map (λ (y : Page). y.spot) (if b then None else at (of_flight q i))) (ne_eqb (nsid_of f.room.command) nsid ne) ∙ led ∙ sym (page-other s n nsid i None f is.namespaces ne))
         (cases_eq (nsid_of f.room.command) nsid)
 
-pub held-deleted : (c : DriveConfig) (found : Found) (first : Spot → Option Written) (es : List Entry) (t now : Tables) (queue number : ℕ) (d : Delete) (moment : ℕ) →
+pub held-deleted : (c : DriveConfig) (found : Found) (first : Spot → Option Written) (es : List Entry) (t now : Tables) (queue number : ℕ) (d : Delete) (moment : ℕ) (outline : Summary) →
     IsHeld c found first es t → Follows true c (point_of c found es) (applied_entry queue number (commands.Delete d) (point_of c found es).state moment) → Deletes t now d.nsid →
-    IsHeld c found first (es ++ applied_entry queue number (commands.Delete d) (point_of c found es).state moment ∷ []) now
-held-deleted c found first es t now queue number d moment h follows deletes =
+    IsOutlineBehind c found es (applied_entry queue number (commands.Delete d) (point_of c found es).state moment) outline →
+    IsHeld c found first (es ++ applied_entry queue number (commands.Delete d) (point_of c found es).state moment ∷ []) (record now { outline = outline })
+held-deleted c found first es t now queue number d moment outline h follows deletes behind =
     let p : Point = point_of c found es in
     let e : Entry = applied_entry queue number (commands.Delete d) p.state moment in
     let q : Point = next c p e in
     let at : Behind Page = h.pages_are.at in
-    let mid : Tables = record t { spaces = now.spaces; map = now.map; pages = now.pages } in
+    let mid : Tables = record t { outline = outline; map = now.map; pages = now.pages } in
     let is : IsDeleted p.state q.state d.nsid = deleted-is c p queue number d moment in
-    subst (λ (x : Tables). IsHeld c found first (es ++ e ∷ []) x) (sym deletes.rest)
+    subst (λ (x : Tables). IsHeld c found first (es ++ e ∷ []) (record x { outline = outline })) (sym deletes.rest)
     (held-applied c found first es t mid queue number (commands.Delete d) moment h follows refl
     (record {
-      setting_is = record { enabled = is.enabled ∙ h.setting_is.enabled; index = is.index ∙ h.setting_is.index; generation = is.generation ∙ h.setting_is.generation };
-      spaces_are = spaces-put c p.state q.state t.spaces now.spaces d.nsid None is.namespaces deletes.namespaces deletes.groups h.spaces_are;
       map_is = map-deleted c p.state q.state t now d.nsid is deletes h.map_is;
       flights_are = flights-put c p.state q.state t.flights.items d.nsid None is.namespaces (applied-going c p queue number (commands.Delete d) moment refl) (λ k f there own. refl) h.flights_are;
       units_are = units-same c p.state q.state t.pages now.pages is.units (owners-alike t.pages now.pages deletes.pages.changes) deletes.pages.changes.handles h.units_are;
     })
+    behind
     (record {
-      sums = refl;
       owned = subst (λ (test : Pointer → Bool). AreOwners (owner_at now.pages.owners) (renamed (only test) at)) (λ k x. away-known p.state t.flights.items d.nsid h.flights_are.going x k) (deletes.owners at (told-mapped c found first es t h) (told-flown c found first es t h));
       up = λ unit. omega (arith, owners-next t.pages now.pages deletes.pages.changes unit);
       passes = passes-same t.pages now.pages deletes.pages.changes.passes;

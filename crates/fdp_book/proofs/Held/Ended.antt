@@ -1,6 +1,6 @@
 -- What the end of a command whose change is not made leaves of the tables.
 use Rattle.std.proofs.Common.{◌≡◌, ℕ, ◌+◌, ◌<◌, Bool, List, [], ◌∷◌, ◌++◌, length, Option, Some, None, slice_set, refl, sym, ◌∙◌, ap, subst, arith, cond, inl}
-use Rattle.std.specs.Prelude.{IsFalse, IsTrue, if◌then◌else◌}
+use Rattle.std.specs.Prelude.{IsFalse, IsTrue, if◌then◌else◌, not}
 use Rattle.std.proofs.Math.ListN.{length-set}
 use Rattle.fdp_base.specs.declared.command.Command.{Command}
 use Rattle.fdp_base.specs.declared.config.DriveConfig.{DriveConfig}
@@ -10,19 +10,19 @@ use Rattle.fdp_base.specs.declared.entry.Spot.{Spot}
 use Rattle.fdp_base.specs.CommandKinds.{is_write}
 use Rattle.fdp_base.specs.Numbers.{with_at}
 use Rattle.fdp_book.specs.declared.flight.Flight.{Flight}
-use Rattle.fdp_book.specs.declared.tables.Sums.{Sums}
 use Rattle.fdp_book.specs.declared.tables.Tables.{Tables}
 use Rattle.fdp_book.specs.Forgetting.{Forgets}
-use Rattle.fdp_book.specs.Held.{AreFlightsOf, AreSpacesOf, AreSumsOf, IsHeld, IsMapOf, IsSettingOf, flight_in, going_of, lead_in}
+use Rattle.fdp_book.specs.Held.{AreFlightsOf, IsHeld, IsMapOf, flight_in, going_of, lead_in}
+use Rattle.fdp_book.specs.Outlined.{Counts, IsOutlineBehind}
 use Rattle.fdp_book.proofs.Flights.Rows.{flown-set, going-set}
 use Rattle.fdp_book.proofs.Held.Next.{held-after}
 use Rattle.fdp_history.specs.Listed.{IsListed}
 use Rattle.fdp_history.proofs.Listing.{unmade-listed}
 use Rattle.fdp_book.proofs.Held.Started.{copies-same}
-use Rattle.fdp_book.proofs.Held.Sums.{are_sums-push}
 use Rattle.fdp_book.proofs.Held.Unmade.{led-unmade, named-ended, named-same}
-use Rattle.fdp_book.proofs.Kept.{IsAlike, flight-alike, flights-alike, map-alike, setting-alike, spaces-alike}
+use Rattle.fdp_book.proofs.Kept.{IsAlike, flight-alike, flights-alike, map-alike}
 use Rattle.fdp_book.proofs.Leading.{its-pages, leads-same, leads-without, live-known, live_of}
+use Rattle.fdp_book.proofs.Outlining.{behind-counted, namespaces-said}
 use Rattle.fdp_history.proofs.Points.{orderly-ended}
 use Rattle.fdp_history.proofs.Standing.{standing-ended}
 use Rattle.fdp_readings.specs.fdp_locations.Located.{LeadsTo}
@@ -43,7 +43,7 @@ use Rattle.fdp_rules.specs.PlainState.{Going, PlainState}
 use Rattle.fdp_rules.specs.Point.{Point}
 use Rattle.fdp_rules.specs.Sites.{is_there}
 use Rattle.fdp_rules.specs.Step.{IsOnTarget, IsQueue}
-use Rattle.fdp_rules.specs.Totals.{host_blocks_of}
+use Rattle.fdp_snapshot.specs.declared.state.Summary.{Summary}
 use Rattle.fdp_readings.specs.fdp_trails.Followed.{IsPassOf}
 use Rattle.fdp_readings.proofs.fdp_trails.Grouping.{all-renamed}
 
@@ -86,13 +86,10 @@ ended-kept c p queue number command reply moment unmade =
 ended-going : (c : DriveConfig) (p : Point) (queue number : ℕ) (command : Command) (reply : Reply) (moment : ℕ) → IsFalse reply.applied → (next c p (host queue number command reply moment)).state.going ≡ (if is_write command then with_at p.state.going queue None else p.state.going)
 ended-going c p queue number command reply moment unmade = ap (λ (s : PlainState). s.going) (ended-state c p queue number command reply moment unmade)
 
-unapplied-blocks : (queue number : ℕ) (command : Command) (reply : Reply) (moment : ℕ) → IsFalse reply.applied → host_blocks_of (host queue number command reply moment) ≡ 0
-unapplied-blocks queue number command reply moment unmade = rw unmade refl
-
-sums-ended : (found : Found) (es : List Entry) (x : Sums) (queue number : ℕ) (command : Command) (reply : Reply) (moment : ℕ) → IsFalse reply.applied → AreSumsOf found es x → AreSumsOf found (es ++ host queue number command reply moment ∷ []) x
-sums-ended found es x queue number command reply moment unmade h =
-    let none = unapplied-blocks queue number command reply moment unmade in
-    are_sums-push found es (host queue number command reply moment) x x h (omega (arith, none)) (omega arith) (omega arith) (omega (arith, none)) (omega arith) (omega arith)
+-- the outline behind it only counts
+outline-ended : (c : DriveConfig) (found : Found) (first : Spot → Option Written) (es : List Entry) (t : Tables) (outline : Summary) (queue number : ℕ) (command : Command) (reply : Reply) (moment : ℕ) → IsHeld c found first es t → IsFalse reply.applied → Counts 0 0 t.outline outline → IsOutlineBehind c found es (host queue number command reply moment) outline
+outline-ended c found first es t outline queue number command reply moment h unmade counts =
+    behind-counted c found es (host queue number command reply moment) t.outline outline (ap not unmade) h.orderly h.standing (λ wrong. absurd cc) h.outline_is h.few counts
 
 -- a flight less
 pub flights-less : (c : DriveConfig) (s n : PlainState) (flights new : List (Option Flight)) (queue : ℕ) → queue < length flights → IsAlike s n → n.going ≡ with_at s.going queue None → new ≡ slice_set flights queue None → AreFlightsOf c s flights → AreFlightsOf c n new
@@ -114,10 +111,10 @@ unfolding next
 listed-ended c p queue number command reply moment h unmade = unmade-listed c p.state (host queue number command reply moment) unmade h
 
 -- the end of a write: none is going in its queue any more
-pub held-ended : (c : DriveConfig) (found : Found) (first : Spot → Option Written) (es : List Entry) (t now : Tables) (queue number : ℕ) (command : Command) (reply : Reply) (moment : ℕ) (old : Option Flight) →
-    IsHeld c found first es t → IsQueue c queue → IsTrue (is_write command) → IsFalse reply.applied → Forgets t now queue old →
-    IsHeld c found first (es ++ host queue number command reply moment ∷ []) now
-held-ended c found first es t now queue number command reply moment old h queue_is write unmade forgets =
+pub held-ended : (c : DriveConfig) (found : Found) (first : Spot → Option Written) (es : List Entry) (t now : Tables) (outline : Summary) (queue number : ℕ) (command : Command) (reply : Reply) (moment : ℕ) (old : Option Flight) →
+    IsHeld c found first es t → IsQueue c queue → IsTrue (is_write command) → IsFalse reply.applied → Forgets t now queue old → Counts 0 0 t.outline outline →
+    IsHeld c found first (es ++ host queue number command reply moment ∷ []) (record now { outline = outline })
+held-ended c found first es t now outline queue number command reply moment old h queue_is write unmade forgets counts =
     let e : Entry = host queue number command reply moment in
     let p : Point = point_of c found es in
     let q : Point = next c p e in
@@ -127,17 +124,15 @@ held-ended c found first es t now queue number command reply moment old h queue_
     let r : Pointer → Option Pointer = only (is_of_another queue) in
     let going : q.state.going ≡ with_at p.state.going queue None = ended-going c p queue number command reply moment unmade ∙ ap (λ (b : Bool). if b then with_at p.state.going queue None else p.state.going) write in
     let owners : owner_at now.pages.owners ≡ without (owner_at t.pages.owners) (live_of p.state (flight_in t.flights.items queue)) =
-    forgets.owners ∙ ap (without (owner_at t.pages.owners)) (live-known p.state t.spaces (flight_in t.flights.items queue) h.spaces_are.namespaces) in
+    forgets.owners ∙ ap (without (owner_at t.pages.owners)) (live-known p.state t.outline (flight_in t.flights.items queue) (namespaces-said c p t.outline h.outline_is)) in
     let is : ended_by p.state queue reply.applied command ≡ r = ends-as p.state queue reply.applied command unmade ∙ ap (λ (b : Bool). if b then r else Some) write in
-    held-after c found first es e t now h (orderly-ended c p queue number command reply moment h.orderly unmade) (standing-ended c p queue number command reply moment h.orderly h.standing unmade) (listed-ended c p queue number command reply moment h.listed unmade)
+    held-after c found first es e t (record now { outline = outline }) h (orderly-ended c p queue number command reply moment h.orderly unmade) (standing-ended c p queue number command reply moment h.orderly h.standing unmade) (listed-ended c p queue number command reply moment h.listed unmade)
     (record {
-      setting_is = subst (λ (x : Tables). IsSettingOf q.state x.setting) (sym forgets.rest) (setting-alike p.state q.state t.setting kept.alike h.setting_is);
-      spaces_are = subst (λ (x : Tables). AreSpacesOf c q.state x.spaces) (sym forgets.rest) (spaces-alike c p.state q.state t.spaces kept.alike h.spaces_are);
       map_is = subst (λ (x : Tables). IsMapOf c q.state x.map) (sym forgets.rest) (map-alike c p.state q.state t.map kept.alike kept.blocks h.map_is);
       flights_are = flights-less c p.state q.state t.flights.items now.flights.items queue there kept.alike going forgets.flights_are h.flights_are;
       units_are = units-same c p.state q.state t.pages now.pages kept.units (owners-alike t.pages now.pages forgets.pages) forgets.pages.handles h.units_are;
     })
-    (subst (λ (x : Tables). AreSumsOf found (es ++ e ∷ []) x.sums) (sym forgets.rest) (sums-ended found es t.sums queue number command reply moment unmade h.sums_are))
+    (outline-ended c found first es t outline queue number command reply moment h unmade counts)
     (record {
       at = renamed r pages.at;
       led = led-unmade c p queue number command reply moment (written_by c found first es) r pages.at t.pages now.pages h.orderly.state unmade is
@@ -152,11 +147,11 @@ held-ended c found first es t now queue number command reply moment old h queue_
           (leads-without p.state q.state t.map t.flights.items now.flights.items queue None pages.at kept.alike.namespaces there forgets.flights_are (λ x none. absurd cc) pages.leads);
     })
 
--- the answer to another command: all stays
-pub held-answered : (c : DriveConfig) (found : Found) (first : Spot → Option Written) (es : List Entry) (t : Tables) (queue number : ℕ) (command : Command) (reply : Reply) (moment : ℕ) →
-    IsHeld c found first es t → IsFalse (is_write command) → IsFalse reply.applied →
-    IsHeld c found first (es ++ host queue number command reply moment ∷ []) t
-held-answered c found first es t queue number command reply moment h other unmade =
+-- the answer to another command: all else stays
+pub held-answered : (c : DriveConfig) (found : Found) (first : Spot → Option Written) (es : List Entry) (t : Tables) (outline : Summary) (queue number : ℕ) (command : Command) (reply : Reply) (moment : ℕ) →
+    IsHeld c found first es t → IsFalse (is_write command) → IsFalse reply.applied → Counts 0 0 t.outline outline →
+    IsHeld c found first (es ++ host queue number command reply moment ∷ []) (record t { outline = outline })
+held-answered c found first es t outline queue number command reply moment h other unmade counts =
     let e : Entry = host queue number command reply moment in
     let p : Point = point_of c found es in
     let q : Point = next c p e in
@@ -164,15 +159,13 @@ held-answered c found first es t queue number command reply moment h other unmad
     let pages = h.pages_are in
     let going : q.state.going ≡ p.state.going = ended-going c p queue number command reply moment unmade ∙ ap (λ (b : Bool). if b then with_at p.state.going queue None else p.state.going) other in
     let is : ended_by p.state queue reply.applied command ≡ Some = ends-as p.state queue reply.applied command unmade ∙ ap (λ (b : Bool). if b then only (is_of_another queue) else Some) other in
-    held-after c found first es e t t h (orderly-ended c p queue number command reply moment h.orderly unmade) (standing-ended c p queue number command reply moment h.orderly h.standing unmade) (listed-ended c p queue number command reply moment h.listed unmade)
+    held-after c found first es e t (record t { outline = outline }) h (orderly-ended c p queue number command reply moment h.orderly unmade) (standing-ended c p queue number command reply moment h.orderly h.standing unmade) (listed-ended c p queue number command reply moment h.listed unmade)
     (record {
-      setting_is = setting-alike p.state q.state t.setting kept.alike h.setting_is;
-      spaces_are = spaces-alike c p.state q.state t.spaces kept.alike h.spaces_are;
       map_is = map-alike c p.state q.state t.map kept.alike kept.blocks h.map_is;
       flights_are = flights-alike c p.state q.state t.flights.items kept.alike going h.flights_are;
       units_are = units-same c p.state q.state t.pages t.pages kept.units (alike-self t.pages.units) refl h.units_are;
     })
-    (sums-ended found es t.sums queue number command reply moment unmade h.sums_are)
+    (outline-ended c found first es t outline queue number command reply moment h unmade counts)
     (record {
       at = pages.at;
       led = led-unmade c p queue number command reply moment (written_by c found first es) Some pages.at t.pages t.pages h.orderly.state unmade is pages.led.owned (named-same p.state q.state pages.at going pages.led.named) (λ unit. omega arith)

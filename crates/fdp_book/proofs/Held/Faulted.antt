@@ -1,18 +1,19 @@
 -- A write whose change was made may be answered with Write Fault, since its saving failed: the tables stand for that history too.
-use Rattle.std.proofs.Common.{◌≡◌, ◌⊎◌, ℕ, ◌≤◌, true, List, [], ◌∷◌, ◌++◌, length, Option, refl, sym, ◌∙◌, ap, subst, arith, ⊎_elim}
+use Rattle.std.proofs.Common.{◌≡◌, ◌⊎◌, ℕ, ◌+◌, ◌≤◌, true, List, [], ◌∷◌, ◌++◌, length, Option, refl, sym, ◌∙◌, ap, subst, arith, length-append, ⊎_elim}
 use Rattle.std.specs.Prelude.{if◌then◌else◌, option_map}
 use Rattle.fdp_base.specs.declared.command.Command.{Command}
 use Rattle.fdp_base.specs.declared.config.DriveConfig.{DriveConfig}
 use Rattle.fdp_base.specs.declared.entry.Entry.{Entry}
 use Rattle.fdp_base.specs.declared.entry.Spot.{Spot}
+use Rattle.fdp_base.specs.declared.entry.Totals.{Totals}
 use Rattle.fdp_base.specs.declared.status.Status.{Status}
 use Rattle.fdp_base.specs.declared.status.TheConstants.Status as statuses
 use Rattle.fdp_book.specs.declared.tables.Tables.{Tables}
 use Rattle.fdp_book.specs.Held.{ArePagesOf, IsHeld, IsHeldAt}
+use Rattle.fdp_book.specs.Outlined.{AreFew, IsOutlineAt}
 use Rattle.fdp_book.specs.Room.{told_reply}
 use Rattle.fdp_book.proofs.Held.Next.{AreTablesOf, held-after}
-use Rattle.fdp_book.proofs.Held.Sums.{are_sums-alike}
-use Rattle.fdp_book.proofs.Kept.{IsAlike, flights-alike, map-alike, setting-alike, spaces-alike}
+use Rattle.fdp_book.proofs.Kept.{IsAlike, flights-alike, map-alike}
 use Rattle.fdp_book.proofs.Leading.{leads-same}
 use Rattle.fdp_history.proofs.Changed.{unit-kept, with-parts}
 use Rattle.fdp_history.specs.Listed.{IsListed}
@@ -104,12 +105,17 @@ tables-media : (c : DriveConfig) (s : PlainState) (media : List ℕ) (t : Tables
 tables-media c s media t h =
     let alike = alike-media s media in
     record {
-      setting_is = setting-alike s (media_in s media) t.setting alike h.setting_is;
-      spaces_are = spaces-alike c s (media_in s media) t.spaces alike h.spaces_are;
       map_is = map-alike c s (media_in s media) t.map alike refl h.map_is;
       flights_are = flights-alike c s (media_in s media) t.flights.items alike refl h.flights_are;
       units_are = units-same c s (media_in s media) t.pages t.pages (record { enabled = refl; index = refl; references = refl; is_lost = refl; is_worn = refl }) (alike-self t.pages.units) refl h.units_are;
     }
+
+-- with another last entry the sums are as few
+few-alike : (es : List Entry) (d e : Entry) (t : Totals) → AreFew (es ++ d ∷ []) t → AreFew (es ++ e ∷ []) t
+few-alike es d e t h =
+    let old : length (es ++ d ∷ []) ≡ length es + 1 = length-append es (d ∷ []) in
+    let count : length (es ++ e ∷ []) ≡ length es + 1 = length-append es (e ∷ []) in
+    record { few_host_blocks = omega (arith, h.few_host_blocks, old, count); few_media_blocks = omega (arith, h.few_media_blocks, old, count); few_erases = omega (arith, h.few_erases, old, count) }
 
 -- ---- one answer in the place of another
 
@@ -135,16 +141,16 @@ module _ (c : DriveConfig) (found : Found) (first : Spot → Option Written) (es
   held-faulted a b old t was h =
       let done : Entry = answered statuses.SUCCESS a in
       let q : Point = next c p done in
-      let at : IsHeldAt c found (es ++ done ∷ []) q (written_by c found first es) t =
-      subst (λ (x : Point). IsHeldAt c found (es ++ done ∷ []) x (written_by c found first es) t) (point_of-push c found es done)
-      (subst (λ (w : Spot → Option Written). IsHeldAt c found (es ++ done ∷ []) (point_of c found (es ++ done ∷ [])) w t) (written_by-push c found first es done) h) in
+      let at : IsHeldAt c (es ++ done ∷ []) q (written_by c found first es) t =
+      subst (λ (x : Point). IsHeldAt c (es ++ done ∷ []) x (written_by c found first es) t) (point_of-push c found es done)
+      (subst (λ (w : Spot → Option Written). IsHeldAt c (es ++ done ∷ []) (point_of c found (es ++ done ∷ [])) w t) (written_by-push c found first es done) h) in
       let to : (X : Point → Type 0) → X (with_media q media) → X (next c p (answered statuses.WRITE_FAULT b)) = λ X x. subst X (sym (faulted-point a b)) x in
       held-after c found first es (answered statuses.WRITE_FAULT b) old t was
       (to (IsOrderly c) (orderly-media c q media (few-media a was.orderly) at.orderly))
       (to (IsStanding c) (standing-media c q media at.standing))
       (to (λ x. IsListed c x.state) (listed-media c q.state media at.listed))
-      (to (λ x. AreTablesOf c x.state t) (tables-media c q.state media t (record { setting_is = at.setting_is; spaces_are = at.spaces_are; map_is = at.map_is; flights_are = at.flights_are; units_are = at.units_are })))
-      (are_sums-alike found es done (answered statuses.WRITE_FAULT b) t.sums refl refl refl at.sums_are)
+      (to (λ x. AreTablesOf c x.state t) (tables-media c q.state media t (record { map_is = at.map_is; flights_are = at.flights_are; units_are = at.units_are })))
+      (record { at = to (λ x. IsOutlineAt c x t.outline) (record { outline = at.outline_is.outline; totals = at.outline_is.totals }); few = few-alike es done (answered statuses.WRITE_FAULT b) t.outline.totals at.few })
       (to (λ x. ArePagesOf c x (written_by c found first es) t.map t.flights.items t.pages)
       (record {
         at = at.pages_are.at;

@@ -6,20 +6,20 @@ use Rattle.std.proofs.lemmas.List.{length-replicate}
 use Rattle.fdp_base.specs.declared.config.DriveConfig.{DriveConfig}
 use Rattle.fdp_base.specs.declared.entry.Copied.{Copied}
 use Rattle.fdp_base.specs.declared.entry.Spot.{Spot}
+use Rattle.fdp_base.specs.declared.entry.Totals.{Totals}
 use Rattle.fdp_base.specs.Config.{IsValidConfig}
 use Rattle.fdp_base.specs.Placement.{classes_of}
 use Rattle.fdp_book.specs.declared.flight.Flight.{Flight}
-use Rattle.fdp_book.specs.declared.tables.Setting.{Setting}
-use Rattle.fdp_book.specs.declared.tables.Sums.{Sums}
 use Rattle.fdp_book.specs.declared.tables.Tables.{Tables}
 use Rattle.fdp_book.specs.Book.{AreUnused}
-use Rattle.fdp_book.specs.Configured.{AreConfiguredSpaces, IsConfiguredMap, fresh_opening}
+use Rattle.fdp_book.specs.Configured.{IsConfiguredMap, fresh_opening}
 use Rattle.fdp_base.specs.Geometry.{all_pages}
 use Rattle.fdp_base.specs.Placement.{geometry_of}
 use Rattle.fdp_readings.specs.fdp_locations.Held.{no_pages, pages_held}
 use Rattle.fdp_readings.specs.fdp_locations.Written.{Written}
 use Rattle.fdp_readings.proofs.fdp_locations.Held.{held-blank}
-use Rattle.fdp_book.specs.Held.{AreFlightsOf, ArePagesOf, AreSumsOf, IsHeld, IsMapOf, flight_in, going_of, lead_in, page_in}
+use Rattle.fdp_book.specs.Held.{AreFlightsOf, ArePagesOf, IsHeld, IsMapOf, flight_in, going_of, lead_in, page_in}
+use Rattle.fdp_book.specs.Outlined.{AreFew, IsOutlineAt}
 use Rattle.fdp_history.proofs.Fresh.{orderly-fresh, standing-fresh}
 use Rattle.fdp_history.proofs.Listing.{listed-fresh}
 use Rattle.fdp_readings.specs.fdp_locations.Located.{AreUnitsOf}
@@ -36,8 +36,14 @@ use Rattle.fdp_passes.specs.Due.{copies_in}
 use Rattle.fdp_pointers.specs.Facts.{Page}
 use Rattle.fdp_pointers.specs.Pointers.{Pointer, Pointer.of_block, Pointer.of_flight}
 use Rattle.fdp_pointers.proofs.Opening.{table-fresh}
-use Rattle.fdp_rules.specs.History.{first_state, fresh, point_of, state_of}
+use Rattle.fdp_rules.specs.Events.{kept_from}
+use Rattle.fdp_rules.specs.History.{controller_events_of, events_of, first_state, fresh, host_events_of, point_of, state_of, totals_of}
 use Rattle.fdp_readings.proofs.fdp_trails.Following.{pass-ended}
+use Rattle.fdp_image.specs.Reading.{Reading}
+use Rattle.fdp_image.specs.Reads.{fresh_reading}
+use Rattle.fdp_outline.specs.Outline.{IsOutlineOf}
+use Rattle.fdp_readings.specs.Drawn.{drawn}
+use Rattle.fdp_snapshot.specs.declared.state.Summary.{Summary}
 use Rattle.fdp_units.specs.declared.data_unit.DataUnit.{DataUnit}
 use Rattle.fdp_units.specs.DataUnits.{is_lost}
 use Rattle.fdp_units.specs.UnitTable.{Cut, cut_of, unit_at}
@@ -69,6 +75,18 @@ no-copy o p copy is none has =
     let empty : copies_in p ≡ [] = ap (λ (x : Option Pass). copies_in (record p { pass = x })) (is ∙ none) in
     let has_none : Contains [] copy = subst (λ (xs : List Copied). Contains xs copy) empty has in
     omega (arith, has_none.1)
+
+-- a fresh drive draws what it says
+drawn-fresh : (c : DriveConfig) → drawn c (point_of c (fresh c) []) ≡ fresh_reading c
+unfolding fresh fresh_reading first_state point_of state_of totals_of host_events_of controller_events_of events_of kept_from
+drawn-fresh c = refl
+
+-- the outline of what it says is that of its beginning
+pub outline-fresh : (c : DriveConfig) (s : Summary) → IsOutlineOf c (fresh_reading c) s → s.totals ≡ (fresh_reading c).totals → IsOutlineAt c (point_of c (fresh c) []) s
+outline-fresh c s outline totals = record {
+  outline = subst (λ (r : Reading). IsOutlineOf c r s) (sym (drawn-fresh c)) outline;
+  totals = totals ∙ sym (ap (λ (r : Reading). r.totals) (drawn-fresh c));
+}
 
 module _ (c : DriveConfig) (valid : IsValidConfig c) where
   flights-fresh : AreFlightsOf c (point_of c (fresh c) []).state (replicate (c.queues + 1) None)
@@ -128,20 +146,26 @@ module _ (c : DriveConfig) (valid : IsValidConfig c) where
       leads (of_block nsid lba) = sym (ap (option_map (λ (x : Mapped). x.spot)) (m.absent nsid lba))
       leads (of_flight queue index) = sym (ap (option_and_then (page_in (point_of c (fresh c) []).state index)) (none_in (c.queues + 1) queue))
 
+  few-fresh : (s : Summary) → IsOutlineAt c (point_of c (fresh c) []) s → AreFew [] s.totals
+  unfolding point_of totals_of fresh
+  few-fresh s h = record {
+    few_host_blocks = omega (arith, ap (λ (t : Totals). t.host_blocks) h.totals);
+    few_media_blocks = omega (arith, ap (λ (t : Totals). t.media_blocks) h.totals);
+    few_erases = omega (arith, ap (λ (t : Totals). t.erases) h.totals);
+  }
+
   -- the tables of a book that was made for a configuration
   pub held-fresh : (tables : Tables) →
-      tables.setting ≡ record { enabled = c.enabled; index = c.index; generation = 0 } → tables.sums ≡ record { host_blocks = 0; media_blocks = 0; erases = 0 } →
-      AreConfiguredSpaces c tables.spaces → AreFreshPages c tables.pages → IsConfiguredMap c tables.map → tables.flights.items ≡ replicate (c.queues + 1) None →
+      IsOutlineAt c (point_of c (fresh c) []) tables.outline → AreFreshPages c tables.pages → IsConfiguredMap c tables.map → tables.flights.items ≡ replicate (c.queues + 1) None →
       IsHeld c (fresh c) (pages_held c (fresh_opening c).cells) [] tables
-  unfolding point_of state_of first_state fresh
-  held-fresh tables setting sums s pages m f = subst (λ (first : Spot → Option Written). IsHeld c (fresh c) first [] tables) (sym (held-blank c (all_pages (geometry_of c)))) (record {
+  unfolding point_of state_of first_state
+  held-fresh tables outline pages m f = subst (λ (first : Spot → Option Written). IsHeld c (fresh c) first [] tables) (sym (held-blank c (all_pages (geometry_of c)))) (record {
     config = valid;
     orderly = orderly-fresh c valid;
     standing = standing-fresh c;
     listed = listed-fresh c valid;
-    setting_is = record { enabled = sym (ap (λ (x : Setting). x.enabled) setting); index = sym (ap (λ (x : Setting). x.index) setting); generation = sym (ap (λ (x : Setting). x.generation) setting) };
-    sums_are = subst (λ (x : Sums). AreSumsOf (fresh c) [] x) (sym sums) (record { host_blocks_are = refl; media_blocks_are = refl; erases_are = refl; few_host_blocks = omega arith; few_media_blocks = omega arith; few_erases = omega arith });
-    spaces_are = record { groups = sym s.groups; namespaces = λ nsid. sym (s.namespaces nsid) };
+    outline_is = outline;
+    few = few-fresh tables.outline outline;
     map_is = map-fresh tables.map m;
     flights_are = subst (λ (xs : List (Option Flight)). AreFlightsOf c (point_of c (fresh c) []).state xs) (sym f) flights-fresh;
     units_are = units-fresh tables.pages pages;

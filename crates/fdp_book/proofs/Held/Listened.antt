@@ -1,4 +1,4 @@
--- What a setting of events leaves of the tables: all.
+-- What a setting of events leaves of the tables: all but the outline.
 use Rattle.std.proofs.Common.{◌≡◌, ℕ, true, List, [], ◌∷◌, ◌++◌, Option, refl, arith}
 use Rattle.fdp_base.specs.declared.command.Command.TheVariants as commands
 use Rattle.fdp_base.specs.declared.command.SetEvents.{SetEvents}
@@ -7,8 +7,9 @@ use Rattle.fdp_base.specs.declared.entry.Entry.{Entry}
 use Rattle.fdp_base.specs.declared.entry.Spot.{Spot}
 use Rattle.fdp_book.specs.declared.tables.Tables.{Tables}
 use Rattle.fdp_book.specs.Held.{IsHeld}
+use Rattle.fdp_book.specs.Outlined.{IsOutlineBehind}
 use Rattle.fdp_book.proofs.Held.Applied.{applied_entry, applied-going, held-applied}
-use Rattle.fdp_book.proofs.Kept.{IsAlike, flights-alike, map-alike, setting-alike, spaces-alike}
+use Rattle.fdp_book.proofs.Kept.{IsAlike, flights-alike, map-alike}
 use Rattle.fdp_book.proofs.Leading.{leads-same}
 use Rattle.fdp_readings.specs.fdp_locations.Written.{Written}
 use Rattle.fdp_readings.proofs.fdp_locations.Units.{HasSameUnits, alike-self, units-same}
@@ -19,6 +20,7 @@ use Rattle.fdp_rules.specs.Next.{next}
 use Rattle.fdp_rules.specs.PlainState.{PlainState}
 use Rattle.fdp_rules.specs.Point.{Point}
 use Rattle.fdp_rules.specs.Step.{Follows}
+use Rattle.fdp_snapshot.specs.declared.state.Summary.{Summary}
 
 record IsListening (s n : PlainState) : Type 0 where
   alike : IsAlike s n
@@ -33,23 +35,21 @@ listening-is c p queue number x moment = record {
   blocks = refl;
 }
 
-pub held-listened : (c : DriveConfig) (found : Found) (first : Spot → Option Written) (es : List Entry) (t : Tables) (queue number : ℕ) (x : SetEvents) (moment : ℕ) →
-    IsHeld c found first es t → Follows true c (point_of c found es) (applied_entry queue number (commands.SetEvents x) (point_of c found es).state moment) →
-    IsHeld c found first (es ++ applied_entry queue number (commands.SetEvents x) (point_of c found es).state moment ∷ []) t
-held-listened c found first es t queue number x moment h follows =
+pub held-listened : (c : DriveConfig) (found : Found) (first : Spot → Option Written) (es : List Entry) (t : Tables) (queue number : ℕ) (x : SetEvents) (moment : ℕ) (outline : Summary) →
+    IsHeld c found first es t → Follows true c (point_of c found es) (applied_entry queue number (commands.SetEvents x) (point_of c found es).state moment) → IsOutlineBehind c found es (applied_entry queue number (commands.SetEvents x) (point_of c found es).state moment) outline →
+    IsHeld c found first (es ++ applied_entry queue number (commands.SetEvents x) (point_of c found es).state moment ∷ []) (record t { outline = outline })
+held-listened c found first es t queue number x moment outline h follows behind =
     let p : Point = point_of c found es in
     let q : Point = next c p (applied_entry queue number (commands.SetEvents x) p.state moment) in
     let is : IsListening p.state q.state = listening-is c p queue number x moment in
-    held-applied c found first es t t queue number (commands.SetEvents x) moment h follows refl
+    held-applied c found first es t (record t { outline = outline }) queue number (commands.SetEvents x) moment h follows refl
     (record {
-      setting_is = setting-alike p.state q.state t.setting is.alike h.setting_is;
-      spaces_are = spaces-alike c p.state q.state t.spaces is.alike h.spaces_are;
       map_is = map-alike c p.state q.state t.map is.alike is.blocks h.map_is;
       flights_are = flights-alike c p.state q.state t.flights.items is.alike (applied-going c p queue number (commands.SetEvents x) moment refl) h.flights_are;
       units_are = units-same c p.state q.state t.pages t.pages is.units (alike-self t.pages.units) refl h.units_are;
     })
+    behind
     (record {
-      sums = refl;
       owned = h.pages_are.led.owned;
       up = λ unit. omega arith;
       passes = λ rg. refl;

@@ -12,12 +12,19 @@ use Rattle.fdp_base.specs.declared.entry.Spot.{Spot}
 use Rattle.fdp_book.specs.declared.flight.Flight.{Flight}
 use Rattle.fdp_book.specs.declared.tables.Tables.{Tables}
 use Rattle.fdp_book.specs.Held.{AreFlightsOf, IsHeld, IsMapOf, flight_in, going_of, lead_in}
+use Rattle.fdp_book.specs.Book.{BookSeen, first_in, point_in, written_in}
+use Rattle.fdp_book.specs.Outlined.{CanMakeMove, IsOutlineAt, IsOutlineBehind, MakesMove}
+use Rattle.fdp_book.specs.Relocating.{IsMoveChange}
 use Rattle.fdp_book.specs.Moving.{KeepsFlights, KeepsGroups, LeadAsOwned, MovesCopies}
-use Rattle.fdp_book.proofs.Held.Next.{held-next}
-use Rattle.fdp_book.proofs.Held.Sums.{are_sums-push}
+use Rattle.fdp_book.proofs.Held.Next.{can-make, held-next, made-behind}
 use Rattle.fdp_book.proofs.Held.Worked.{IsQuiet}
-use Rattle.fdp_book.proofs.Kept.{flights-alike, map-alike, setting-alike, spaces-alike}
+use Rattle.fdp_book.proofs.Kept.{flights-alike, map-alike}
 use Rattle.fdp_book.proofs.Leading.{leads-same}
+use Rattle.fdp_book.proofs.Outlining.{behind-counted, generation-said}
+use Rattle.fdp_outline.specs.declared.moved_block.MovedBlock.{MovedBlock}
+use Rattle.fdp_readings.specs.Lasting.{leaves_nothing}
+use Rattle.fdp_records.specs.declared.change.Change.{Change}
+use Rattle.fdp_snapshot.specs.declared.state.Summary.{Summary}
 use Rattle.fdp_book.proofs.Relocating.Leads.{leads-as, owners-same}
 use Rattle.fdp_readings.specs.fdp_locations.Located.{AreLed, LeadsTo, next_in}
 use Rattle.fdp_readings.specs.fdp_locations.Written.{Written, written_by}
@@ -50,6 +57,7 @@ use Rattle.fdp_readings.specs.fdp_trails.Moves.{AreMovable, names_of, owners_mov
 use Rattle.fdp_readings.proofs.fdp_trails.Grouping.{all-moved}
 use Rattle.fdp_readings.proofs.fdp_trails.Listing.{copies-movable, pass-listed, pass-owners, pass-page, pass-to_copies}
 
+-- the entry of a move of these blocks
 abbrev pub moved_entry : ℕ → List BlockName → Entry
 moved_entry rg blocks = entries.Moved (record { rg = rg; blocks = blocks })
 
@@ -223,19 +231,39 @@ module _ (c : DriveConfig) (found : Found) (first : Spot → Option Written) (es
         leads-same p.state (next c p (moved_entry rg (moved_blocks p rg))).state mid.map mid.flights.items (moved (put_at f) h.pages_are.at) (quiet-moved c p rg (moved_blocks p rg)).alike.namespaces
         (leads-as (lead_in p.state mid.map mid.flights.items) lead.at (moved (put_at f) h.pages_are.at) (owners-same (owner_at mid.pages.owners) lead.at (moved (put_at f) h.pages_are.at) lead.owned own-ended) lead.leads)
 
-    pub held-moved : (now : Tables) → now ≡ record mid { pages = ended } → IsHeld c found first (es ++ moved_entry rg (moved_blocks p rg) ∷ []) now
-    held-moved now is =
+    pub held-moved : (now : Tables) → now ≡ record mid { outline = now.outline; pages = ended } → IsOutlineBehind c found es (moved_entry rg (moved_blocks p rg)) now.outline → IsHeld c found first (es ++ moved_entry rg (moved_blocks p rg) ∷ []) now
+    held-moved now is outline =
         let e : Entry = moved_entry rg (moved_blocks p rg) in
         let q : Point = next c p e in
         let quiet : IsQuiet p.state q.state = quiet-moved c p rg (moved_blocks p rg) in
-        subst (λ (x : Tables). IsHeld c found first (es ++ e ∷ []) x) (sym (is ∙ ap (λ (x : Tables). record x { pages = ended }) moves.kept.rest))
-        (held-next true c found first es e t (record t { map = mid.map; flights = mid.flights; pages = ended }) h (pass-follows true)
+        subst (λ (x : Tables). IsHeld c found first (es ++ e ∷ []) x) (sym (is ∙ ap (λ (x : Tables). record x { outline = now.outline; pages = ended }) moves.kept.rest))
+        (held-next true c found first es e t (record t { outline = now.outline; map = mid.map; flights = mid.flights; pages = ended }) h (pass-follows true)
         (record {
-          setting_is = setting-alike p.state q.state t.setting quiet.alike h.setting_is;
-          spaces_are = spaces-alike c p.state q.state t.spaces quiet.alike h.spaces_are;
           map_is = map-alike c p.state q.state mid.map quiet.alike quiet.blocks (map-moved c p.state t.map mid.map moves.kept.map h.map_is);
           flights_are = flights-alike c p.state q.state mid.flights.items quiet.alike quiet.going (flights-moved c p.state t.flights.items mid.flights.items moves.kept.flights h.flights_are);
           units_are = units-same c p.state q.state t.pages ended (moved-units c p rg (moved_blocks p rg)) (owners-alike t.pages mid.pages moves.kept.pages) moves.kept.pages.handles h.units_are;
         })
-        (are_sums-push found es e t.sums t.sums h.sums_are (omega arith) (omega arith) (omega arith) (omega arith) (omega arith) (omega arith))
+        outline
         (record { at = moved (put_at f) h.pages_are.at; led = pass-led; leads = pass-leads }))
+
+-- ---- the outline
+
+-- the change of a move may be made
+pub can-make-move : (b : BookSeen) (t : Tables) (rg : ℕ) (change : Option Change) (moved : List MovedBlock) → IsHeld b.config b.found (first_in b) b.entries t → IsMoveChange b rg change moved → CanMakeMove b.config change moved t.outline
+can-make-move b t rg None moved h is = tt
+can-make-move b t rg (Some change) moved h is = (can-make b.config b.entries (point_in b) (written_in b) t (moved_entry rg (moved_blocks (point_in b) rg)) change moved h is.0, is.1)
+
+none-moved : (rg : ℕ) (blocks : List BlockName) → blocks ≡ [] → IsTrue (leaves_nothing (moved_entry rg blocks))
+none-moved rg blocks none = ap (λ (xs : List BlockName). leaves_nothing (moved_entry rg xs)) none
+
+-- behind it the outline is that behind the move
+pub moved-behind : (b : BookSeen) (t : Tables) (rg : ℕ) (change : Option Change) (moved : List MovedBlock) (new : Summary) → IsHeld b.config b.found (first_in b) b.entries t → ((told : Bool) → Follows told b.config (point_in b) (moved_entry rg (moved_blocks (point_in b) rg))) → IsMoveChange b rg change moved → MakesMove b.config change moved t.outline new → IsOutlineBehind b.config b.found b.entries (moved_entry rg (moved_blocks (point_in b) rg)) new
+moved-behind b t rg None moved new h follows is counts =
+    behind-counted b.config b.found b.entries (moved_entry rg (moved_blocks (point_in b) rg)) t.outline new (none-moved rg (moved_blocks (point_in b) rg) is) h.orderly h.standing (λ no. follows true) h.outline_is h.few counts
+moved-behind b t rg (Some change) moved new h follows is makes = made-behind b.config b.found (first_in b) b.entries t (moved_entry rg (moved_blocks (point_in b) rg)) change moved new h (omega arith) is.0 makes
+
+-- the generation stays
+pub generation-moved : (c : DriveConfig) (found : Found) (es : List Entry) (rg : ℕ) (blocks : List BlockName) (old new : Summary) → IsOutlineAt c (point_of c found es) old → IsOutlineBehind c found es (moved_entry rg blocks) new → new.generation ≡ old.generation
+generation-moved c found es rg blocks old new before behind =
+    let p : Point = point_of c found es in
+    sym (generation-said c (next c p (moved_entry rg blocks)) new behind.at) ∙ (quiet-moved c p rg blocks).alike.generation ∙ generation-said c p old before

@@ -11,16 +11,16 @@ use Rattle.fdp_base.specs.declared.entry.Spot.{Spot}
 use Rattle.fdp_base.specs.CommandKinds.{write_of}
 use Rattle.fdp_base.specs.Numbers.{with_at}
 use Rattle.fdp_book.specs.declared.flight.Flight.{Flight}
-use Rattle.fdp_book.specs.declared.tables.Setting.{Setting}
 use Rattle.fdp_book.specs.declared.tables.Tables.{Tables}
 use Rattle.fdp_book.specs.Flown.{IsPageMore}
-use Rattle.fdp_book.specs.Held.{AreFlightsOf, AreSpacesOf, IsHeld, IsMapOf, IsSettingOf, flight_in, going_of, lead_in, page_in}
+use Rattle.fdp_book.specs.Held.{AreFlightsOf, IsHeld, IsMapOf, flight_in, going_of, lead_in, page_in}
+use Rattle.fdp_book.specs.Outlined.{Counts}
 use Rattle.fdp_book.proofs.Flights.Rows.{flight_in-set, flown-set, going-set}
 use Rattle.fdp_book.proofs.Held.Ended.{passes-same}
 use Rattle.fdp_book.proofs.Held.Next.{held-next}
-use Rattle.fdp_book.proofs.Held.Sums.{are_sums-push}
-use Rattle.fdp_book.proofs.Kept.{IsAlike, flight-alike, map-alike, setting-alike, spaces-alike, there-alike}
+use Rattle.fdp_book.proofs.Kept.{IsAlike, flight-alike, map-alike, there-alike}
 use Rattle.fdp_book.proofs.Leading.{pages-same}
+use Rattle.fdp_book.proofs.Outlining.{behind-counted}
 use Rattle.fdp_book.proofs.Placing.Fresh.{IsFreshPage, fresh-apart}
 use Rattle.fdp_history.proofs.Placing.{going_with-is}
 use Rattle.fdp_history.specs.OrderlyState.{IsOrderlyState}
@@ -51,7 +51,6 @@ use Rattle.fdp_rules.specs.PlainState.{Going, PlainState, Reference}
 use Rattle.fdp_rules.specs.Point.{Point}
 use Rattle.fdp_rules.specs.Sites.{is_there}
 use Rattle.fdp_rules.specs.Step.{Follows, IsOnTarget, IsPlaced}
-use Rattle.fdp_spaces.specs.SpaceTable.{SpaceTable}
 use Rattle.fdp_readings.proofs.fdp_trails.Grouping.{all-placed}
 use Rattle.fdp_units.specs.UnitTable.{Cut}
 
@@ -153,11 +152,7 @@ points-to x queue index holder is = ap (λ (h : Holder). pointer_in h x.spare) h
 
 -- the tables with a page more of the flight in a queue
 pub record HasPageMore (s : PlainState) (old new : Tables) (queue : ℕ) (f more : Flight) (spot : Spot) (w : Write) (x : Owner) : Type 0 where
-  pub setting : new.setting ≡ old.setting
-  pub host_blocks : new.sums.host_blocks ≡ old.sums.host_blocks
-  pub media_blocks : new.sums.media_blocks ≡ old.sums.media_blocks + 1
-  pub erases : new.sums.erases ≡ old.sums.erases
-  pub spaces : new.spaces ≡ old.spaces
+  pub counts : Counts 1 0 old.outline new.outline
   pub map : new.map ≡ old.map
   pub flights_are : new.flights.items ≡ slice_set old.flights.items queue (Some more)
   pub flight : IsPageMore f spot more
@@ -222,14 +217,12 @@ held-placed c found first es t now queue f more spot w x h joined is follows m =
     } in
     held-next true c found first es e t now h (follows true)
     (record {
-      setting_is = subst (λ (z : Setting). IsSettingOf q.state z) (sym m.setting) (setting-alike p.state q.state t.setting a h.setting_is);
-      spaces_are = subst (λ (z : SpaceTable). AreSpacesOf c q.state z) (sym m.spaces) (spaces-alike c p.state q.state t.spaces a h.spaces_are);
       map_is = subst (λ (z : MapTable). IsMapOf c q.state z) (sym m.map) (map-alike c p.state q.state t.map a (placed-blocks c p f.ticket index spot) h.map_is);
       flights_are = flights-more c p index t.flights.items now.flights.items queue f more spot h.orderly.state placed queue_is going_is there is m.flights_are m.flight h.flights_are;
       units_are = units-referring c p.state q.state t.pages now.pages f.rg f.ruh (one_less c spot.unit (p.state.references f.rg f.ruh)) a.enabled a.index references.is_lost references.is_worn references.references refer m.puts.handles.rest
           (puts-alike t.pages now.pages f.rg f.ruh spot x m.fresh.kept m.puts) h.units_are;
     })
-    (are_sums-push found es e t.sums now.sums h.sums_are (omega arith) (omega arith) (omega arith) (omega (arith, m.host_blocks)) (omega (arith, m.media_blocks)) (omega (arith, m.erases)))
+    (behind-counted c found es e t.outline now.outline refl h.orderly h.standing (λ no. follows true) h.outline_is h.few m.counts)
     (record {
       at = pointed pages.at placed.queue placed.going.placed y;
       led = led-placed c p f.ticket index spot (written_by c found first es) pages.at t.pages now.pages w x h.orderly.state h.standing placed new

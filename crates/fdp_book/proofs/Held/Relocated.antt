@@ -1,5 +1,5 @@
 -- The tables after a step of relocation.
-use Rattle.std.proofs.Common.{◌≡◌, ℕ, ◌<◌, Bool, true, List, [], ◌∷◌, ◌++◌, Option, refl, sym, ap, subst, arith}
+use Rattle.std.proofs.Common.{◌≡◌, ℕ, ◌<◌, Bool, true, List, [], ◌∷◌, ◌++◌, Option, refl, sym, ap, subst}
 use Rattle.std.specs.Prelude.{slice_set}
 use Rattle.fdp_base.specs.declared.config.DriveConfig.{DriveConfig}
 use Rattle.fdp_base.specs.declared.entry.Copied.{Copied}
@@ -8,8 +8,8 @@ use Rattle.fdp_base.specs.declared.entry.Entry.TheVariants as entries
 use Rattle.fdp_base.specs.declared.entry.Spot.{Spot}
 use Rattle.fdp_book.specs.declared.tables.Tables.{Tables}
 use Rattle.fdp_book.specs.Held.{IsHeld}
-use Rattle.fdp_book.specs.Relocating.{told_by}
-use Rattle.fdp_book.proofs.Held.Worked.{AreTold, held-rested, held-unsaid, held-worked, quiet-aside, quiet-copied, quiet-erased, quiet-retired, quiet-worn, sums-same, sums-told}
+use Rattle.fdp_book.specs.Relocating.{CountsTold, told_by}
+use Rattle.fdp_book.proofs.Held.Worked.{held-rested, held-unsaid, held-worked, quiet-aside, quiet-copied, quiet-erased, quiet-retired, quiet-worn}
 use Rattle.fdp_readings.specs.fdp_collector.declared.step.Lost.TheVariants as lost
 use Rattle.fdp_readings.specs.fdp_collector.declared.step.Step.{Step}
 use Rattle.fdp_readings.specs.fdp_collector.declared.step.Step.TheVariants as steps
@@ -32,7 +32,7 @@ use Rattle.fdp_rules.specs.Point.{Point}
 use Rattle.fdp_units.specs.UnitTable.{IsGroup}
 
 module _ (c : DriveConfig) (found : Found) (first : Spot → Option Written) (es : List Entry) (t now : Tables) (rg : ℕ) (h : IsHeld c found first es t) (joined : AreJoined t.pages) (low : rg < c.groups)
-    (rest : now ≡ record t { sums = now.sums; pages = now.pages }) (pages : now.pages ≡ record t.pages { units = now.pages.units; passes = slice_set t.pages.passes rg (passes_at now.pages rg) }) where
+    (rest : now ≡ record t { outline = now.outline; pages = now.pages }) (pages : now.pages ≡ record t.pages { units = now.pages.units; passes = slice_set t.pages.passes rg (passes_at now.pages rg) }) where
   abbrev p : Point
   p = point_of c found es
 
@@ -49,66 +49,66 @@ module _ (c : DriveConfig) (found : Found) (first : Spot → Option Written) (es
   others = ap (λ (x : PageTables). x.passes) pages
 
   module _ (is : IsGroup t.pages.units rg) (old new : FlashState) where
-    held-rests : AreTold t.sums now.sums [] → Rests (relocation_at t.pages rg) (relocation_at now.pages rg) old new → IsHeld c found first (es ++ []) now
-    held-rests told r = held-rested c found first es t now h rest (sums-same t.sums now.sums told) (rests-same t.pages now.pages rg joined is pages r.group)
+    held-rests : now.outline ≡ t.outline → Rests (relocation_at t.pages rg) (relocation_at now.pages rg) old new → IsHeld c found first (es ++ []) now
+    held-rests told r = held-rested c found first es t now h rest told (rests-same t.pages now.pages rg joined is pages r.group)
 
-    held-copied : (copy : Copied) → AreTold t.sums now.sums (entries.Copied copy ∷ []) → IsCopyStep t.pages.owners t.pages.handles.classes rg (relocation_at t.pages rg) (relocation_at now.pages rg) old new (steps.Copied copy) → IsHeld c found first (es ++ entries.Copied copy ∷ []) now
+    held-copied : (copy : Copied) → CountsTold (entries.Copied copy ∷ []) t.outline now.outline → IsCopyStep t.pages.owners t.pages.handles.classes rg (relocation_at t.pages rg) (relocation_at now.pages rg) old new (steps.Copied copy) → IsHeld c found first (es ++ entries.Copied copy ∷ []) now
     held-copied copy told s =
         let own : Copied = record { from = s.from; to = s.to } in
         let adds = subst (λ (x : Copied). AddsCopy s.middle (relocation_at now.pages rg) (lane_at t.pages.handles.classes s.owner) x) s.ended.0 s.ended.1 in
         subst (λ (x : Copied). IsHeld c found first (es ++ entries.Copied x ∷ []) now) (sym s.ended.0)
-        (held-worked c found first es t now h rest (entries.Copied own)
+        (held-worked c found first es t now h rest (entries.Copied own) refl
         (copy-follows c p t.pages rg s.from s.to s.owner s.middle joined h.units_are low s.due s.owned s.opened true)
         (quiet-copied c p own)
-        (sums-told found es (entries.Copied own) t.sums now.sums h.sums_are (subst (λ (x : Copied). AreTold t.sums now.sums (entries.Copied x ∷ [])) s.ended.0 told) refl (omega arith) (omega arith))
+        told
         (units-same c p.state (next c p (entries.Copied own)).state t.pages now.pages (copied-units c p own) (copy-alike c p t.pages rg s.from s.to s.owner s.middle joined h.units_are low s.due s.owned s.opened adds.passes now.pages.units adds.used) handles h.units_are)
         (copied-led c p t.pages rg s.from s.to s.owner s.middle joined h.units_are low s.due s.owned s.opened written h.pages_are.at now.pages h.orderly h.pages_are.led owners others adds))
 
-    held-erased : (unit : ℕ) → AreTold t.sums now.sums (entries.Erased (record { unit = unit }) ∷ []) → IsDue (passes_at t.pages rg) t.pages.units t.pages.owners rg (due.Erase unit) → EndsInErase (relocation_at t.pages rg) (relocation_at now.pages rg) old new unit wrote.Done → IsHeld c found first (es ++ entries.Erased (record { unit = unit }) ∷ []) now
+    held-erased : (unit : ℕ) → CountsTold (entries.Erased (record { unit = unit }) ∷ []) t.outline now.outline → IsDue (passes_at t.pages rg) t.pages.units t.pages.owners rg (due.Erase unit) → EndsInErase (relocation_at t.pages rg) (relocation_at now.pages rg) old new unit wrote.Done → IsHeld c found first (es ++ entries.Erased (record { unit = unit }) ∷ []) now
     held-erased unit told is_due ends =
-        held-worked c found first es t now h rest (entries.Erased (record { unit = unit }))
+        held-worked c found first es t now h rest (entries.Erased (record { unit = unit })) refl
         (erase-follows c p t.pages rg unit joined h.units_are low is_due written h.pages_are.at h.orderly h.pages_are.led true)
         (quiet-erased c p unit)
-        (sums-told found es (entries.Erased (record { unit = unit })) t.sums now.sums h.sums_are told refl (omega arith) (omega arith))
+        told
         (erased-units c p t.pages rg unit joined h.units_are low is_due written h.pages_are.at h.orderly h.pages_are.led now.pages owners handles others ends.passes ends.becomes ends.worn)
         (erased-led c p t.pages rg unit joined h.units_are low is_due written h.pages_are.at h.orderly h.pages_are.led now.pages owners handles others ends.passes ends.becomes)
 
-    held-retired : (unit : ℕ) → AreTold t.sums now.sums (entries.Retired (record { unit = unit }) ∷ []) → IsDue (passes_at t.pages rg) t.pages.units t.pages.owners rg (due.Erase unit) → EndsInErase (relocation_at t.pages rg) (relocation_at now.pages rg) old new unit wrote.Failed → IsHeld c found first (es ++ entries.Retired (record { unit = unit }) ∷ []) now
+    held-retired : (unit : ℕ) → CountsTold (entries.Retired (record { unit = unit }) ∷ []) t.outline now.outline → IsDue (passes_at t.pages rg) t.pages.units t.pages.owners rg (due.Erase unit) → EndsInErase (relocation_at t.pages rg) (relocation_at now.pages rg) old new unit wrote.Failed → IsHeld c found first (es ++ entries.Retired (record { unit = unit }) ∷ []) now
     held-retired unit told is_due ends =
-        held-worked c found first es t now h rest (entries.Retired (record { unit = unit }))
+        held-worked c found first es t now h rest (entries.Retired (record { unit = unit })) refl
         (retire-follows c p t.pages rg unit joined h.units_are low is_due written h.pages_are.at h.orderly h.pages_are.led true)
         (quiet-retired c p unit)
-        (sums-told found es (entries.Retired (record { unit = unit })) t.sums now.sums h.sums_are told refl (omega arith) (omega arith))
+        told
         (retired-units c p t.pages rg unit joined h.units_are low is_due written h.pages_are.at h.orderly h.pages_are.led now.pages owners handles others ends.passes ends.becomes ends.worn)
         (retired-led c p t.pages rg unit joined h.units_are low is_due written h.pages_are.at h.orderly h.pages_are.led now.pages owners handles others ends.passes ends.becomes)
 
-    held-starved : AreTold t.sums now.sums (entries.Worn (record { rg = rg }) ∷ []) → IsStarved t.pages.owners t.pages.handles.classes rg (relocation_at t.pages rg) (relocation_at now.pages rg) old new → IsHeld c found first (es ++ entries.Worn (record { rg = rg }) ∷ []) now
+    held-starved : CountsTold (entries.Worn (record { rg = rg }) ∷ []) t.outline now.outline → IsStarved t.pages.owners t.pages.handles.classes rg (relocation_at t.pages rg) (relocation_at now.pages rg) old new → IsHeld c found first (es ++ entries.Worn (record { rg = rg }) ∷ []) now
     held-starved told s =
-        held-worked c found first es t now h rest (entries.Worn (record { rg = rg }))
+        held-worked c found first es t now h rest (entries.Worn (record { rg = rg })) refl
         (worn-follows c p t.pages now.pages rg (lane_at t.pages.handles.classes s.owner) h.units_are low s.starved true)
         (quiet-worn c p rg)
-        (sums-told found es (entries.Worn (record { rg = rg })) t.sums now.sums h.sums_are told refl (omega arith) (omega arith))
+        told
         (worn-units c p t.pages now.pages rg (lane_at t.pages.handles.classes s.owner) h.units_are low s.starved handles)
         (worn-led c p t.pages now.pages rg (lane_at t.pages.handles.classes s.owner) h.units_are low s.starved written h.pages_are.at h.orderly owners others h.pages_are.led)
 
-    held-skipped : AreTold t.sums now.sums [] → IsCopyStep t.pages.owners t.pages.handles.classes rg (relocation_at t.pages rg) (relocation_at now.pages rg) old new (steps.Fault lost.None) → IsHeld c found first (es ++ []) now
+    held-skipped : now.outline ≡ t.outline → IsCopyStep t.pages.owners t.pages.handles.classes rg (relocation_at t.pages rg) (relocation_at now.pages rg) old new (steps.Fault lost.None) → IsHeld c found first (es ++ []) now
     held-skipped told s =
-        held-unsaid c found first es t now h rest (sums-same t.sums now.sums told)
+        held-unsaid c found first es t now h rest told
         (skipped-units c p t.pages rg s.from s.to s.owner s.middle joined h.units_are low s.due s.owned s.opened written h.pages_are.at now.pages h.orderly h.pages_are.led owners handles others s.ended.0)
         (skipped-led c p t.pages rg s.from s.to s.owner s.middle joined h.units_are low s.due s.owned s.opened written h.pages_are.at now.pages h.orderly h.pages_are.led owners handles others s.ended.0)
 
-    held-aside : (unit : ℕ) → AreTold t.sums now.sums (entries.Aside (record { unit = unit }) ∷ []) → IsUnread t.pages.owners t.pages.handles.classes rg (relocation_at t.pages rg) (relocation_at now.pages rg) old new unit → IsHeld c found first (es ++ entries.Aside (record { unit = unit }) ∷ []) now
+    held-aside : (unit : ℕ) → CountsTold (entries.Aside (record { unit = unit }) ∷ []) t.outline now.outline → IsUnread t.pages.owners t.pages.handles.classes rg (relocation_at t.pages rg) (relocation_at now.pages rg) old new unit → IsHeld c found first (es ++ entries.Aside (record { unit = unit }) ∷ []) now
     held-aside unit told s =
         let goes = subst (λ (u : ℕ). GoesAside (relocation_at t.pages rg) (relocation_at now.pages rg) u) s.unit_is s.aside in
         subst (λ (u : ℕ). IsHeld c found first (es ++ entries.Aside (record { unit = u }) ∷ []) now) (sym s.unit_is)
-        (held-worked c found first es t now h rest (entries.Aside (record { unit = s.from.unit }))
+        (held-worked c found first es t now h rest (entries.Aside (record { unit = s.from.unit })) refl
         (aside-follows c p t.pages rg s.from joined h.units_are low s.due true)
         (quiet-aside c p s.from.unit)
-        (sums-told found es (entries.Aside (record { unit = s.from.unit })) t.sums now.sums h.sums_are (subst (λ (u : ℕ). AreTold t.sums now.sums (entries.Aside (record { unit = u }) ∷ [])) s.unit_is told) refl (omega arith) (omega arith))
+        told
         (aside-units c p t.pages rg s.from joined h.units_are low s.due now.pages handles goes)
         (aside-led c p t.pages rg s.from joined h.units_are low s.due now.pages handles goes written h.pages_are.at h.orderly h.pages_are.led owners others))
 
-    pub held-step : (may_erase : Bool) (step : Step) → AreTold t.sums now.sums (told_by rg step) → IsStep t.pages.owners t.pages.handles.classes rg may_erase (relocation_at t.pages rg) (relocation_at now.pages rg) old new step → IsHeld c found first (es ++ told_by rg step) now
+    pub held-step : (may_erase : Bool) (step : Step) → CountsTold (told_by rg step) t.outline now.outline → IsStep t.pages.owners t.pages.handles.classes rg may_erase (relocation_at t.pages rg) (relocation_at now.pages rg) old new step → IsHeld c found first (es ++ told_by rg step) now
     held-step may_erase steps.Nothing told s = held-rests told s.1
     held-step may_erase (steps.Copied copy) told s = held-copied copy told s
     held-step may_erase steps.ReadyToMove told s = held-rests told s.1

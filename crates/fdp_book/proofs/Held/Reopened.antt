@@ -1,26 +1,25 @@
 -- The tables of a book whose image was opened.
-use Rattle.std.proofs.Common.{◌≡◌, ℕ, ◌+◌, ◌-◌, ◌^◌, ◌≤◌, ◌<◌, Bool, true, false, IsTrue, List, length, [], ◌∷◌, Option, Some, None, replicate, slice_get, refl, sym, ◌∙◌, ap, subst, arith}
-use Rattle.std.specs.Prelude.{if◌then◌else◌, option_map}
+use Rattle.std.proofs.Common.{◌≡◌, ℕ, ◌+◌, ◌^◌, ◌≤◌, ◌<◌, Bool, true, false, IsTrue, List, [], ◌∷◌, Option, Some, None, replicate, slice_get, refl, sym, ◌∙◌, ap, subst, arith}
+use Rattle.std.specs.Prelude.{option_map}
 use Rattle.std.specs.Option.{option_and_then, option_map_or}
-use Rattle.std.proofs.lemmas.Bool.Decides.{nat_tests}
 use Rattle.std.proofs.lemmas.List.{length-replicate}
-use Rattle.std.proofs.lemmas.Option.{slice_get_within}
 use Rattle.fdp_base.specs.declared.config.DriveConfig.{DriveConfig}
 use Rattle.fdp_base.specs.declared.config.Geometry.{Geometry}
 use Rattle.fdp_base.specs.declared.entry.Entry.{Entry}
 use Rattle.fdp_base.specs.declared.entry.Entry.TheVariants as entries
 use Rattle.fdp_base.specs.declared.entry.Spot.{Spot}
 use Rattle.fdp_base.specs.Config.{IsValidConfig}
-use Rattle.fdp_base.specs.Geometry.{IsWithin}
 use Rattle.fdp_base.specs.Placement.{geometry_of}
 use Rattle.fdp_book.specs.declared.flight.Flight.{Flight}
-use Rattle.fdp_book.specs.declared.tables.Setting.{Setting}
-use Rattle.fdp_book.specs.declared.tables.Sums.{Sums}
 use Rattle.fdp_book.specs.declared.tables.Tables.{Tables}
-use Rattle.fdp_book.specs.Held.{AreFlightsOf, ArePagesOf, AreSumsOf, IsBook, IsHeld, IsMapOf, IsSettingOf, going_of, lead_in, page_in}
+use Rattle.fdp_book.specs.Held.{AreFlightsOf, ArePagesOf, IsBook, IsHeld, IsMapOf, going_of, lead_in, page_in}
+use Rattle.fdp_book.specs.Saving.{AreSmall}
+use Rattle.fdp_book.specs.Outlined.{AreFew, IsOutlineAt}
 use Rattle.fdp_book.specs.Logged.{Logged}
 use Rattle.fdp_book.specs.Reopened.{WasFound, cells_found}
 use Rattle.fdp_book.proofs.Held.Fresh.{none-some, none_in}
+use Rattle.fdp_book.proofs.Outlining.{generation-said}
+use Rattle.fdp_book.proofs.Histories.Finding.{outline-found, position-found, small-found}
 use Rattle.fdp_flash.specs.declared.cell.Cell.{Cell}
 use Rattle.fdp_flash.specs.Cells.{AreCells}
 use Rattle.fdp_flash.specs.FlashState.{FlashState, IsWellFormed}
@@ -38,8 +37,7 @@ use Rattle.fdp_found.proofs.Stating.{state-found}
 use Rattle.fdp_found.proofs.Telling.{told-cells}
 use Rattle.fdp_history.specs.Listed.{IsListed}
 use Rattle.fdp_history.specs.Orderly.{IsOrderly}
-use Rattle.fdp_image.specs.Checkpoint.{in_place, namespace_of, reading_of_state}
-use Rattle.fdp_image.specs.CheckpointRows.{is_namespace_id}
+use Rattle.fdp_image.specs.Checkpoint.{reading_of_state}
 use Rattle.fdp_image.specs.Outline.{state_with}
 use Rattle.fdp_image.specs.Reading.{Reading, size_in as size_by, spot_of}
 use Rattle.fdp_image.specs.Valid.{IsValid, block_from, block_read, state_in}
@@ -57,21 +55,18 @@ use Rattle.fdp_readings.specs.fdp_pages.Joined.{AreJoined}
 use Rattle.fdp_readings.specs.fdp_pages.PageTables.{PageTables}
 use Rattle.fdp_pointers.specs.Pointers.{Pointer.of_block, Pointer.of_flight}
 use Rattle.fdp_rules.specs.Change.{after, changed_by}
-use Rattle.fdp_rules.specs.History.{Found, first_state, point_of, state_of}
+use Rattle.fdp_base.specs.declared.entry.Totals.{Totals}
+use Rattle.fdp_rules.specs.History.{Found, first_state, point_of, state_of, totals_of}
 use Rattle.fdp_rules.specs.PlainState.{Block, Namespace, PlainState}
 use Rattle.fdp_rules.specs.Point.{Point}
-use Rattle.fdp_snapshot.specs.declared.space.Space.{Space}
 use Rattle.fdp_snapshot.specs.declared.state.State.{State}
-use Rattle.fdp_spaces.specs.SpaceTable.{namespace_at}
+use Rattle.fdp_snapshot.specs.declared.state.Summary.{Summary}
+use Rattle.fdp_rules.proofs.Pushes.{point_of-push}
+use Rattle.fdp_rules.specs.Next.{next}
 use Rattle.fdp_found.proofs.fdp_state.Loadable.{loadable}
-use Rattle.fdp_found.specs.fdp_state.Loaded.{IsDriveState}
 
--- the tables but for those of the pages are those of a reading; no write is going
+-- the map is that of a reading, and no write is going
 pub record AreReadTables (c : DriveConfig) (r : Reading) (t : Tables) : Type 0 where
-  pub setting : t.setting ≡ record { enabled = r.enabled; index = r.index; generation = r.generation }
-  pub sums : t.sums ≡ record { host_blocks = r.totals.host_blocks; media_blocks = r.totals.media_blocks; erases = r.totals.erases }
-  pub groups : t.spaces.groups ≡ c.groups
-  pub namespaces : (nsid : ℕ) → namespace_at t.spaces nsid ≡ r.namespaces nsid
   pub geometry : t.map.geometry ≡ geometry_of c
   pub sizes : (nsid : ℕ) → size_in t.map nsid ≡ size_by r nsid
   pub most : (nsid : ℕ) → size_in t.map nsid ≤ 262144
@@ -101,22 +96,15 @@ module _ (c : DriveConfig) (cells : List Cell) (r : Reading) (config : IsValidCo
   unfolding point_of state_of after changed_by state_in state_with
   blocks nsid lba = ap (λ (s : PlainState). s.blocks nsid lba) (state-found c cells r valid can)
 
-  setting-opened : (x : Setting) → x ≡ record { enabled = r.enabled; index = r.index; generation = r.generation } → IsSettingOf p.state x
-  unfolding point_of state_of after changed_by first_state
-  setting-opened x is = record { enabled = sym (ap (λ (y : Setting). y.enabled) is); index = sym (ap (λ (y : Setting). y.index) is); generation = sym (ap (λ (y : Setting). y.generation) is) }
-
-  sums-opened : (x : Sums) → x ≡ record { host_blocks = r.totals.host_blocks; media_blocks = r.totals.media_blocks; erases = r.totals.erases } → AreSumsOf f opening x
-  sums-opened x is =
+  few-opened : (s : Summary) → IsOutlineAt c p s → AreFew opening s.totals
+  unfolding point_of totals_of
+  few-opened s h =
       let few = can.unspent in
-      subst (λ (y : Sums). AreSumsOf f opening y) (sym is)
-      (record {
-        host_blocks_are = omega arith;
-        media_blocks_are = omega arith;
-        erases_are = omega arith;
-        few_host_blocks = omega (arith, few.host_blocks);
-        few_media_blocks = omega (arith, few.media_blocks);
-        few_erases = omega (arith, few.erases);
-      })
+      record {
+        few_host_blocks = omega (arith, few.host_blocks, ap (λ (t : Totals). t.host_blocks) h.totals);
+        few_media_blocks = omega (arith, few.media_blocks, ap (λ (t : Totals). t.media_blocks) h.totals);
+        few_erases = omega (arith, few.erases, ap (λ (t : Totals). t.erases) h.totals);
+      }
 
   flights-opened : AreFlightsOf c p.state (replicate (c.queues + 1) None)
   unfolding point_of state_of after changed_by
@@ -159,7 +147,7 @@ module _ (c : DriveConfig) (cells : List Cell) (r : Reading) (config : IsValidCo
     leads (of_block nsid lba) = leads-opened c cells r nsid lba config valid ∙ leads-as nsid lba (r.pages nsid lba) ∙ sym (ap (option_map (λ (m : Mapped). m.spot)) (h.places nsid lba))
     leads (of_flight queue index) = sym (ap (option_and_then (page_in p.state index)) (none_in (c.queues + 1) queue))
 
-    module _ (whole : AreCells (geometry_of c) cells) (opened : AreOpened c cells r t.pages) where
+    module _ (outline : IsOutlineAt c p t.outline) (whole : AreCells (geometry_of c) cells) (opened : AreOpened c cells r t.pages) where
       begins : IsOrderly c (point_of c f [])
       begins = orderly-found c cells r valid config whole can
 
@@ -180,9 +168,8 @@ module _ (c : DriveConfig) (cells : List Cell) (r : Reading) (config : IsValidCo
         orderly = orderly-opened c f config image begins;
         standing = standing-opened c f image begins (standing-found c cells r valid config can);
         listed = lists;
-        setting_is = setting-opened t.setting h.setting;
-        sums_are = sums-opened t.sums h.sums;
-        spaces_are = record { groups = sym h.groups; namespaces = λ nsid. spaces nsid ∙ sym (h.namespaces nsid) };
+        outline_is = outline;
+        few = few-opened t.outline outline;
         map_is = map-opened;
         flights_are = subst (λ (xs : List (Option Flight)). AreFlightsOf c p.state xs) (sym h.flights) flights-opened;
         units_are = units-reopened c f t.pages (units-opened c cells r t.pages opened);
@@ -191,12 +178,8 @@ module _ (c : DriveConfig) (cells : List Cell) (r : Reading) (config : IsValidCo
 
 -- ---- what was found
 
--- the tables of a book as a state tells them
+-- the map of a book as a state tells it
 pub record AreFoundTables (c : DriveConfig) (s : State) (t : Tables) : Type 0 where
-  pub setting : t.setting ≡ record { enabled = s.summary.enabled; index = s.summary.index; generation = s.summary.generation }
-  pub sums : t.sums ≡ record { host_blocks = s.summary.totals.host_blocks; media_blocks = s.summary.totals.media_blocks; erases = s.summary.totals.erases }
-  pub groups : t.spaces.groups ≡ c.groups
-  pub namespaces : (nsid : ℕ) → namespace_at t.spaces nsid ≡ option_map namespace_of (in_place s.summary.spaces nsid)
   pub map : t.map ≡ table_of (geometry_of c) s.pages
   pub sizes : (nsid : ℕ) → size_in t.map nsid ≡ size_by (reading_of_state s) nsid
   pub places : (nsid lba : ℕ) → mapped_at t.map nsid lba ≡ option_map (placed_on (geometry_of c)) ((reading_of_state s).pages nsid lba)
@@ -205,32 +188,12 @@ pub record AreFoundTables (c : DriveConfig) (s : State) (t : Tables) : Type 0 wh
 read-tables : (c : DriveConfig) (s : State) (t : Tables) → ((nsid : ℕ) → size_in t.map nsid ≤ 262144) → AreFoundTables c s t → AreReadTables c (reading_of_state s) t
 unfolding reading_of_state
 read-tables c s t most h = record {
-  setting = h.setting;
-  sums = h.sums;
-  groups = h.groups;
-  namespaces = h.namespaces;
   geometry = ap (λ (m : MapTable). m.geometry) h.map;
   sizes = h.sizes;
   most = most;
   places = h.places;
   flights = h.flights;
 }
-
--- the namespaces have a place each, and each has a handle or up to sixteen
-pub rows-found : (c : DriveConfig) (s : State) → IsDriveState c s → length s.summary.spaces ≡ 16
-rows-found c s h = (loadable s h.writable).spaces
-
-pub handles-found : (c : DriveConfig) (s : State) → IsDriveState c s → (place : ℕ) (x : Space) → slice_get s.summary.spaces place ≡ Some (Some x) → IsWithin 1 16 (length x.handles)
-unfolding reading_of_state
-handles-found c s h place x e =
-    let low : place < 16 = omega (arith, slice_get_within s.summary.spaces place (Some x) e, rows-found c s h) in
-    let is : is_namespace_id (place + 1) ≡ true = grind (arith, nat_tests) in
-    let less : place + 1 - 1 ≡ place = omega arith in
-    let there : in_place s.summary.spaces (place + 1) ≡ Some x =
-    ap (λ (b : Bool). if b then option_and_then (λ (o : Option Space). o) (slice_get s.summary.spaces (place + 1 - 1)) else None) is
-    ∙ ap (λ (k : ℕ). option_and_then (λ (o : Option Space). o) (slice_get s.summary.spaces k)) less
-    ∙ ap (option_and_then (λ (o : Option Space). o)) e in
-    (h.good.namespaces (place + 1) (namespace_of x) (ap (option_map namespace_of) there)).list.number
 
 whole-told : (c : DriveConfig) (x : FlashState) (owners : Spot → Option Owner) → IsWellFormed x → x.geometry ≡ geometry_of c → AreCells (geometry_of c) (opened_cells x.told c x.cells owners)
 whole-told c x owners formed cut = of x.told refl where
@@ -256,6 +219,9 @@ module _ (c : DriveConfig) (x : FlashState) (s : State) (t : PageTables) (config
   can : CanBegin r
   can = loaded-begins c s found.area found.epoch found.goes_on
 
+  pub few-read : AreSmall s.summary.totals
+  few-read = small-found s can
+
   pub early-found : s.summary.totals.position ≤ 2 ^ 62
   unfolding reading_of_state
   early-found = let position : s.summary.totals.position < 2 ^ 62 = can.unspent.position in omega (arith, position)
@@ -264,10 +230,22 @@ module _ (c : DriveConfig) (x : FlashState) (s : State) (t : PageTables) (config
   unfolding reading_of_state
   narrow-found = can.unspent.generation
 
-  pub held-found : (tables : Tables) → IsWellFormed x → tables.pages ≡ t → AreFoundTables c s tables → IsHeld c (found_in c (cells_found c x t) r) (pages_held c (cells_found c x t)) (entries.Reopened ∷ []) tables
-  held-found tables formed pages h =
+  -- what the entry of the opening makes of the outline that was found
+  pub outline-opened : (old new : Summary) → old ≡ s.summary → ((p : Point) → IsOutlineAt c p old → p.totals.position ≡ p.state.position → IsOutlineAt c (next c p entries.Reopened) new) → IsOutlineAt c (point_of c (found_in c (cells_found c x t) r) (entries.Reopened ∷ [])) new
+  outline-opened old new is behind =
+      let f : Found = found_in c (cells_found c x t) r in
+      let begun : Point = point_of c f [] in
+      subst (λ (p : Point). IsOutlineAt c p new) (sym (point_of-push c f [] entries.Reopened))
+      (behind begun (subst (IsOutlineAt c begun) (sym is) (outline-found c (cells_found c x t) s found.goes_on.state valid-found can)) (position-found c f))
+
+  pub generation-opened : (new : Summary) → IsOutlineAt c (point_of c (found_in c (cells_found c x t) r) (entries.Reopened ∷ [])) new → new.generation ≡ s.summary.generation
+  unfolding point_of state_of after changed_by first_state reading_of_state
+  generation-opened new h = sym (generation-said c (point_of c (found_in c (cells_found c x t) r) (entries.Reopened ∷ [])) new h)
+
+  pub held-found : (tables : Tables) → IsWellFormed x → tables.pages ≡ t → IsOutlineAt c (point_of c (found_in c (cells_found c x t) r) (entries.Reopened ∷ [])) tables.outline → AreFoundTables c s tables → IsHeld c (found_in c (cells_found c x t) r) (pages_held c (cells_found c x t)) (entries.Reopened ∷ []) tables
+  held-found tables formed pages outline h =
       let most : (nsid : ℕ) → size_in tables.map nsid ≤ 262144 = λ nsid. let few = sizes-few c s config.ranges found.goes_on.state nsid in let listed : size_at s.pages nsid ≡ size_by r nsid = (loadable s found.goes_on.state.writable).sizes nsid in omega (arith, few, h.sizes nsid, listed) in
-      held-reopened c (cells_found c x t) r config valid-found can tables (read-tables c s tables most h) (whole-told c x (owner_at t.owners) formed found.cut)
+      held-reopened c (cells_found c x t) r config valid-found can tables (read-tables c s tables most h) outline (whole-told c x (owner_at t.owners) formed found.cut)
       (subst (λ (y : PageTables). AreOpened c (cells_found c x t) r y) (sym pages) tables-found)
 
 -- a book by parts that are these

@@ -1,5 +1,5 @@
 -- What a placement setting leaves of the tables.
-use Rattle.std.proofs.Common.{◌≡◌, ℕ, ◌+◌, ◌<◌, ◌^◌, Bool, true, List, [], ◌∷◌, ◌++◌, Option, None, refl, sym, ◌∙◌, ap, subst, arith}
+use Rattle.std.proofs.Common.{◌≡◌, ℕ, Bool, true, List, [], ◌∷◌, ◌++◌, Option, None, refl, sym, ◌∙◌, ap, subst}
 use Rattle.std.specs.Prelude.{option_map}
 use Rattle.std.specs.Option.{option_map_or}
 use Rattle.fdp_base.specs.declared.command.Command.TheVariants as commands
@@ -12,13 +12,12 @@ use Rattle.fdp_base.specs.declared.status.Status.{Status}
 use Rattle.fdp_base.specs.declared.status.TheConstants.Status as statuses
 use Rattle.fdp_base.specs.CommandKinds.{IsWellFormed}
 use Rattle.fdp_base.specs.Placement.{classes_of}
-use Rattle.fdp_book.specs.declared.tables.Setting.{Setting}
 use Rattle.fdp_book.specs.declared.tables.Tables.{Tables}
 use Rattle.fdp_book.specs.Held.{IsHeld, going_of}
+use Rattle.fdp_book.specs.Outlined.{IsOutlineBehind}
 use Rattle.fdp_book.specs.Updating.{CanSet, SetsTables}
 use Rattle.fdp_book.proofs.Held.Left.{pages-left}
 use Rattle.fdp_book.proofs.Held.Next.{held-next}
-use Rattle.fdp_book.proofs.Held.Sums.{are_sums-push}
 use Rattle.fdp_book.proofs.Histories.Commanded.{success-follows}
 use Rattle.fdp_book.proofs.Kept.{on_target-alike, there-alike}
 use Rattle.fdp_history.proofs.Checks.{accepted-feature}
@@ -37,19 +36,19 @@ use Rattle.fdp_rules.specs.PlainState.{Block, Going, Namespace, PlainState}
 use Rattle.fdp_rules.specs.Point.{Point}
 use Rattle.fdp_rules.specs.Refusal.{refusal_of}
 use Rattle.fdp_rules.specs.Step.{Follows, IsQueue}
+use Rattle.fdp_snapshot.specs.declared.state.Summary.{Summary}
 
 -- ---- a command that is not refused
 
 -- there is no namespace then, and so no page has an owner
-pub may-set : (c : DriveConfig) (found : Found) (first : Spot → Option Written) (es : List Entry) (t : Tables) (x : SetFdp) → IsHeld c found first es t → refusal_of c (point_of c found es) (commands.SetFdp x) ≡ None → t.setting.generation + 1 < 2 ^ 32 → CanSet c t x.index
-may-set c found first es t x h accepted small =
+pub may-set : (c : DriveConfig) (found : Found) (first : Spot → Option Written) (es : List Entry) (t : Tables) (x : SetFdp) → IsHeld c found first es t → refusal_of c (point_of c found es) (commands.SetFdp x) ≡ None → CanSet c t x.index
+may-set c found first es t x h accepted =
     let p : Point = point_of c found es in
     let checked = accepted-feature c p x.group x.enable x.index accepted in
     record {
       config = h.config;
       index = checked.0;
       unowned = unowned-none c p (written_by c found first es) h.pages_are.at t.pages h.orderly.state (none-there c p.state h.orderly.state checked.1) h.pages_are.led;
-      generation = small;
     }
 
 -- ---- the entry
@@ -65,7 +64,6 @@ set-follows told c p queue number x moment queue_is formed accepted =
 record IsSet (c : DriveConfig) (s n : PlainState) (x : SetFdp) : Type 0 where
   enabled : n.enabled ≡ x.enable
   index : n.index ≡ x.index
-  generation : n.generation ≡ s.generation + 1
   namespaces : n.namespaces ≡ s.namespaces
   blocks : n.blocks ≡ s.blocks
   going : n.going ≡ s.going
@@ -78,7 +76,6 @@ unfolding next after changed_by effect_of
 set-is c p queue number x moment = record {
   enabled = refl;
   index = refl;
-  generation = refl;
   namespaces = refl;
   blocks = refl;
   going = refl;
@@ -88,10 +85,10 @@ set-is c p queue number x moment = record {
 }
 
 -- the tables stand for the history with that command
-pub held-set : (c : DriveConfig) (found : Found) (first : Spot → Option Written) (es : List Entry) (t now : Tables) (queue number : ℕ) (x : SetFdp) (moment : ℕ) →
-    IsHeld c found first es t → IsQueue c queue → IsWellFormed c (commands.SetFdp x) → refusal_of c (point_of c found es) (commands.SetFdp x) ≡ None → SetsTables c x.enable x.index t now →
-    IsHeld c found first (es ++ set_entry queue number x statuses.SUCCESS moment ∷ []) now
-held-set c found first es t now queue number x moment h queue_is formed accepted sets =
+pub held-set : (c : DriveConfig) (found : Found) (first : Spot → Option Written) (es : List Entry) (t now : Tables) (queue number : ℕ) (x : SetFdp) (moment : ℕ) (outline : Summary) →
+    IsHeld c found first es t → IsQueue c queue → IsWellFormed c (commands.SetFdp x) → refusal_of c (point_of c found es) (commands.SetFdp x) ≡ None → SetsTables c x.enable x.index t now → IsOutlineBehind c found es (set_entry queue number x statuses.SUCCESS moment) outline →
+    IsHeld c found first (es ++ set_entry queue number x statuses.SUCCESS moment ∷ []) (record now { outline = outline })
+held-set c found first es t now queue number x moment outline h queue_is formed accepted sets behind =
     let e : Entry = set_entry queue number x statuses.SUCCESS moment in
     let p : Point = point_of c found es in
     let q : Point = next c p e in
@@ -99,15 +96,9 @@ held-set c found first es t now queue number x moment h queue_is formed accepted
     let follows : Follows true c p e = set-follows true c p queue number x moment queue_is formed accepted in
     let classes : SetsClasses t.pages now.pages (classes_of c q.state.enabled q.state.index) =
     subst (λ (xs : List Class). SetsClasses t.pages now.pages xs) (sym (ap (λ (b : Bool). classes_of c b q.state.index) is.enabled ∙ ap (classes_of c x.enable) is.index)) sets.pages in
-    subst (λ (y : Tables). IsHeld c found first (es ++ e ∷ []) y) (sym sets.rest)
-    (held-next true c found first es e t (record t { setting = now.setting; pages = now.pages }) h follows
+    subst (λ (y : Tables). IsHeld c found first (es ++ e ∷ []) (record y { outline = outline })) (sym sets.rest)
+    (held-next true c found first es e t (record t { outline = outline; pages = now.pages }) h follows
     (record {
-      setting_is = record {
-        enabled = is.enabled ∙ sym (ap (λ (y : Setting). y.enabled) sets.setting);
-        index = is.index ∙ sym (ap (λ (y : Setting). y.index) sets.setting);
-        generation = is.generation ∙ ap (λ (k : ℕ). k + 1) h.setting_is.generation ∙ sym (ap (λ (y : Setting). y.generation) sets.setting);
-      };
-      spaces_are = record { groups = h.spaces_are.groups; namespaces = λ nsid. ap (λ (f : ℕ → Option Namespace). f nsid) is.namespaces ∙ h.spaces_are.namespaces nsid };
       map_is = record {
         geometry = h.map_is.geometry;
         sizes = λ nsid. ap (λ (f : ℕ → Option Namespace). option_map_or (λ y. y.size) (f nsid) 0) is.namespaces ∙ h.map_is.sizes nsid;
@@ -121,5 +112,5 @@ held-set c found first es t now queue number x moment h queue_is formed accepted
       };
       units_are = units-set c p.state q.state t.pages now.pages is.is_lost is.is_worn is.references classes h.units_are;
     })
-    (are_sums-push found es e t.sums t.sums h.sums_are (omega arith) (omega arith) (omega arith) (omega arith) (omega arith) (omega arith))
+    behind
     (pages-left true c p queue number (commands.SetFdp x) (bare statuses.SUCCESS true) moment (written_by c found first es) t.map t.flights.items t.pages now.pages h.orderly follows refl is.going is.namespaces sets.pages.leaves h.pages_are))

@@ -1,5 +1,5 @@
 -- What a handle that is shut leaves of the tables.
-use Rattle.std.proofs.Common.{◌≡◌, ◌≢◌, ℕ, ◌+◌, ◌≤◌, ◌<◌, Bool, true, List, [], ◌∷◌, ◌++◌, Option, refl, sym, ap, subst, arith, inl, eq-eqb, ne_eqb, ⊎_elim}
+use Rattle.std.proofs.Common.{◌≡◌, ◌≢◌, ℕ, ◌+◌, ◌≤◌, ◌<◌, Bool, true, List, [], ◌∷◌, ◌++◌, Option, refl, sym, ◌∙◌, ap, subst, arith, inl, eq-eqb, ne_eqb, ⊎_elim}
 use Rattle.std.specs.Prelude.{if◌then◌else◌}
 use Rattle.std.proofs.lemmas.Bool.{cases_eq}
 use Rattle.fdp_base.specs.declared.config.DriveConfig.{DriveConfig}
@@ -9,12 +9,13 @@ use Rattle.fdp_base.specs.declared.entry.Spot.{Spot}
 use Rattle.fdp_base.specs.Numbers.{with_at}
 use Rattle.fdp_book.specs.declared.tables.Tables.{Tables}
 use Rattle.fdp_book.specs.Held.{IsHeld}
+use Rattle.fdp_book.specs.Outlined.{IsOutlineAt, IsOutlineBehind}
 use Rattle.fdp_book.proofs.Held.Ended.{passes-same}
 use Rattle.fdp_book.proofs.Held.Next.{held-next}
 use Rattle.fdp_book.proofs.Held.Started.{copies-same}
-use Rattle.fdp_book.proofs.Held.Sums.{are_sums-push}
-use Rattle.fdp_book.proofs.Kept.{IsAlike, flights-alike, map-alike, setting-alike, spaces-alike}
+use Rattle.fdp_book.proofs.Kept.{IsAlike, flights-alike, map-alike}
 use Rattle.fdp_book.proofs.Leading.{leads-same}
+use Rattle.fdp_book.proofs.Outlining.{generation-said}
 use Rattle.fdp_book.proofs.Placing.Fresh.{IsFreshPage}
 use Rattle.fdp_readings.specs.fdp_locations.Located.{next_in}
 use Rattle.fdp_readings.specs.fdp_locations.Written.{Written, written_by}
@@ -31,6 +32,7 @@ use Rattle.fdp_rules.specs.PlainState.{PlainState}
 use Rattle.fdp_rules.specs.Point.{Point}
 use Rattle.fdp_rules.specs.Room.{handles_in_force}
 use Rattle.fdp_rules.specs.Step.{Follows}
+use Rattle.fdp_snapshot.specs.declared.state.Summary.{Summary}
 use Rattle.fdp_readings.proofs.fdp_trails.Grouping.{all-renamed}
 
 abbrev pub shut_entry : ℕ → ℕ → Entry
@@ -75,9 +77,9 @@ shut-next t now rg ruh spot h unit =
     (cases_eq unit spot.unit)
 
 pub held-shut : (c : DriveConfig) (found : Found) (first : Spot → Option Written) (es : List Entry) (t now : Tables) (rg ruh : ℕ) (spot : Spot) →
-    IsHeld c found first es t → rg < c.groups → ruh < handles_in_force c (point_of c found es).state → IsFreshPage t.pages rg spot → ShutsUnit t.pages now.pages rg ruh spot → now ≡ record t { pages = now.pages } →
+    IsHeld c found first es t → rg < c.groups → ruh < handles_in_force c (point_of c found es).state → IsFreshPage t.pages rg spot → ShutsUnit t.pages now.pages rg ruh spot → now ≡ record t { outline = now.outline; pages = now.pages } → IsOutlineBehind c found es (shut_entry rg ruh) now.outline →
     IsHeld c found first (es ++ shut_entry rg ruh ∷ []) now
-held-shut c found first es t now rg ruh spot h group handle fresh shuts rest =
+held-shut c found first es t now rg ruh spot h group handle fresh shuts rest outline =
     let e : Entry = shut_entry rg ruh in
     let p : Point = point_of c found es in
     let q : Point = next c p e in
@@ -85,16 +87,14 @@ held-shut c found first es t now rg ruh spot h group handle fresh shuts rest =
     let pages = h.pages_are in
     let follows : Follows true c p e = shut-follows true c p rg ruh group handle in
     subst (λ (x : Tables). IsHeld c found first (es ++ e ∷ []) x) (sym rest)
-    (held-next true c found first es e t (record t { pages = now.pages }) h follows
+    (held-next true c found first es e t (record t { outline = now.outline; pages = now.pages }) h follows
     (record {
-      setting_is = setting-alike p.state q.state t.setting is.alike h.setting_is;
-      spaces_are = spaces-alike c p.state q.state t.spaces is.alike h.spaces_are;
       map_is = map-alike c p.state q.state t.map is.alike is.blocks h.map_is;
       flights_are = flights-alike c p.state q.state t.flights.items is.alike is.going h.flights_are;
       units_are = units-referring c p.state q.state t.pages now.pages rg ruh (no_reference c) is.alike.enabled is.alike.index is.is_lost is.is_worn is.references (shuts.handles.references c h.units_are.unit_pages) shuts.handles.rest
           (shuts-alike t.pages now.pages rg ruh spot fresh.kept shuts) h.units_are;
     })
-    (are_sums-push found es e t.sums t.sums h.sums_are (omega arith) (omega arith) (omega arith) (omega arith) (omega arith) (omega arith))
+    outline
     (record {
       at = pages.at;
       led = led-shut true c p rg ruh (written_by c found first es) pages.at t.pages now.pages h.orderly follows
@@ -103,3 +103,9 @@ held-shut c found first es t now rg ruh spot h group handle fresh shuts rest =
           pages.led;
       leads = leads-same p.state q.state t.map t.flights.items pages.at is.alike.namespaces pages.leads;
     }))
+
+-- the generation stays
+pub generation-shut : (c : DriveConfig) (found : Found) (es : List Entry) (rg ruh : ℕ) (old new : Summary) → IsOutlineAt c (point_of c found es) old → IsOutlineBehind c found es (shut_entry rg ruh) new → new.generation ≡ old.generation
+generation-shut c found es rg ruh old new before behind =
+    let p : Point = point_of c found es in
+    sym (generation-said c (next c p (shut_entry rg ruh)) new behind.at) ∙ (shut-is c p rg ruh).alike.generation ∙ generation-said c p old before

@@ -10,12 +10,11 @@ use Rattle.fdp_base.specs.CommandKinds.{nsid_of, pid_of, write_of}
 use Rattle.fdp_base.specs.Numbers.{with_at}
 use Rattle.fdp_base.proofs.Writes.{write-is}
 use Rattle.fdp_book.specs.declared.flight.Flight.{Flight}
-use Rattle.fdp_book.specs.Held.{AreFlightsOf, AreSpacesOf, flight_in, going_of, page_in}
+use Rattle.fdp_book.specs.Held.{AreFlightsOf, flight_in, going_of, page_in}
 use Rattle.fdp_rules.specs.PlainState.{Going, Namespace, PlainState}
 use Rattle.fdp_rules.specs.Sites.{is_there}
 use Rattle.fdp_rules.specs.Step.{IsOnTarget, goes_to}
 use Rattle.fdp_rules.specs.Target.{group_of_pid, handle_of_pid, target_of}
-use Rattle.fdp_spaces.specs.SpaceTable.{SpaceTable, namespace_at}
 
 -- ---- one identifier and the others
 
@@ -26,16 +25,6 @@ at-read f table place value i = by (i == place)
     by : (b : Bool) → f (if b then value else table i) ≡ (if b then f value else f (table i))
     by true = refl
     by false = refl
-
--- the table of namespaces follows
-pub spaces-put : (c : DriveConfig) (s n : PlainState) (x y : SpaceTable) (nsid : ℕ) (o : Option Namespace) → n.namespaces ≡ with_at s.namespaces nsid o → namespace_at y ≡ with_at (namespace_at x) nsid o → y.groups ≡ x.groups → AreSpacesOf c s x → AreSpacesOf c n y
-spaces-put c s n x y nsid o is put groups h = record {
-  groups = h.groups ∙ sym groups;
-  namespaces = λ k.
-      ap (λ (f : ℕ → Option Namespace). f k) is
-      ∙ ap (λ (f : ℕ → Option Namespace). with_at f nsid o k) (λ d i. h.namespaces i d)
-      ∙ sym (ap (λ (f : ℕ → Option Namespace). f k) put);
-}
 
 -- ---- where a write goes
 

@@ -10,16 +10,15 @@ use Rattle.fdp_base.specs.declared.entry.Entry.TheVariants as entries
 use Rattle.fdp_base.specs.declared.entry.Spot.{Spot}
 use Rattle.fdp_base.specs.Numbers.{with_at}
 use Rattle.fdp_book.specs.declared.flight.Flight.{Flight}
-use Rattle.fdp_book.specs.declared.tables.Setting.{Setting}
-use Rattle.fdp_book.specs.declared.tables.Sums.{Sums}
 use Rattle.fdp_book.specs.declared.tables.Tables.{Tables}
 use Rattle.fdp_book.specs.Forgetting.{Forgets}
-use Rattle.fdp_book.specs.Held.{AreFlightsOf, AreSpacesOf, AreSumsOf, IsHeld, IsMapOf, IsSettingOf, flight_in, going_of, lead_in}
+use Rattle.fdp_book.specs.Held.{AreFlightsOf, IsHeld, IsMapOf, flight_in, going_of, lead_in}
+use Rattle.fdp_book.specs.Outlined.{Counts}
 use Rattle.fdp_book.proofs.Flights.Rows.{flown-set, going-set}
 use Rattle.fdp_book.proofs.Held.Next.{held-next}
-use Rattle.fdp_book.proofs.Held.Sums.{are_sums-push}
-use Rattle.fdp_book.proofs.Kept.{IsAlike, flight-alike, map-alike, setting-alike, spaces-alike}
+use Rattle.fdp_book.proofs.Kept.{IsAlike, flight-alike, map-alike}
 use Rattle.fdp_book.proofs.Leading.{its-pages, leads-without, live-known, live_of}
+use Rattle.fdp_book.proofs.Outlining.{behind-counted, namespaces-said}
 use Rattle.fdp_readings.specs.fdp_locations.Located.{LeadsTo}
 use Rattle.fdp_readings.specs.fdp_locations.Written.{Written, written_by}
 use Rattle.fdp_readings.proofs.fdp_locations.Ended.{led-started, owners-released}
@@ -37,7 +36,6 @@ use Rattle.fdp_rules.specs.PlainState.{Going, PlainState}
 use Rattle.fdp_rules.specs.Point.{Point}
 use Rattle.fdp_rules.specs.Sites.{is_there}
 use Rattle.fdp_rules.specs.Step.{Follows, IsOnTarget, IsStarted}
-use Rattle.fdp_spaces.specs.SpaceTable.{SpaceTable}
 use Rattle.fdp_readings.proofs.fdp_trails.Grouping.{all-renamed}
 
 -- a flight that was started as this going write, and has no page
@@ -89,9 +87,7 @@ pub record StartsFlight (t mid now : Tables) (queue : ℕ) (f : Flight) : Type 0
   pub old : Option Flight
   pub forgets : Forgets t mid queue old
   pub flights_are : now.flights.items ≡ slice_set t.flights.items queue (Some f)
-  pub setting : now.setting ≡ t.setting
-  pub sums : now.sums ≡ t.sums
-  pub spaces : now.spaces ≡ t.spaces
+  pub counts : Counts 0 0 t.outline now.outline
   pub map : now.map ≡ t.map
   pub pages : now.pages ≡ mid.pages
 
@@ -113,16 +109,14 @@ held-started c found first es t mid now queue number command f h l starts =
     let pages = h.pages_are in
     let changes : ChangesOwners t.pages now.pages = subst (λ (x : PageTables). ChangesOwners t.pages x) (sym starts.pages) starts.forgets.pages in
     let owners : owner_at now.pages.owners ≡ without (owner_at t.pages.owners) (live_of p.state (flight_in t.flights.items queue)) =
-    ap (λ (x : PageTables). owner_at x.owners) starts.pages ∙ starts.forgets.owners ∙ ap (without (owner_at t.pages.owners)) (live-known p.state t.spaces (flight_in t.flights.items queue) h.spaces_are.namespaces) in
+    ap (λ (x : PageTables). owner_at x.owners) starts.pages ∙ starts.forgets.owners ∙ ap (without (owner_at t.pages.owners)) (live-known p.state t.outline (flight_in t.flights.items queue) (namespaces-said c p t.outline h.outline_is)) in
     held-next true c found first es e t now h follows
     (record {
-      setting_is = subst (λ (x : Setting). IsSettingOf q.state x) (sym starts.setting) (setting-alike p.state q.state t.setting a h.setting_is);
-      spaces_are = subst (λ (x : SpaceTable). AreSpacesOf c q.state x) (sym starts.spaces) (spaces-alike c p.state q.state t.spaces a h.spaces_are);
       map_is = subst (λ (x : MapTable). IsMapOf c q.state x) (sym starts.map) (map-alike c p.state q.state t.map a (started-blocks c p queue number command f) h.map_is);
       flights_are = flights-started c p t.flights.items now.flights.items queue number command f there l starts.flights_are h.flights_are;
       units_are = units-same c p.state q.state t.pages now.pages (started-units c p queue number command f) (owners-alike t.pages now.pages changes) changes.handles h.units_are;
     })
-    (subst (λ (x : Sums). AreSumsOf found (es ++ e ∷ []) x) (sym starts.sums) (are_sums-push found es e t.sums t.sums h.sums_are (omega arith) (omega arith) (omega arith) (omega arith) (omega arith) (omega arith)))
+    (behind-counted c found es e t.outline now.outline refl h.orderly h.standing (λ no. follows) h.outline_is h.few starts.counts)
     (record {
       at = renamed r pages.at;
       led = led-started true c p queue number command f.rg f.ruh f.pid_valid (written_by c found first es) pages.at t.pages now.pages h.orderly.state follows

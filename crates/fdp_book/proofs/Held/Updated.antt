@@ -14,12 +14,13 @@ use Rattle.fdp_base.specs.declared.status.TheConstants.Status as statuses
 use Rattle.fdp_base.specs.CommandKinds.{IsWellFormed}
 use Rattle.fdp_book.specs.declared.tables.Tables.{Tables}
 use Rattle.fdp_book.specs.Held.{IsHeld}
+use Rattle.fdp_book.specs.Outlined.{IsOutlineBehind}
 use Rattle.fdp_book.specs.Updating.{CanUpdate, Updates}
 use Rattle.fdp_book.proofs.Held.Left.{pages-left}
 use Rattle.fdp_book.proofs.Held.Next.{held-next}
-use Rattle.fdp_book.proofs.Held.Sums.{are_sums-push}
 use Rattle.fdp_book.proofs.Histories.Commanded.{success-follows}
-use Rattle.fdp_book.proofs.Kept.{IsAlike, flights-alike, map-alike, setting-alike, spaces-alike}
+use Rattle.fdp_book.proofs.Kept.{IsAlike, flights-alike, map-alike}
+use Rattle.fdp_book.proofs.Outlining.{handles-said}
 use Rattle.fdp_handles.specs.HandleTable.{reference_at}
 use Rattle.fdp_readings.specs.fdp_locations.Written.{Written, written_by}
 use Rattle.fdp_readings.proofs.fdp_locations.Ended.{host}
@@ -35,16 +36,18 @@ use Rattle.fdp_rules.specs.Point.{Point}
 use Rattle.fdp_rules.specs.Refusal.{refusal_of}
 use Rattle.fdp_rules.specs.Room.{handles_in_force}
 use Rattle.fdp_rules.specs.Step.{Follows, IsQueue}
+use Rattle.fdp_snapshot.specs.declared.state.Summary.{Summary}
 use Rattle.fdp_units.specs.UnitTable.{Cut}
 
 -- ---- a command that is not refused
 
 -- the pages have what the identifiers of a namespace may name
-pub may-update : (c : DriveConfig) (found : Found) (first : Spot → Option Written) (es : List Entry) (t : Tables) (nsid : ℕ) → IsHeld c found first es t → CanUpdate t nsid
+pub may-update : (c : DriveConfig) (found : Found) (first : Spot → Option Written) (es : List Entry) (t : Tables) (nsid : ℕ) → IsHeld c found first es t → CanUpdate c t nsid
 may-update c found first es t nsid h = record {
-  groups = sym h.spaces_are.groups ∙ sym (ap (λ (x : Cut). x.groups) h.units_are.cut);
+  config = h.config;
+  groups = sym (ap (λ (x : Cut). x.groups) h.units_are.cut);
   handles = λ ruh has.
-      let low : ruh < handles_in_force c s = listed (s.namespaces nsid) refl ruh (subst (λ (o : Option Namespace). Contains (option_map_or (λ (x : Namespace). x.handles) o []) ruh) (sym (h.spaces_are.namespaces nsid)) has) in
+      let low : ruh < handles_in_force c s = listed (s.namespaces nsid) refl ruh (subst (λ (xs : List ℕ). Contains xs ruh) (sym (handles-said c (point_of c found es) t.outline h.outline_is nsid)) has) in
       let classes : handles_in_force c s ≡ length t.pages.handles.classes = ap (λ (xs : List Class). length xs) h.units_are.classes in
       omega (arith, low, classes);
 } where
@@ -85,10 +88,10 @@ updated-is c p queue number u moment = record {
 }
 
 -- the tables stand for the history with that command
-pub held-updated : (c : DriveConfig) (found : Found) (first : Spot → Option Written) (es : List Entry) (t now : Tables) (queue number : ℕ) (u : HandleUpdate) (moment : ℕ) →
-    IsHeld c found first es t → IsQueue c queue → IsWellFormed c (commands.Update u) → refusal_of c (point_of c found es) (commands.Update u) ≡ None → Updates t now u.nsid u.pids →
-    IsHeld c found first (es ++ update_entry queue number u statuses.SUCCESS moment ∷ []) now
-held-updated c found first es t now queue number u moment h queue_is formed accepted updates =
+pub held-updated : (c : DriveConfig) (found : Found) (first : Spot → Option Written) (es : List Entry) (t now : Tables) (queue number : ℕ) (u : HandleUpdate) (moment : ℕ) (outline : Summary) →
+    IsHeld c found first es t → IsQueue c queue → IsWellFormed c (commands.Update u) → refusal_of c (point_of c found es) (commands.Update u) ≡ None → Updates c t now u.nsid u.pids → IsOutlineBehind c found es (update_entry queue number u statuses.SUCCESS moment) outline →
+    IsHeld c found first (es ++ update_entry queue number u statuses.SUCCESS moment ∷ []) (record now { outline = outline })
+held-updated c found first es t now queue number u moment outline h queue_is formed accepted updates behind =
     let e : Entry = update_entry queue number u statuses.SUCCESS moment in
     let p : Point = point_of c found es in
     let q : Point = next c p e in
@@ -98,15 +101,13 @@ held-updated c found first es t now queue number u moment h queue_is formed acce
     let references : q.state.references ≡ reference_at now.pages.handles =
     is.references
     ∙ ap (λ (refs : References). fold (updated_by c p.state u.nsid) refs u.pids) before
-    ∙ sym (updates.references c p.state (record { groups = h.spaces_are.groups; namespace = h.spaces_are.namespaces u.nsid }) h.units_are.unit_pages) in
-    subst (λ (x : Tables). IsHeld c found first (es ++ e ∷ []) x) (sym updates.rest)
-    (held-next true c found first es e t (record t { pages = now.pages }) h follows
+    ∙ sym (updates.references p.state (handles-said c p t.outline h.outline_is u.nsid) h.units_are.unit_pages) in
+    subst (λ (x : Tables). IsHeld c found first (es ++ e ∷ []) (record x { outline = outline })) (sym updates.rest)
+    (held-next true c found first es e t (record t { outline = outline; pages = now.pages }) h follows
     (record {
-      setting_is = setting-alike p.state q.state t.setting is.alike h.setting_is;
-      spaces_are = spaces-alike c p.state q.state t.spaces is.alike h.spaces_are;
       map_is = map-alike c p.state q.state t.map is.alike is.blocks h.map_is;
       flights_are = flights-alike c p.state q.state t.flights.items is.alike is.going h.flights_are;
       units_are = units-rows c p.state q.state t.pages now.pages is.alike.enabled is.alike.index is.is_lost is.is_worn references updates.handles (left-alike t.pages now.pages updates.leaves) h.units_are;
     })
-    (are_sums-push found es e t.sums t.sums h.sums_are (omega arith) (omega arith) (omega arith) (omega arith) (omega arith) (omega arith))
+    behind
     (pages-left true c p queue number (commands.Update u) (bare statuses.SUCCESS true) moment (written_by c found first es) t.map t.flights.items t.pages now.pages h.orderly follows refl is.going is.alike.namespaces updates.leaves h.pages_are))

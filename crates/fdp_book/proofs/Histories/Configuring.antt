@@ -4,19 +4,18 @@ use Rattle.std.specs.Prelude.{◌==◌, option_map}
 use Rattle.std.proofs.lemmas.Bool.Decides.{nat_tests}
 use Rattle.fdp_base.specs.declared.config.DriveConfig.{DriveConfig}
 use Rattle.fdp_base.specs.declared.config.NamespaceConfig.{NamespaceConfig}
-use Rattle.fdp_base.specs.Config.{IsValidConfig, IsValidNamespace}
+use Rattle.fdp_base.specs.Config.{IsValidConfig}
 use Rattle.fdp_base.specs.declared.config.Geometry.{Geometry}
 use Rattle.fdp_base.specs.Geometry.{all_units}
-use Rattle.fdp_rules.specs.History.{FoundNamespace, first_state, fresh, made_namespace}
+use Rattle.fdp_rules.specs.History.{FoundNamespace, made_namespace}
 use Rattle.fdp_base.specs.Numbers.{with_at}
 use Rattle.fdp_base.specs.Placement.{budget_of, full_budget, geometry_of, handle_count}
 use Rattle.fdp_rules.specs.PlainState.{Namespace}
-use Rattle.fdp_history.proofs.Spaces.{in_force-within}
 use Rattle.std.proofs.lemmas.List.Sums.{get_or-le-sum_by}
 use Rattle.std.proofs.lemmas.Nat.{mul-le}
 use Rattle.fdp_map.specs.MapTable.{MapTable, mapped_at, size_in}
-use Rattle.fdp_spaces.specs.SpaceTable.{SpaceTable, namespace_at}
-use Rattle.fdp_book.specs.Configured.{HasFewHandles, made_as, namespaces_from, size_of_some}
+use Rattle.fdp_book.specs.Configured.{namespaces_from, size_of_some}
+use Rattle.fdp_outline.specs.Fresh.{made_as}
 
 head_first : {X Y : Type 0} (f : X → Y) (a b : Bool) (x : X) → a ≡ b → option_map f (cond a (Some x) None) ≡ cond b (Some (f x)) None
 head_first f true true x e = refl
@@ -44,21 +43,6 @@ more_at made i nsid d below =
     let place : (nsid == 1 + i) ≡ (nsid == i + 1) = grind (arith, nat_tests) in
     let more : namespaces_from 1 (take (i + 1) made) nsid ≡ cond (nsid == 1 + i) (Some (made_as (get_or made i d))) (namespaces_from 1 (take i made) nsid) = rw add-one (namespaces_from-more 1 i made nsid d below) in
     more ∙ ap (λ b. cond b (Some (made_as (get_or made i d))) (namespaces_from 1 (take i made) nsid)) place
-
--- the first namespaces stand in the table
-pub record IsListing (made : List NamespaceConfig) (groups i : ℕ) (x : SpaceTable) : Type 0 where
-  pub groups_are : x.groups ≡ groups
-  pub namespaces : (nsid : ℕ) → namespace_at x nsid ≡ namespaces_from 1 (take i made) nsid
-
-pub listing-next : (made : List NamespaceConfig) (groups i : ℕ) (old new : SpaceTable) (n : Namespace) (d : NamespaceConfig) → i < length made → n ≡ made_as (get_or made i d) → new.groups ≡ old.groups → namespace_at new ≡ with_at (namespace_at old) (i + 1) (Some n) → IsListing made groups i old → IsListing made groups (i + 1) new
-listing-next made groups i old new n d below is same put h = record {
-  groups_are = same ∙ h.groups_are;
-  namespaces = λ nsid.
-      ap (λ (f : ℕ → Option Namespace). f nsid) put
-      ∙ ap (λ (m : Namespace). cond (nsid == i + 1) (Some m) (namespace_at old nsid)) is
-      ∙ ap (λ (o : Option Namespace). cond (nsid == i + 1) (Some (made_as (get_or made i d))) o) (h.namespaces nsid)
-      ∙ sym (more_at made i nsid d below);
-}
 
 -- the first namespaces have places, and no block is there
 pub record IsRoomy (g : Geometry) (made : List NamespaceConfig) (i : ℕ) (x : MapTable) : Type 0 where
@@ -111,17 +95,3 @@ budgets-few c valid handles =
 pub blocks-few : (c : DriveConfig) → IsValidConfig c → (i : ℕ) (d : NamespaceConfig) → i < length c.namespaces → (get_or c.namespaces i d).blocks ≤ 262144
 blocks-few c valid i d below =
     omega (arith, get_or-le-sum_by (λ (n : NamespaceConfig). n.blocks) c.namespaces i d below, valid.room.namespaces, budgets-few c valid (handle_count c c.enabled c.index))
-
-few-in_force : (c : DriveConfig) → IsValidConfig c → handle_count c c.enabled c.index ≤ 16
-unfolding first_state fresh
-few-in_force c valid = (in_force-within c (first_state c (fresh c)) valid valid.ranges.index).1
-
-few_of : (c : DriveConfig) → IsValidConfig c → (x : NamespaceConfig) → IsValidNamespace c x → HasFewHandles x
-few_of c valid x v = record {
-  few = λ list e. (v.handles list e).1.number.1;
-  known = λ list e k d below. omega (arith, (v.handles list e).1.known k d below, (few-in_force c valid));
-}
-
--- each namespace that a drive is made with has handles that fit
-pub handles-few : (c : DriveConfig) → IsValidConfig c → (i : ℕ) (d : NamespaceConfig) → i < length c.namespaces → HasFewHandles (get_or c.namespaces i d)
-handles-few c valid i d below = few_of c valid (get_or c.namespaces i d) (valid.ranges.each_namespace i d below)

@@ -1,56 +1,121 @@
--- The namespaces that were found, one after another.
-use Rattle.std.proofs.Common.{◌≡◌, ◌≢◌, ℕ, ◌+◌, ◌-◌, ◌≤◌, ◌<◌, Bool, true, false, List, Option, Some, None, slice_get, sym, ◌∙◌, ap, arith, eq-eqb, ne_eqb, ⊎_elim}
-use Rattle.std.specs.Prelude.{◌&&◌, if◌then◌else◌, nat_le, option_map}
-use Rattle.std.specs.Option.{option_and_then}
-use Rattle.std.proofs.lemmas.Bool.{cases_eq, cases_lt, le-ltb, lt-ltb}
-use Rattle.std.proofs.lemmas.Bool.Decides.{nat_tests}
-use Rattle.fdp_base.specs.Numbers.{is_among, with_at}
-use Rattle.fdp_image.specs.Checkpoint.{namespace_of}
-use Rattle.fdp_rules.specs.PlainState.{Namespace}
-use Rattle.fdp_snapshot.specs.declared.space.Space.{Space}
-use Rattle.fdp_spaces.specs.SpaceTable.{SpaceTable, namespace_at}
+-- The outline of a drive that was found.
+use Rattle.std.proofs.Common.{◌≡◌, ℕ, ◌+◌, ◌≤◌, ◌<◌, List, [], length, refl, sym, ◌∙◌, ap, subst, arith}
+use Rattle.std.specs.Prelude.{◌-◌, ◌++◌, drop}
+use Rattle.std.proofs.lemmas.List.{append-nil}
+use Rattle.fdp_base.specs.declared.config.DriveConfig.{DriveConfig}
+use Rattle.fdp_base.specs.declared.entry.Entry.TheVariants as entries
+use Rattle.fdp_base.specs.declared.event.Event.{Event}
+use Rattle.fdp_base.specs.Placement.{handle_count}
+use Rattle.fdp_base.specs.declared.entry.Totals.{Totals}
+use Rattle.fdp_book.specs.Outlined.{Counts, IsOutlineAt}
+use Rattle.fdp_book.specs.Saving.{AreSmall}
+use Rattle.fdp_flash.specs.declared.cell.Cell.{Cell}
+use Rattle.fdp_found.specs.Beginning.{CanBegin}
+use Rattle.fdp_found.specs.Finding.{found_in}
+use Rattle.fdp_found.specs.fdp_state.Loaded.{IsDriveState}
+use Rattle.fdp_found.proofs.Stating.{state-found}
+use Rattle.fdp_image.specs.Checkpoint.{reading_of_state}
+use Rattle.fdp_image.specs.Outline.{state_with}
+use Rattle.fdp_image.specs.Reading.{Reading}
+use Rattle.fdp_image.specs.Valid.{IsValid, state_in}
+use Rattle.fdp_outline.specs.Events.{AddsEvents, with_events, with_kept}
+use Rattle.fdp_outline.specs.Outline.{IsOutlineOf, IsWritable}
+use Rattle.fdp_outline.proofs.Saying.{outline-more, outline-totals}
+use Rattle.fdp_readings.specs.Drawn.{drawn}
+use Rattle.fdp_rules.specs.Change.{after, changed_by}
+use Rattle.fdp_rules.specs.Events.{events_of_entry, kept_from, kept_of_entry, latest}
+use Rattle.fdp_rules.specs.History.{Found, controller_events_of, events_of, first_state, host_events_of, point_of, state_of, totals_of}
+use Rattle.fdp_rules.specs.Next.{next, totals_with}
+use Rattle.fdp_rules.specs.PlainState.{PlainState}
+use Rattle.fdp_rules.specs.Point.{Point}
+use Rattle.fdp_rules.specs.Room.{handles_in_force}
+use Rattle.fdp_snapshot.specs.declared.state.State.{State}
+use Rattle.fdp_snapshot.specs.declared.state.Summary.{Summary}
 
--- the row of an identifier, if that is one of so many
-abbrev row_below : List (Option Space) → ℕ → Bool → Option Namespace
-row_below found nsid b = option_map namespace_of (if b then option_and_then (λ (o : Option Space). o) (slice_get found (nsid - 1)) else None)
+latest-few : (xs : List Event) → length xs ≤ 32 → xs ≡ latest (xs ++ [])
+latest-few xs few = sym (ap latest (append-nil xs) ∙ all) where
+  all : drop (length xs - 32) xs ≡ xs
+  all = let none : length xs - 32 ≡ 0 = omega (arith, few) in ap (λ (n : ℕ). drop n xs) none
 
--- a table has the namespaces of the first identifiers that were found
-pub record HasFound (found : List (Option Space)) (groups count : ℕ) (x : SpaceTable) : Type 0 where
-  pub groups_are : x.groups ≡ groups
-  pub namespaces : (nsid : ℕ) → namespace_at x nsid ≡ row_below found nsid (is_among 1 count nsid)
+plus-none : (n : ℕ) → n ≡ n + 0
+plus-none n = omega arith
 
-pub found-first : (found : List (Option Space)) (groups : ℕ) (x : SpaceTable) → x.groups ≡ groups → ((nsid : ℕ) → namespace_at x nsid ≡ None) → HasFound found groups 0 x
-found-first found groups x same none = record {
-  groups_are = same;
-  namespaces = λ nsid. let outside : is_among 1 0 nsid ≡ false = grind (arith, nat_tests) in none nsid ∙ sym (ap (row_below found nsid) outside);
-}
+-- the summary that was read is the outline of what the history without an entry draws
+pub outline-found : (c : DriveConfig) (cells : List Cell) (s : State) → IsDriveState c s → IsValid c cells (reading_of_state s) → CanBegin (reading_of_state s) → IsOutlineAt c (point_of c (found_in c cells (reading_of_state s)) []) s.summary
+unfolding reading_of_state state_in state_with point_of state_of totals_of host_events_of controller_events_of events_of kept_from first_state
+outline-found c cells s drive valid can =
+    let r : Reading = reading_of_state s in
+    let f : Found = found_in c cells r in
+    let same : first_state c f ≡ state_in c cells r = state-found c cells r valid can in
+    record {
+      outline = record {
+        sizes = drive.keys;
+        rows = drive.rows;
+        says = λ d. record (drawn c (point_of c f [])) {
+          reports = ap (λ (x : PlainState). x.reports) (sym same) d;
+          namespaces = ap (λ (x : PlainState). x.namespaces) (sym same) d;
+          host_events = latest-few r.host_events can.host_events d;
+          controller_events = latest-few r.controller_events can.controller_events d;
+        };
+      };
+      totals = λ d. record {
+        position = plus-none s.summary.totals.position d;
+        host_blocks = plus-none s.summary.totals.host_blocks d;
+        media_blocks = plus-none s.summary.totals.media_blocks d;
+        erases = plus-none s.summary.totals.erases d;
+      };
+    }
 
--- the next has none yet
-pub found-absent : (found : List (Option Space)) (groups place : ℕ) (x : SpaceTable) → HasFound found groups place x → namespace_at x (place + 1) ≡ None
-found-absent found groups place x h =
-    let outside : is_among 1 place (place + 1) ≡ false = grind (arith, nat_tests) in
-    h.namespaces (place + 1) ∙ ap (row_below found (place + 1)) outside
+-- and its position is that of the history
+pub position-found : (c : DriveConfig) (f : Found) → (point_of c f []).totals.position ≡ (point_of c f []).state.position
+unfolding point_of state_of totals_of first_state
+position-found c f = sym (plus-none f.totals.position)
 
--- another identifier is one of those as before
-among-other : (place nsid : ℕ) → nsid ≢ place + 1 → is_among 1 place nsid ≡ is_among 1 (place + 1) nsid
-among-other place nsid ne = ap (λ (b : Bool). nat_le 1 nsid && b) (⊎_elim
-    (λ (low : nsid < 1 + place). lt-ltb nsid (1 + place) low ∙ sym (lt-ltb nsid (1 + (place + 1)) (omega (arith, low))))
-    (λ (high : 1 + place ≤ nsid). le-ltb nsid (1 + place) high ∙ sym (le-ltb nsid (1 + (place + 1)) (omega (arith, high, ne))))
-    (cases_lt nsid (1 + place)))
+-- ---- the entry of an opening
 
-pub found-next : (found : List (Option Space)) (groups place : ℕ) (old new : SpaceTable) (row : Option Space) → slice_get found place ≡ Some row → new.groups ≡ old.groups
-    → ((n : ℕ) → namespace_at new n ≡ with_at (namespace_at old) (place + 1) (option_map namespace_of row) n) → HasFound found groups place old → HasFound found groups (place + 1) new
-found-next found groups place old new row is same put h = record {
-  groups_are = same ∙ h.groups_are;
-  namespaces = λ nsid. put nsid ∙ ⊎_elim
-      (λ (here : nsid ≡ place + 1).
-      let inside : is_among 1 (place + 1) nsid ≡ true = grind (arith, nat_tests) in
-      let at : nsid - 1 ≡ place = omega (arith, here) in
-      ap (λ (b : Bool). if b then option_map namespace_of row else namespace_at old nsid) (eq-eqb nsid (place + 1) here)
-      ∙ sym (ap (row_below found nsid) inside ∙ ap (λ (k : ℕ). option_map namespace_of (option_and_then (λ (o : Option Space). o) (slice_get found k))) at
-      ∙ ap (λ (o : Option (Option Space)). option_map namespace_of (option_and_then (λ (o : Option Space). o) o)) is))
-      (λ (ne : nsid ≢ place + 1).
-      ap (λ (b : Bool). if b then option_map namespace_of row else namespace_at old nsid) (ne_eqb nsid (place + 1) ne)
-      ∙ h.namespaces nsid ∙ ap (row_below found nsid) (among-other place nsid ne))
-      (cases_eq nsid (place + 1));
-}
+-- it adds no more than its events
+pub reopened-adds : (c : DriveConfig) (p : Point) → AddsEvents (drawn c p) (events_of_entry c p.state entries.Reopened) (drawn c (next c p entries.Reopened))
+unfolding next kept_of_entry after changed_by
+reopened-adds c p = record { same = refl }
+
+-- what an outline says of the handles in force
+pub in_force-said : (c : DriveConfig) (p : Point) (s : Summary) → IsOutlineAt c p s → handle_count c s.enabled s.index ≡ handles_in_force c p.state
+unfolding reading_of_state
+in_force-said c p s h = ap (λ (r : Reading). handle_count c r.enabled r.index) h.outline.says
+
+-- with these kept and the position counted an outline is that behind the entry
+pub opened-by : (c : DriveConfig) (p : Point) (s kept new : Summary) → IsOutlineAt c p s → kept ≡ with_events s (events_of_entry c p.state entries.Reopened) → Counts 0 0 kept new → IsOutlineAt c (next c p entries.Reopened) new
+unfolding next with_kept
+opened-by c p s kept new h is counts =
+    let more : IsOutlineOf c (drawn c (next c p entries.Reopened)) kept =
+    subst (λ (x : Summary). IsOutlineOf c (drawn c (next c p entries.Reopened)) x) (sym is)
+    (outline-more c (drawn c p) (drawn c (next c p entries.Reopened)) (events_of_entry c p.state entries.Reopened) s h.outline (reopened-adds c p)) in
+    let t : Totals = kept.totals in
+    let counted : Totals = record t { position = t.position + 1; media_blocks = t.media_blocks + 0; erases = t.erases + 0 } in
+    record {
+      outline = subst (IsOutlineOf c (drawn c (next c p entries.Reopened))) (sym counts.is) (outline-totals c (drawn c (next c p entries.Reopened)) kept counted more);
+      totals = ap (λ (x : Summary). x.totals) counts.is
+          ∙ ap (λ (n : ℕ). record counted { host_blocks = n }) (plus-none t.host_blocks)
+          ∙ ap (λ (x : Summary). totals_with x.totals entries.Reopened) is
+          ∙ ap (λ (x : Totals). totals_with x entries.Reopened) h.totals;
+    }
+
+-- ---- what a state that was found gives
+
+pub writable-found : (c : DriveConfig) (s : State) → IsDriveState c s → IsWritable s.summary
+writable-found c s h = record { summary = h.writable.summary; host_events = h.writable.host_events; controller_events = h.writable.controller_events }
+
+pub index-found : (c : DriveConfig) (s : State) → IsDriveState c s → s.summary.index < length c.fdp
+unfolding reading_of_state
+index-found c s h = h.good.index
+
+pub small-found : (s : State) → CanBegin (reading_of_state s) → AreSmall s.summary.totals
+unfolding reading_of_state
+small-found s can =
+    let few = can.unspent in
+    record {
+      position = omega (arith, few.position);
+      host_blocks = omega (arith, few.host_blocks);
+      media_blocks = omega (arith, few.media_blocks);
+      erases = omega (arith, few.erases);
+    }

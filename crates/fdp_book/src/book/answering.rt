@@ -16,6 +16,7 @@ use super::Book;
 use crate::room::{Replies, Room};
 use fdp_base::{Command, DriveConfig, Status};
 use fdp_logs::{status_frame, status_head};
+use fdp_snapshot::Summary;
 
 impl Book {
     /// The reply to a command that is not refused and changes nothing, and is neither a read nor a log. Of a handle status it takes a step for
@@ -63,10 +64,9 @@ impl Book {
     fn dword0_of_success(&self, command: &Command) -> u32
         ensures { result ≡ dword0_of (state_in self.now) command.now }
     {
-        let setting = self.tables.setting;
         match command {
-            Command::GetFdp(_) => u32::from(setting.enabled) + 256 * u32::from(setting.index),
-            Command::Create(_) => self.tables.spaces.lowest_free().unwrap_or(0),
+            Command::GetFdp(_) => setting_dword(self.summary()),
+            Command::Create(_) => self.lowest_free().unwrap_or(0),
             Command::Write(_)
             | Command::Read(_)
             | Command::Zero(_)
@@ -88,7 +88,7 @@ impl Book {
         ensures bytes { into.new ≡ filled (length into.old) (handle_status self.now.config (state_in self.now) nsid) }
         ensures size { length into.new ≡ length into.old }
     {
-        let handles = self.tables.spaces.handles(nsid);
+        let handles = self.tables.outline.handles(nsid);
         let groups = self.config.groups;
         let mut at = put(into, 0, &status_head(handles.len() as u16 * groups));
         for handle in 0..handles.len() {
@@ -113,6 +113,13 @@ impl Book {
         }
         end
     }
+}
+
+/// Whether placement is enabled, in bit 0, and the index of its configuration, in bits 8 to 15.
+fn setting_dword(summary: &Summary) -> u32
+    ensures { result ≡ (if summary.now.enabled then 1 else 0) + 256 * summary.now.index }
+{
+    u32::from(summary.enabled) + 256 * u32::from(summary.index)
 }
 
 /// The placement identifier of a group and a placement handle.

@@ -1,4 +1,4 @@
-ghost use Rattle.std.specs.Prelude.{◌≡◌, ◌⊎◌, ◌*◌, ◌+◌, ◌≤◌, [], None, replicate};
+ghost use Rattle.std.specs.Prelude.{◌≡◌, ◌⊎◌, ◌*◌, [], None, replicate};
 ghost use Rattle.fdp_base.specs.declared.status.TheConstants.Status as statuses;
 ghost use Rattle.fdp_book.specs.Applying.{MayChange, StandBehind};
 ghost use Rattle.fdp_book.specs.Book.{state_in};
@@ -13,8 +13,9 @@ use super::end::push_host;
 use super::namespaces::{create_namespace, delete_namespace};
 use super::setting::set_placement;
 use super::updating::update_handles;
+use crate::changes::lists::lists_of;
 use crate::room::Room;
-use crate::tables::Tables;
+use crate::tables::{Tables, make};
 use crate::ticket::Done;
 use fdp_base::{Command, DriveConfig, Status, Zero};
 use fdp_map::PageList;
@@ -41,26 +42,23 @@ impl Book {
         ensures pages { AppliesTo self.old.config command self.old.pages self.new.pages }
     {
         let dword0 = self.dword0_of(&command, status);
-        let birth = self.log.position() + 1;
-        let _ = self.log.spent(); // proof: few steps were made
+        let _ = self.log.position(); // proof: the sums are small
+        let lists = lists_of(self, &command);
+        let change = self.change_of_command(&lists, &command);
         let (places, replies) = room.into_places(status, dword0, true);
-        make_change(&mut self.tables, &self.config, &command, birth, places);
+        make_change(&mut self.tables, &self.config, &command, places);
+        // The outline is last: until then the namespaces are looked up as they were.
+        make(&mut self.tables.outline, &self.config, change, &[]);
         push_host(&mut self.log, queue, number, command, replies, moment)
     }
 }
 
-/// Makes the change of a command that is saved. A namespace that it creates has this birth and these places of its blocks.
-fn make_change(
-    tables: &mut Tables,
-    config: &DriveConfig,
-    command: &Command,
-    birth: u64,
-    places: PageList,
-)
-    requires may { MayChange config.now tables.old command.now birth }
+/// Makes the change of a command that is saved, but for the outline. A namespace that it creates has these places of its blocks.
+fn make_change(tables: &mut Tables, config: &DriveConfig, command: &Command, places: PageList)
+    requires may { MayChange config.now tables.old command.now }
     requires places { places ≡ replicate (places_made command.now (config.now.groups * config.now.units * config.now.unit_pages)) None }
-    ensures generation { tables.new.setting.generation ≤ tables.old.setting.generation + 1 }
-    ensures behind { StandBehind config.now command.now birth tables.old tables.new }
+    ensures behind { StandBehind config.now command.now tables.old tables.new }
+    ensures outline { tables.new.outline ≡ tables.old.outline }
     ensures pages { AppliesTo config.now command.now tables.old.pages tables.new.pages }
 {
     match command {
@@ -75,10 +73,10 @@ fn make_change(
         Command::Delete(delete) => delete_namespace(tables, delete.nsid),
         Command::Update(update) => {
             let pids = update.pids.as_slice();
-            update_handles(tables, update.nsid, pids);
+            update_handles(tables, config, update.nsid, pids);
         }
         Command::SetFdp(set) => set_placement(tables, config, set.enable, set.index),
-        Command::Create(create) => create_namespace(tables, create, birth, places),
+        Command::Create(create) => create_namespace(tables, create, places),
         // Which events are kept stands in no table of these.
         Command::SetEvents(_) => {}
         // A write is committed, and the others change nothing.

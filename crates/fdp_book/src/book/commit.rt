@@ -19,7 +19,9 @@ ghost use Rattle.fdp_map.specs.MapTable.{IsPageOf, mapped_at, mapped_on, size_in
 use super::Book;
 use super::end::{push_host, take_flight};
 use crate::flight::Flight;
+use crate::tables::make;
 use crate::ticket::{Done, Ticket};
+use arrayvec::ArrayVec;
 use fdp_base::{Spot, Status};
 use fdp_commands::is_over_budget;
 use fdp_map::Map;
@@ -53,6 +55,9 @@ impl Book {
         ensures pages { ChangesOwners self.old.pages self.new.pages }
         ensures step { (g : Going) → IsTicketOf (state_in self.old) ticket g → Completes self.old self.new [] ticket.queue g.number g.command (bare status true) moment result }
     {
+        let _ = self.log.position(); // proof: the sums are small
+        let mut numbers = ArrayVec::new();
+        let change = self.change_of_write(&ticket, &mut numbers);
         let queue = ticket.give_up();
         let flight = take_flight(&mut self.tables.flights, queue);
         let Flight {
@@ -75,9 +80,8 @@ impl Book {
             extent.slba,
             pages.as_slice(),
         );
-        let done = push_host(&mut self.log, queue, number, command, replies, moment);
-        self.tables.sums.host_blocks += u64::from(extent.count);
-        done
+        make(&mut self.tables.outline, &self.config, change, &[]);
+        push_host(&mut self.log, queue, number, command, replies, moment)
     }
 }
 

@@ -7,6 +7,7 @@ use super::Book;
 use super::end::push_host;
 use super::forget::end_in;
 use crate::room::Replies;
+use crate::tables::count;
 use crate::ticket::Done;
 use fdp_base::Command;
 
@@ -28,7 +29,9 @@ impl Book {
         ensures step { Completes self.old self.new [] queue number command replies.history moment result }
         ensures pages { ChangesOwners self.old.pages self.new.pages }
     {
+        let _ = self.log.position(); // proof: the sums are small
         end_in(&mut self.tables, queue, &command);
+        count(&mut self.tables.outline, 0, 0);
         push_host(&mut self.log, queue, number, command, replies, moment)
     }
 }

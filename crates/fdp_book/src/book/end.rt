@@ -15,8 +15,10 @@ use super::forget::forget;
 use crate::flight::Flight;
 use crate::log::Log;
 use crate::room::Replies;
+use crate::tables::{count, make};
 use crate::ticket::{Done, Ticket};
 use fdp_base::{Command, Entry, Host, Reply, Shut, Spot, Status};
+use fdp_records::ChangeRef;
 
 impl Book {
     /// A going write ends with this status, and changes nothing. Whether that answer may follow is for the caller to say.
@@ -26,8 +28,10 @@ impl Book {
         ensures pages { ChangesOwners self.old.pages self.new.pages }
         ensures step { (g : Going) → IsTicketOf (state_in self.old) ticket g → Completes self.old self.new [] ticket.queue g.number g.command (bare status false) moment result }
     {
+        let _ = self.log.position(); // proof: the sums are small
         let queue = ticket.give_up();
         let flight = forget(&mut self.tables, queue).unwrap();
+        count(&mut self.tables.outline, 0, 0);
         let (command, replies) = flight.room.end(status, false);
         push_host(
             &mut self.log,
@@ -61,8 +65,11 @@ impl Book {
         ensures { (g : Going) → IsTicketOf (state_in self.old) ticket.now g → Shuts self.old self.new ticket.now g rg ruh spot }
     {
         let _ = ticket; // proof
+        let _ = self.log.position(); // proof: the sums are small
         self.tables.pages.joined(); // proof
         self.tables.pages.shut(rg, ruh, spot);
+        let change = ChangeRef::Shut { rg, ruh };
+        make(&mut self.tables.outline, &self.config, change, &[]);
         self.log.push(Entry::Shut(Shut { rg, ruh }));
     }
 }

@@ -8,26 +8,26 @@ use crate::extent::extent_of;
 use crate::flight::Flight;
 use crate::tables::Tables;
 use fdp_base::{Command, Spot};
-use fdp_spaces::Spaces;
+use fdp_outline::Outline;
 
 /// Whether the namespace of a write is there, and is the one that it was when the write was started.
-pub(super) fn is_there(spaces: &Spaces, flight: &Flight) -> bool
-    ensures table { result ≡ is_there_in spaces.now flight.now }
-    ensures state { (s : PlainState) → IsThereIn s spaces.now flight.now result }
+pub(super) fn is_there(outline: &Outline, flight: &Flight) -> bool
+    ensures table { result ≡ is_there_in outline.now flight.now }
+    ensures state { (s : PlainState) → IsThereIn s outline.now flight.now result }
 {
-    match spaces.birth(flight.extent.nsid) {
+    match outline.birth(flight.extent.nsid) {
         Some(birth) => birth == flight.birth,
         None => false,
     }
 }
 
 /// The pages of a write that may be going, as long as its namespace is there.
-fn live_pages<'a>(spaces: &Spaces, flight: &'a Option<Flight>) -> &'a [Spot]
-    ensures { result.now ≡ live_pages spaces.now flight.now }
+fn live_pages<'a>(outline: &Outline, flight: &'a Option<Flight>) -> &'a [Spot]
+    ensures { result.now ≡ live_pages outline.now flight.now }
 {
     match flight {
         Some(flight) => {
-            if is_there(spaces, flight) {
+            if is_there(outline, flight) {
                 flight.pages.as_slice()
             } else {
                 &[]
@@ -43,7 +43,7 @@ pub(super) fn forget(tables: &mut Tables, queue: u8) -> Option<Flight>
     ensures { Forgets tables.old tables.new queue result }
 {
     let flight = tables.flights[usize::from(queue)].take();
-    tables.pages.release(live_pages(&tables.spaces, &flight));
+    tables.pages.release(live_pages(&tables.outline, &flight));
     flight
 }
 

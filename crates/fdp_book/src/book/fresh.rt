@@ -1,24 +1,21 @@
-ghost use Rattle.std.specs.Prelude.{◌≡◌, ◌+◌, ◌<◌, ◌≤◌, All, None, [], ◌∷◌, length, nat_lt, replicate, unwrap_or, IfOk};
-ghost use Rattle.std.specs.Option.{ForSome};
+ghost use Rattle.std.specs.Prelude.{◌≡◌, None, [], replicate, IfOk};
 ghost use Rattle.fdp_base.specs.Config.{IsValidConfig};
-ghost use Rattle.fdp_rules.specs.Effect.{chosen_handles};
-ghost use Rattle.fdp_rules.specs.History.{fresh};
+ghost use Rattle.fdp_rules.specs.History.{fresh, point_of};
 ghost use Rattle.fdp_book.specs.Book.{AreUnused, IsFirst};
-ghost use Rattle.fdp_book.specs.Configured.{AreConfiguredSpaces, HasFewHandles, IsConfiguredMap, fresh_opening, made_as};
+ghost use Rattle.fdp_book.specs.Configured.{IsConfiguredMap, fresh_opening};
 ghost use Rattle.fdp_readings.specs.fdp_locations.Held.{pages_held};
 ghost use Rattle.fdp_book.specs.Held.{IsHeld};
-ghost use Rattle.fdp_spaces.specs.SpaceTable.{namespace_of};
+ghost use Rattle.fdp_book.specs.Outlined.{IsOutlineAt};
 
 use super::Book;
 use crate::flight::Flight;
 use crate::log::Log;
-use crate::tables::{Setting, Sums, Tables};
-use arrayvec::ArrayVec;
-use fdp_base::{DriveConfig, HandleList, NamespaceConfig};
+use crate::tables::Tables;
+use fdp_base::DriveConfig;
 use fdp_map::Map;
 use fdp_origin::{Began, Origin};
+use fdp_outline::{Outline, fresh_summary};
 use fdp_readings::Pages;
-use fdp_spaces::{Space, SpaceHandles, Spaces};
 use std::alloc::{AllocError, Global};
 use std::marker::Brand;
 
@@ -52,108 +49,26 @@ fn configured_tables(alloc: Global, config: &DriveConfig) -> Result<Tables, Allo
     requires { IsValidConfig config.now }
     ensures held { IfOk result (λ tables. IsHeld config.now (fresh config.now) (pages_held config.now (fresh_opening config.now).cells) [] tables) }
     ensures unused { IfOk result (λ tables. AreUnused config.now tables.pages) }
-    ensures generation { IfOk result (λ tables. tables.setting.generation ≡ 0) }
+    ensures generation { IfOk result (λ tables. tables.outline.generation ≡ 0) }
 {
     let classes = config.classes(config.enabled, config.index);
     let pages = Pages::new(alloc, classes, config.geometry())?;
     pages.joined(); // proof
     Ok(Tables {
-        setting: Setting {
-            enabled: config.enabled,
-            index: config.index,
-            generation: 0,
-        },
-        sums: Sums {
-            host_blocks: 0,
-            media_blocks: 0,
-            erases: 0,
-        },
-        spaces: configured_spaces(alloc, config)?,
+        outline: configured_outline(alloc, config)?,
         map: configured_map(alloc, config)?,
         flights: no_flights(alloc, usize::from(config.queues) + 1)?,
         pages,
     })
 }
 
-/// The namespaces that a drive is made with.
-fn configured_spaces(alloc: Global, config: &DriveConfig) -> Result<Spaces, AllocError>
+/// The outline of a drive as its configuration makes it.
+fn configured_outline(alloc: Global, config: &DriveConfig) -> Result<Outline, AllocError>
     requires { IsValidConfig config.now }
-    ensures { IfOk result (λ spaces. AreConfiguredSpaces config.now spaces) }
+    ensures { IfOk result (λ outline. IsOutlineAt config.now (point_of config.now (fresh config.now) []) outline) }
 {
-    let mut spaces = Spaces::new(alloc, config.groups)?;
-    let namespaces = config.namespaces.as_slice();
-    for place in 0..namespaces.len() {
-        spaces.insert(place as u32 + 1, configured_space(&namespaces[place]));
-    }
-    Ok(spaces)
-}
-
-/// A namespace that a drive is made with.
-fn configured_space(namespace: &NamespaceConfig) -> Space
-    requires { HasFewHandles namespace.now }
-    ensures { namespace_of result ≡ made_as namespace.now }
-{
-    Space {
-        size: namespace.blocks,
-        handles: configured_handles(&namespace.handles),
-        given: is_given(&namespace.handles),
-        birth: 0,
-    }
-}
-
-/// Whether a list of handles was given; an empty one counts as none.
-fn is_given(handles: &Option<HandleList>) -> bool
-    ensures { result ≡ nat_lt 0 (length (unwrap_or handles.now [])) }
-{
-    match handles {
-        Some(list) => !list.as_slice().is_empty(),
-        None => false,
-    }
-}
-
-/// The handles that were listed, or handle 0 where none is.
-fn configured_handles(handles: &Option<HandleList>) -> SpaceHandles
-    requires few { ForSome handles.now (λ list. length list ≤ 16) }
-    requires known { ForSome handles.now (λ list. All (λ ruh. ruh < 16) list) }
-    ensures { result.items ≡ chosen_handles (unwrap_or handles.now []) }
-{
-    match handles {
-        Some(list) => chosen_handles(list.as_slice()),
-        None => first_handle(),
-    }
-}
-
-/// The handles of a list, or handle 0 where it is empty.
-pub(super) fn chosen_handles(list: &[u16]) -> SpaceHandles
-    requires few { length list.now ≤ 16 }
-    requires known { All (λ ruh. ruh < 16) list.now }
-    ensures { result.items ≡ chosen_handles list.now }
-{
-    if list.is_empty() {
-        first_handle()
-    } else {
-        listed_handles(list)
-    }
-}
-
-fn first_handle() -> SpaceHandles
-    ensures { result.items ≡ 0 ∷ [] }
-{
-    let mut handles = ArrayVec::new();
-    handles.push(0);
-    handles
-}
-
-fn listed_handles(list: &[u16]) -> SpaceHandles
-    requires few { length list.now ≤ 16 }
-    requires known { All (λ ruh. ruh < 16) list.now }
-    ensures { result.items ≡ list.now }
-{
-    let mut handles = ArrayVec::new();
-    for place in 0..list.len() {
-        handles.push(list[place] as u8);
-    }
-    handles
+    let summary = fresh_summary(alloc, config)?;
+    Ok(Outline::new(alloc, summary))
 }
 
 /// A place for each block of the namespaces that a drive is made with.

@@ -28,7 +28,7 @@ impl Book {
         ensures led { IsLed self.now }
         ensures generation { (state_in self.now).generation < 2 ^ 32 }
     {
-        let _generation = self.tables.setting.generation; // proof: its range
+        let _steps = self.log.spent(); // proof: there are few steps
         self.tables.pages.joined(); // proof
     }
 
@@ -36,12 +36,11 @@ impl Book {
     pub fn counted(&self)
         ensures { AreSmall (totals_of self.now.found self.now.entries) }
     {
-        let _sums = self.tables.sums; // proof
         let _position = self.log.position(); // proof
     }
 
     /// The generation has a number for another placement setting.
-    pub fn numbered(&self)
+    pub(crate) fn numbered(&self)
         ensures { (state_in self.now).generation + 1 < 2 ^ 32 }
     {
         let _steps = self.log.spent(); // proof: there are few steps

@@ -15,28 +15,28 @@ impl Drive for Book {
     }
 
     fn is_enabled(&self) -> bool {
-        self.tables.setting.enabled
+        self.summary().enabled
     }
 
     fn size(&self, nsid: u32) -> Option<u64> {
-        self.tables.spaces.size(nsid)
+        self.tables.outline.size(nsid)
     }
 
     fn handle_count(&self, nsid: u32) -> usize {
-        self.tables.spaces.handles(nsid).len()
+        self.tables.outline.handles(nsid).len()
     }
 
     fn handle(&self, nsid: u32, at: u16) -> Option<u8> {
         self.tables
-            .spaces
+            .outline
             .handles(nsid)
             .get(usize::from(at))
             .copied()
     }
 
     fn handles_in_force(&self) -> u8 {
-        self.config
-            .handle_count(self.tables.setting.enabled, self.tables.setting.index)
+        let summary = self.summary();
+        self.config.handle_count(summary.enabled, summary.index)
     }
 
     fn budget(&self, rg: u16) -> u32 {

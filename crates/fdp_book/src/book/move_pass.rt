@@ -1,6 +1,9 @@
 ghost use Rattle.std.specs.Prelude.{◌≡◌, ◌<◌, ◌≤◌, [], IfSome, IsSome, IsTrue, length, option_map, vec_capacity, vec_len};
 ghost use Rattle.fdp_book.specs.Moving.{CanMove, HasPage, HasPageAt, IsMoved, MovesCopies, MovesCopy, NamesCopy, PutsPageAt, SharesCut, StaysIn, moved_to};
-ghost use Rattle.fdp_book.specs.Relocating.{MovesPass};
+ghost use Rattle.fdp_book.specs.Outlined.{CanMakeMove, MakesMove};
+ghost use Rattle.fdp_book.specs.Relocating.{IsMoveChange, MovesPass};
+ghost use Rattle.fdp_book.specs.Saving.{AreSmall};
+ghost use Rattle.fdp_records.specs.Borrowed.{change_of};
 ghost use Rattle.fdp_book.specs.Taking.{IsPageIn};
 ghost use Rattle.fdp_map.specs.MapTable.{mapped_at, size_in, with_mapped};
 ghost use Rattle.fdp_owners.specs.OwnerTable.{owner_at};
@@ -12,28 +15,51 @@ ghost use Rattle.fdp_units.specs.UnitTable.{IsGroup};
 
 use super::Book;
 use crate::flight::Flight;
-use crate::tables::Tables;
-use fdp_base::{BlockName, BlockNames, DataSpare, Entry, Moved, Spot};
+use crate::tables::{Tables, count, make};
+use fdp_base::{BlockName, BlockNames, DataSpare, DriveConfig, Entry, Moved, Spot};
 use fdp_map::Map;
+use fdp_outline::{MovedBlock, Outline};
 use fdp_owners::{Holder, Owner};
+use fdp_records::ChangeRef;
 
 impl Book {
-    /// Moves the pass of a group: what stands at the old page of a copy stands at the new one from now on. It takes a step for each copy.
-    pub fn move_pass(&mut self, rg: u16)
+    /// Moves the pass of a group: what stands at the old page of a copy stands at the new one from now on. The change by which the move is saved, and
+    /// the blocks that it takes along, are given; none where it takes none. It takes a step for each copy.
+    pub fn move_pass(&mut self, rg: u16, change: Option<ChangeRef<'_>>, blocks: &[MovedBlock])
         requires group { rg < self.old.config.groups }
         requires room { 0 < self.old.room }
         requires may { IsTrue self.old.may_move }
         requires due { IsDue (passes_at self.old.pages rg) self.old.pages.units self.old.pages.owners rg Move }
+        requires change { IsMoveChange self.old rg (option_map change_of change) blocks.now }
         ensures moved { MovesPass self.old self.new rg }
     {
+        let _ = self.log.position(); // proof: the sums are small
         self.tables.pages.joined(); // proof
         let mut names = self.log.take_list();
         move_copies(&mut self.tables, rg, &mut names);
         self.tables.pages.end_move(rg);
+        make_move(&mut self.tables.outline, &self.config, change, blocks);
         self.log.push(Entry::Moved(Moved {
             rg,
             blocks: BlockNames::from_vec(names),
         }));
+    }
+}
+
+/// The change of a move is made in the outline; a move that is not saved only counts.
+fn make_move(
+    outline: &mut Outline,
+    config: &DriveConfig,
+    change: Option<ChangeRef<'_>>,
+    blocks: &[MovedBlock],
+)
+    requires small { AreSmall outline.old.totals }
+    requires can { CanMakeMove config.now (option_map change_of change) blocks.now outline.old }
+    ensures { MakesMove config.now (option_map change_of change.entry) blocks.now outline.old outline.new }
+{
+    match change {
+        Some(change) => make(outline, config, change, blocks),
+        None => count(outline, 0, 0),
     }
 }
 

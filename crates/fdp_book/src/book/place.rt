@@ -17,6 +17,7 @@ use super::Book;
 use super::forget::is_there;
 use crate::flight::Flight;
 use crate::next_page::NextPage;
+use crate::tables::count;
 use crate::ticket::Ticket;
 use fdp_base::{DataSpare, Entry, Payload, Placed, Spot};
 use fdp_owners::{Holder, Owner};
@@ -66,6 +67,7 @@ impl Book {
         ensures { (g : Going) → IsTicketOf (state_in self.old) ticket.now g → Places self.old self.new ticket.now g spot result }
     {
         self.tables.pages.joined(); // proof
+        let _ = self.log.position(); // proof: the sums are small
         let flight = self.flight(ticket);
         let (rg, ruh) = (flight.rg, flight.ruh);
         let index = flight.pages.len() as u32;
@@ -80,7 +82,7 @@ impl Book {
             unit: spot.unit,
             page: spot.page,
         }));
-        self.tables.sums.media_blocks += 1;
+        count(&mut self.tables.outline, 1, 0);
         push_page(&mut self.tables.flights[usize::from(ticket.queue)], spot)
     }
 
@@ -100,7 +102,7 @@ impl Book {
     pub(super) fn is_there(&self, flight: &Flight) -> bool
         ensures { result ≡ is_going_there (state_in self.now) (going_of flight.now) }
     {
-        is_there(&self.tables.spaces, flight)
+        is_there(&self.tables.outline, flight)
     }
 
     /// Where the next page of a handle goes, unless it wants a unit and fewer than three of its group are free.
@@ -137,7 +139,7 @@ impl Book {
         DataSpare {
             ruh: flight.ruh,
             rg: flight.rg,
-            generation: self.tables.setting.generation,
+            generation: self.tables.outline.summary().generation,
             ticket: flight.ticket,
             nsid: flight.extent.nsid,
             index: index as u16,

@@ -1,6 +1,9 @@
-ghost use Rattle.std.specs.Prelude.{◌≡◌, ◌+◌, ◌^◌, ◌<◌, ◌≤◌, IsTrue, length};
+ghost use Rattle.std.specs.Prelude.{◌≡◌, ◌<◌, ◌≤◌, [], ◌∷◌, IsTrue, length};
 ghost use Rattle.fdp_base.specs.Placement.{geometry_of};
 ghost use Rattle.fdp_book.specs.Book.{written_in};
+ghost use Rattle.fdp_book.specs.Logged.{IsLogged};
+ghost use Rattle.fdp_book.specs.Outlined.{Counts};
+ghost use Rattle.fdp_book.specs.Saving.{AreSmall};
 ghost use Rattle.fdp_book.specs.Relocating.{Relocates, Tells};
 ghost use Rattle.fdp_readings.specs.fdp_collector.Leaving.{StepMayLeave};
 ghost use Rattle.fdp_flash.specs.Runs.{Runs};
@@ -9,9 +12,10 @@ ghost use Rattle.fdp_units.specs.UnitTable.{toil_of};
 
 use super::Book;
 use crate::log::Log;
-use crate::tables::Sums;
+use crate::tables::count;
 use fdp_base::{Aside, Entry, Erased, Retired, Worn};
 use fdp_flash::Flash;
+use fdp_outline::Outline;
 use fdp_readings::{Lost, Step};
 
 impl Book {
@@ -33,9 +37,10 @@ impl Book {
         ensures stored { IsTrue (F.state flash.old).told → HoldsWritten (F.state flash.old).geometry (F.state flash.new).cells (written_in self.new) self.new.pages.units }
         ensures block { length block.new ≡ length block.old }
     {
+        let _ = self.log.position(); // proof: the sums are small
         self.tables.pages.joined(); // proof
         let step = self.tables.pages.advance(flash, block, rg, may_erase);
-        tell(&mut self.log, &mut self.tables.sums, rg, step);
+        tell(&mut self.log, &mut self.tables.outline, rg, step);
         step
     }
 
@@ -49,25 +54,33 @@ impl Book {
     }
 }
 
-/// The entry that tells of a step of relocation in a group, if one does, with what it adds to the sums.
-fn tell(log: &mut Log, sums: &mut Sums, rg: u16, step: Step)
+/// The entry that tells of a step of relocation in a group, if one does, with what it counts.
+fn tell(log: &mut Log, outline: &mut Outline, rg: u16, step: Step)
     requires room { 0 < log.old.room }
-    requires media_blocks { sums.old.media_blocks ≤ 2 ^ 62 + length log.old.entries }
-    requires erases { sums.old.erases ≤ 2 ^ 62 + length log.old.entries }
-    ensures { Tells rg step log.old log.new sums.old sums.new }
+    requires small { AreSmall outline.old.totals }
+    ensures { Tells rg step log.old log.new outline.old outline.new }
 {
     match step {
-        Step::Copied(copy) => {
-            log.push(Entry::Copied(copy));
-            sums.media_blocks += 1;
+        Step::Copied(copy) => note(log, outline, Entry::Copied(copy), 1, 0),
+        Step::Erased(unit) => note(log, outline, Entry::Erased(Erased { unit }), 0, 1),
+        Step::Starved => note(log, outline, Entry::Worn(Worn { rg }), 0, 0),
+        Step::Fault(Lost::Aside(unit)) => note(log, outline, Entry::Aside(Aside { unit }), 0, 0),
+        Step::Fault(Lost::Retired(unit)) => {
+            note(log, outline, Entry::Retired(Retired { unit }), 0, 0)
         }
-        Step::Erased(unit) => {
-            log.push(Entry::Erased(Erased { unit }));
-            sums.erases += 1;
-        }
-        Step::Starved => log.push(Entry::Worn(Worn { rg })),
-        Step::Fault(Lost::Aside(unit)) => log.push(Entry::Aside(Aside { unit })),
-        Step::Fault(Lost::Retired(unit)) => log.push(Entry::Retired(Retired { unit })),
         Step::Nothing | Step::ReadyToMove | Step::EraseDue | Step::Fault(Lost::None) => {}
     }
+}
+
+/// An entry that counts so many pages of data that were programmed, and units that were erased.
+fn note(log: &mut Log, outline: &mut Outline, entry: Entry, pages: u64, erases: u64)
+    requires room { 0 < log.old.room }
+    requires small { AreSmall outline.old.totals }
+    requires pages { pages ≤ 1 }
+    requires erases { erases ≤ 1 }
+    ensures log { IsLogged log.old log.new (entry ∷ []) }
+    ensures outline { Counts pages erases outline.old outline.new }
+{
+    log.push(entry);
+    count(outline, pages, erases);
 }

@@ -10,6 +10,7 @@ use super::forget::drop_flight;
 use crate::extent::{Extent, extent_of};
 use crate::flight::Flight;
 use crate::room::Room;
+use crate::tables::count;
 use crate::ticket::Ticket;
 use arrayvec::ArrayVec;
 use fdp_base::{Command, Entry, Started};
@@ -32,9 +33,10 @@ impl Book {
     {
         let position = self.log.position() + 1;
         let extent = extent_of(room.command()).unwrap();
-        let birth = self.tables.spaces.birth(extent.nsid).unwrap_or(0);
+        let birth = self.tables.outline.birth(extent.nsid).unwrap_or(0);
         let flight = new_flight(number, position, birth, admission, extent, room);
         drop_flight(&mut self.tables, queue);
+        count(&mut self.tables.outline, 0, 0);
         self.tables.flights[usize::from(queue)] = Some(flight);
         let Destination { rg, ruh, valid } = admission.target;
         self.log.push(Entry::Started(Started {

@@ -1,26 +1,23 @@
 ghost use Rattle.std.specs.Prelude.{◌≡◌, ◌<◌, None};
 ghost use Rattle.fdp_base.specs.declared.command.Command.TheVariants as commands;
 ghost use Rattle.fdp_base.specs.CommandKinds.{IsWellFormed};
-ghost use Rattle.fdp_relocation.specs.fdp_book.Book.{point_in, state_in};
+ghost use Rattle.fdp_relocation.specs.fdp_book.Book.{point_in};
+ghost use Rattle.fdp_relocation.specs.fdp_book.FirstSteps.{IsLogOf};
 ghost use Rattle.fdp_relocation.specs.fdp_book.Room.{IsTwice, read_reply, room_for};
-ghost use Rattle.fdp_relocation.specs.fdp_book.Stages.{IsFree};
 ghost use Rattle.fdp_core.specs.Answers.{EndsAtOnce};
 ghost use Rattle.fdp_core.specs.Stops.{OutlastsStops};
-ghost use Rattle.fdp_log_pages.specs.Told.{Tells};
 ghost use Rattle.fdp_rules.specs.Answer.{data_of};
 ghost use Rattle.fdp_rules.specs.Refusal.{refusal_of};
 ghost use Rattle.fdp_rules.specs.Step.{IsQueue};
 
 use super::Group;
-use fdp_base::{Command, GetLog, Status};
-use fdp_commands::refusal;
+use fdp_base::{Command, GetLog};
 use fdp_flash::Flash;
-use fdp_log_pages::LogView;
 use fdp_relocation::{Done, Replies, Room};
 
 impl<F: Flash> Group<F> {
-    /// Refuses a log, or answers it with so much of its page as it asks for. It takes no memory, and a step for each configuration, handle or
-    /// event of the page.
+    /// Answers a log that is not refused with so much of its page as it asks for. It takes no memory, and a step for each configuration, handle
+    /// or event of the page.
     pub(super) fn log(
         &mut self,
         queue: u8,
@@ -31,28 +28,14 @@ impl<F: Flash> Group<F> {
     ) -> Done
         requires queue { IsQueue self.old.book.config queue }
         requires formed { IsWellFormed self.old.book.config command }
-        requires free { IsFree (state_in self.old.book) queue number }
-        requires asked_is { command ≡ commands.Log asked }
+        requires log { IsLogOf self.old.book command asked }
         requires room { room ≡ room_for command self.old.book.config }
         requires spare { 0 < self.old.book.spare }
         ensures step { EndsAtOnce F.state self.old self.new queue number command result }
         ensures stops { OutlastsStops F.state self.old self.new }
     {
-        match self.refusal_of_log(&command) {
-            Some(status) => self.refuse(queue, number, command, status, room),
-            None => {
-                let replies = self.replies_to_log(&asked, room);
-                self.succeed(queue, number, command, replies)
-            }
-        }
-    }
-
-    /// The refusal of a log, if it is refused.
-    fn refusal_of_log(&self, command: &Command) -> Option<Status>
-        ensures { result ≡ refusal_of self.now.book.config (point_in self.now.book) command.now }
-    {
-        let view = self.view();
-        refusal(&self.book, command, view.log_length(command))
+        let replies = self.replies_to_log(&asked, room);
+        self.succeed(queue, number, command, replies)
     }
 
     /// The reply to a log that is not refused.
@@ -62,20 +45,7 @@ impl<F: Flash> Group<F> {
         ensures { IsTwice (read_reply (data_of self.now.book.config (point_in self.now.book) (commands.Log asked.now))) result }
     {
         let (mut history, answer) = room.into_buffers();
-        self.view().write_log(asked, &mut history);
+        self.book.view().write_log(asked, &mut history);
         Replies::of_read(history, answer)
-    }
-
-    /// The drive as its log pages tell it.
-    pub(super) fn view(&self) -> LogView<'_>
-        ensures config { result.config ≡ self.now.book.config }
-        ensures tells { Tells result (point_in self.now.book) }
-    {
-        self.book.known(); // proof
-        LogView::new(
-            self.book.config(),
-            self.keeper.summary(),
-            self.book.totals(),
-        )
     }
 }

@@ -13,7 +13,7 @@ impl<F: Flash> Group<F> {
         ensures enabled { result.0 ≡ (state_in self.now.book).enabled }
         ensures index { result.1 ≡ (state_in self.now.book).index }
     {
-        self.view().setting()
+        self.book.view().setting()
     }
 
     /// Who specified a handle: 0 nobody, since no namespace uses it; 1 a host; 2 the controller. None exactly where there is no handle
@@ -21,13 +21,13 @@ impl<F: Flash> Group<F> {
     pub fn usage(&self, ruh: u8) -> Option<u8>
         ensures { result ≡ usage_told self.now.book.config (state_in self.now.book) ruh }
     {
-        self.view().usage(ruh)
+        self.book.view().usage(ruh)
     }
 
     /// An event that is kept, of hosts or of the controller, the oldest with index 0. None exactly behind the last.
     pub fn event(&self, host: bool, index: u32) -> Option<Event>
         ensures { result ≡ slice_get (if host then (point_in self.now.book).host_events else (point_in self.now.book).controller_events) index }
     {
-        self.view().event(host, index)
+        self.book.view().event(host, index)
     }
 }

@@ -1,8 +1,5 @@
-use Rattle.std.proofs.Common.{◌≡◌, ◌∙◌, ap, subst, sym}
+use Rattle.std.proofs.Common.{sym}
 use Rattle.fdp_book.specs.Book.{point_in}
-use Rattle.fdp_outline.specs.Outline.{IsOutlineOf}
-use Rattle.fdp_durability.specs.fdp_readings.Drawn.{drawn}
-use Rattle.fdp_snapshot.specs.declared.state.Summary.{Summary}
 use Rattle.fdp_keeper.proofs.Given.{IsGiven, drawn-pages, given, room-for-seal}
 use Rattle.fdp_durability.specs.fdp_checkpoint.Writing.{with_pages}
 use Rattle.fdp_durability.specs.fdp_saving.Saving.{IsOfDrive}
@@ -13,10 +10,8 @@ settle-requires-clause-state g c =
     let b = c.args.book.now in
     let s = c.summary.result.now in
     let lists = c.page_lists.result.now in
-    let outline : IsOutlineOf b.config (drawn b.config (point_in b)) s = subst (λ (x : Summary). IsOutlineOf b.config (drawn b.config (point_in b)) x) (sym c.summary.ensures.summary) c.requires.outline in
-    let totals : s.totals ≡ (point_in b).totals = ap (λ (x : Summary). x.totals) c.summary.ensures.summary ∙ c.requires.totals in
     let pages = drawn-pages b.config (point_in b) lists c.known.ensures.config c.page_lists.ensures.rows c.page_lists.ensures.sizes c.page_lists.ensures.blocks c.page_lists.ensures.places in
-    let g_ : IsGiven b.config (point_in b) s lists = given b.config (point_in b) s lists c.known.ensures.config c.known.ensures.orderly c.known.ensures.listed outline totals c.summary.ensures.writable pages in
+    let g_ : IsGiven b.config (point_in b) s lists = given b.config (point_in b) s lists c.known.ensures.config c.known.ensures.orderly c.known.ensures.listed c.summary.ensures.outline c.summary.ensures.writable pages in
     g_.state
 
 pub settle-requires-clause-room : goal.settle-requires-clause-room
@@ -24,10 +19,8 @@ settle-requires-clause-room g c =
     let b = c.args.book.now in
     let s = c.summary.result.now in
     let lists = c.page_lists.result.now in
-    let outline : IsOutlineOf b.config (drawn b.config (point_in b)) s = subst (λ (x : Summary). IsOutlineOf b.config (drawn b.config (point_in b)) x) (sym c.summary.ensures.summary) c.requires.outline in
-    let totals : s.totals ≡ (point_in b).totals = ap (λ (x : Summary). x.totals) c.summary.ensures.summary ∙ c.requires.totals in
     let pages = drawn-pages b.config (point_in b) lists c.known.ensures.config c.page_lists.ensures.rows c.page_lists.ensures.sizes c.page_lists.ensures.blocks c.page_lists.ensures.places in
-    let g_ : IsGiven b.config (point_in b) s lists = given b.config (point_in b) s lists c.known.ensures.config c.known.ensures.orderly c.known.ensures.listed outline totals c.summary.ensures.writable pages in
+    let g_ : IsGiven b.config (point_in b) s lists = given b.config (point_in b) s lists c.known.ensures.config c.known.ensures.orderly c.known.ensures.listed c.summary.ensures.outline c.summary.ensures.writable pages in
     room-for-seal b.config c.args.saver.now.geometry s c.requires.of_drive g_.room
 
 pub returns-clause-saves : goal.returns-clause-saves
@@ -35,10 +28,8 @@ returns-clause-saves g c =
     let b = c.args.book.now in
     let s = c.summary.result.now in
     let lists = c.page_lists.result.now in
-    let outline : IsOutlineOf b.config (drawn b.config (point_in b)) s = subst (λ (x : Summary). IsOutlineOf b.config (drawn b.config (point_in b)) x) (sym c.summary.ensures.summary) c.requires.outline in
-    let totals : s.totals ≡ (point_in b).totals = ap (λ (x : Summary). x.totals) c.summary.ensures.summary ∙ c.requires.totals in
     let pages = drawn-pages b.config (point_in b) lists c.known.ensures.config c.page_lists.ensures.rows c.page_lists.ensures.sizes c.page_lists.ensures.blocks c.page_lists.ensures.places in
-    let g_ : IsGiven b.config (point_in b) s lists = given b.config (point_in b) s lists c.known.ensures.config c.known.ensures.orderly c.known.ensures.listed outline totals c.summary.ensures.writable pages in
+    let g_ : IsGiven b.config (point_in b) s lists = given b.config (point_in b) s lists c.known.ensures.config c.known.ensures.orderly c.known.ensures.listed c.summary.ensures.outline c.summary.ensures.writable pages in
     let is_of : IsOfDrive b.config c.args.saver.now (with_pages s lists) = record { geometry = sym c.requires.of_drive; saved = g_.saved } in
     record {
       given = with_pages s lists;

@@ -1,22 +1,9 @@
-use Rattle.std.proofs.Common.{◌≡◌, ◌<◌, length, sym, subst}
+use Rattle.std.proofs.Common.{sym, subst}
 use Rattle.fdp_keeper.specs.fdp_book.Reopened.{IsReopened, WasFound, cells_found}
 use Rattle.fdp_image.specs.Checkpoint.{reading_of_state}
 use Rattle.fdp_image.specs.Valid.{IsValid}
-use Rattle.fdp_loading.proofs.Reopening.{index-found, position-found, writable-found}
-use Rattle.fdp_keeper.specs.fdp_outline.Outline.{IsOutlineOf, IsWritable}
 use Rattle.fdp_keeper.specs.fdp_pages.PageTables.{PageTables}
-use Rattle.fdp_keeper.specs.fdp_readings.Drawn.{drawn}
-use Rattle.fdp_snapshot.specs.declared.state.Summary.{Summary}
 use Rattle.fdp_loading.proofs.found.made_of.Goals as goal
-
-pub found-requires-clause-summary : goal.found-requires-clause-summary
-found-requires-clause-summary g c = subst IsWritable (sym c.in_ok-book.ensures.summary) (writable-found c.args.config.now c.args.state c.args.area c.args.epoch c.requires.goes_on)
-
-pub found-requires-clause-index : goal.found-requires-clause-index
-found-requires-clause-index g c = subst (λ (s : Summary). s.index < length c.args.config.now.fdp) (sym c.in_ok-book.ensures.summary) (index-found c.args.config.now c.args.state c.args.area c.args.epoch c.requires.goes_on)
-
-pub found-requires-clause-position : goal.found-requires-clause-position
-found-requires-clause-position g c = subst (λ (s : Summary). s.totals.position < 9223372036854775808) (sym c.in_ok-book.ensures.summary) (position-found c.args.config.now c.args.state c.args.area c.args.epoch c.requires.goes_on)
 
 pub returns : goal.returns
 returns g c =
@@ -42,7 +29,4 @@ returns g c =
       };
       saver_is = c.in_ok-keeper.ensures.saver;
       firm_is = c.in_ok-keeper.ensures.firm;
-      outline = λ p h at.
-          c.in_ok-keeper.ensures.outline p (subst (IsOutlineOf cfg (drawn cfg p)) (sym c.in_ok-book.ensures.summary) h)
-          (subst (λ (s : Summary). p.state.position ≡ s.totals.position) (sym c.in_ok-book.ensures.summary) at);
     }

@@ -1,7 +1,7 @@
-use Rattle.std.proofs.Common.{ap, inl, not}
+use Rattle.std.proofs.Common.{ap, inl, not, refl}
 use Rattle.fdp_keeper.specs.fdp_collector.declared.step.Step.TheVariants as steps
 use Rattle.fdp_relocation.proofs.Ends.{collects-doubt, collects-move, steps-of, still-due}
-use Rattle.fdp_relocation.proofs.Kept.{keeper-told}
+use Rattle.fdp_relocation.proofs.Kept.{keeper-of}
 use Rattle.fdp_relocation.proofs.advance.collect.Goals as goal
 
 pub erase_settled-requires-clause-due : goal.erase_settled-requires-clause-due
@@ -30,29 +30,25 @@ returns-in-Copied-clause-step g c = (c.in-Copied.field-0, steps-of g.F.Flash.sta
 
 pub returns-in-Copied-clause-keeper : goal.returns-in-Copied-clause-keeper
 returns-in-Copied-clause-keeper g c =
-    let step = c.relocate.ensures.step in
-    keeper-told c.args.book.now c.relocate.new.self c.args.rg c.relocate.result c.args.keeper.now c.known.ensures.orderly c.known.ensures.standing step.longer step.follows c.requires.can.keeper
+    keeper-of c.args.book.now c.relocate.new.self _ c.args.keeper.now c.args.keeper.now c.relocate.ensures.step.longer refl c.requires.can.keeper
 
 pub returns-in-Erased-clause-step : goal.returns-in-Erased-clause-step
 returns-in-Erased-clause-step g c = (c.in-Erased.field-0, inl (steps-of g.F.Flash.state c.args.book.now c.relocate.new.self c.args.keeper.now c.args.flash.now c.relocate.new.flash c.args.rg _ c.relocate.result (steps.Erased c.in-Erased.field-0) (ap not c.is_in_doubt.ensures) c.relocate.ensures.step c.relocate.ensures.run c.in-Erased.is))
 
 pub returns-in-Erased-clause-keeper : goal.returns-in-Erased-clause-keeper
 returns-in-Erased-clause-keeper g c =
-    let step = c.relocate.ensures.step in
-    keeper-told c.args.book.now c.relocate.new.self c.args.rg c.relocate.result c.args.keeper.now c.known.ensures.orderly c.known.ensures.standing step.longer step.follows c.requires.can.keeper
+    keeper-of c.args.book.now c.relocate.new.self _ c.args.keeper.now c.args.keeper.now c.relocate.ensures.step.longer refl c.requires.can.keeper
 
 pub returns-in-Starved-clause-step : goal.returns-in-Starved-clause-step
 returns-in-Starved-clause-step g c = steps-of g.F.Flash.state c.args.book.now c.relocate.new.self c.args.keeper.now c.args.flash.now c.relocate.new.flash c.args.rg _ c.relocate.result steps.Starved (ap not c.is_in_doubt.ensures) c.relocate.ensures.step c.relocate.ensures.run c.in-Starved.is
 
 pub returns-in-Starved-clause-keeper : goal.returns-in-Starved-clause-keeper
 returns-in-Starved-clause-keeper g c =
-    let step = c.relocate.ensures.step in
-    keeper-told c.args.book.now c.relocate.new.self c.args.rg c.relocate.result c.args.keeper.now c.known.ensures.orderly c.known.ensures.standing step.longer step.follows c.requires.can.keeper
+    keeper-of c.args.book.now c.relocate.new.self _ c.args.keeper.now c.args.keeper.now c.relocate.ensures.step.longer refl c.requires.can.keeper
 
 pub returns-in-Fault-clause-step : goal.returns-in-Fault-clause-step
 returns-in-Fault-clause-step g c = inl (c.in-Fault.field-0, steps-of g.F.Flash.state c.args.book.now c.relocate.new.self c.args.keeper.now c.args.flash.now c.relocate.new.flash c.args.rg _ c.relocate.result (steps.Fault c.in-Fault.field-0) (ap not c.is_in_doubt.ensures) c.relocate.ensures.step c.relocate.ensures.run c.in-Fault.is)
 
 pub returns-in-Fault-clause-keeper : goal.returns-in-Fault-clause-keeper
 returns-in-Fault-clause-keeper g c =
-    let step = c.relocate.ensures.step in
-    keeper-told c.args.book.now c.relocate.new.self c.args.rg c.relocate.result c.args.keeper.now c.known.ensures.orderly c.known.ensures.standing step.longer step.follows c.requires.can.keeper
+    keeper-of c.args.book.now c.relocate.new.self _ c.args.keeper.now c.args.keeper.now c.relocate.ensures.step.longer refl c.requires.can.keeper

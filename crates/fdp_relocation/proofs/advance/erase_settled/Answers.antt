@@ -1,9 +1,9 @@
-use Rattle.std.proofs.Common.{◌∙◌, subst, sym}
+use Rattle.std.proofs.Common.{◌∙◌, refl, subst, sym}
 use Rattle.fdp_keeper.specs.fdp_collector.declared.step.Step.TheVariants as steps
 use Rattle.fdp_keeper.specs.fdp_book.Book.{written_in}
 use Rattle.fdp_keeper.specs.fdp_locations.Stored.{HoldsWritten}
 use Rattle.fdp_relocation.proofs.Erasing.{not-of-erase}
-use Rattle.fdp_relocation.proofs.Kept.{keeper-told}
+use Rattle.fdp_relocation.proofs.Kept.{keeper-of}
 use Rattle.fdp_relocation.proofs.Storing.{held-on, settled-same}
 use Rattle.fdp_relocation.proofs.advance.erase_settled.Goals as goal
 
@@ -27,13 +27,11 @@ returns-in-Failed-clause-stored g c = λ told.
 
 pub returns-in-Erased-clause-keeper : goal.returns-in-Erased-clause-keeper
 returns-in-Erased-clause-keeper g c =
-    let step = c.relocate.ensures.step in
-    keeper-told c.args.book.now c.relocate.new.self c.args.rg c.relocate.result c.settle.new.self c.known.ensures.orderly c.known.ensures.standing step.longer step.follows c.settle.ensures.keeper
+    keeper-of c.args.book.now c.relocate.new.self _ c.settle.new.self c.settle.new.self c.relocate.ensures.step.longer refl c.settle.ensures.keeper
 
 pub returns-in-Fault-Retired-clause-keeper : goal.returns-in-Fault-Retired-clause-keeper
 returns-in-Fault-Retired-clause-keeper g c =
-    let step = c.relocate.ensures.step in
-    keeper-told c.args.book.now c.relocate.new.self c.args.rg c.relocate.result c.settle.new.self c.known.ensures.orderly c.known.ensures.standing step.longer step.follows c.settle.ensures.keeper
+    keeper-of c.args.book.now c.relocate.new.self _ c.settle.new.self c.settle.new.self c.relocate.ensures.step.longer refl c.settle.ensures.keeper
 
 pub unreachable-requires-in-Copied : goal.unreachable-requires-in-Copied
 unreachable-requires-in-Copied g c =

@@ -10,7 +10,9 @@ use Rattle.fdp_book.specs.Tickets.{IsTicketOf}
 use Rattle.fdp_book.proofs.Ending.{completed, completes-by, ended-entry, ending, flying-queue, held-ending}
 use Rattle.fdp_book.proofs.Forgetting.{may-forget}
 use Rattle.fdp_readings.proofs.fdp_locations.Ended.{host}
-use Rattle.fdp_book.proofs.Numbers.{numbers-logged}
+use Rattle.fdp_book.specs.Outlined.{Counts}
+use Rattle.fdp_book.specs.Saving.{AreSmall}
+use Rattle.fdp_book.proofs.Numbers.{generation-counted, numbers-logged, small-totals}
 use Rattle.fdp_book.proofs.book.Book.end.Goals as goal
 use Rattle.fdp_readings.specs.fdp_locations.Held.{pages_held}
 
@@ -20,6 +22,11 @@ forget-requires c =
     let b : BookSeen = book_of old.config old.origin old.log old.tables in
     may-forget old.config old.origin.found (pages_held old.config old.origin.cells) old.log.entries old.tables c.give_up-queue.result c.self.invariant.held
     (flying-queue b c.args.self.now old.tables c.give_up-queue.result c.args.ticket c.self.invariant.held c.self.view_is c.give_up-queue.ensures c.requires.going)
+
+pub count-requires-clause-small : goal.count-requires-clause-small
+count-requires-clause-small c =
+    let old = c.self.inside in
+    subst (λ (t : Tables). AreSmall t.outline.totals) (sym c.forget.ensures.rest) (small-totals old.config old.origin old.log old.tables c.position.result c.self.invariant c.position.ensures.position c.position.ensures.small c.position.ensures.few)
 
 abbrev flight : goal.After-push_host → Flight
 flight c = c.unwrap-flight.result
@@ -35,20 +42,21 @@ pub invariant_of-self : goal.invariant_of-self
 invariant_of-self c =
     let old = c.self.inside in
     let b : BookSeen = book_of old.config old.origin old.log old.tables in
+    let now : Tables = record c.forget.new.tables { outline = c.count.new.outline } in
     record {
-      held = subst (λ (es : List Entry). IsHeld old.config old.origin.found (pages_held old.config old.origin.cells) es c.forget.new.tables) (sym (longer c))
-          (held-ending b c.args.self.now old.tables c.forget.new.tables c.give_up-queue.result c.args.ticket (flight c) c.args.status c.args.moment c.forget.result
-          c.self.invariant.held c.self.view_is c.give_up-queue.ensures (there c) c.requires.going c.forget.ensures);
+      held = subst (λ (es : List Entry). IsHeld old.config old.origin.found (pages_held old.config old.origin.cells) es now) (sym (longer c))
+          (held-ending b c.args.self.now old.tables c.forget.new.tables c.count.new.outline c.give_up-queue.result c.args.ticket (flight c) c.args.status c.args.moment c.forget.result
+          c.self.invariant.held c.self.view_is c.give_up-queue.ensures (there c) c.requires.going c.forget.ensures (subst (λ (t : Tables). Counts 0 0 t.outline c.count.new.outline) c.forget.ensures.rest c.count.ensures));
       before_is = c.push_host.ensures.log.before_is ∙ c.self.invariant.before_is;
       names_are = c.push_host.ensures.log.names_are ∙ c.self.invariant.names_are;
-      numbers = numbers-logged old.tables.setting c.forget.new.tables.setting old.log c.push_host.new.log _ (ap (λ (t : Tables). t.setting) c.forget.ensures.rest) c.push_host.ensures.log c.self.invariant.numbers;
+      numbers = numbers-logged old.tables.outline.generation now.outline.generation old.log c.push_host.new.log _ (generation-counted 0 0 c.forget.new.tables.outline now.outline c.count.ensures ∙ ap (λ (t : Tables). t.outline.generation) c.forget.ensures.rest) c.push_host.ensures.log c.self.invariant.numbers;
     }
 
 pub returns-clause-step : goal.returns-clause-step
 returns-clause-step c g is =
     let old = c.self.inside in
     let b : BookSeen = book_of old.config old.origin old.log old.tables in
-    let new : BookSeen = book_of old.config old.origin c.push_host.new.log c.forget.new.tables in
+    let new : BookSeen = book_of old.config old.origin c.push_host.new.log (record c.forget.new.tables { outline = c.count.new.outline }) in
     let k = ending b c.args.self.now old.tables c.give_up-queue.result c.args.ticket (flight c) c.self.invariant.held c.self.view_is c.give_up-queue.ensures (there c) c.requires.going in
     let step : IsLonger b new (host c.give_up-queue.result (flight c).number c.end-command.result.0 c.end-command.result.1.history c.args.moment ∷ []) =
     record { config_is = refl; found_is = refl; opened_is = refl; entries_are = c.push_host.ensures.log.entries_are; spare_is = c.push_host.ensures.log.spare_is; spent_is = c.push_host.ensures.log.spent_is; room_is = c.push_host.ensures.log.room_is } in

@@ -1,4 +1,4 @@
-use Rattle.std.proofs.Common.{◌≡◌, ◌∙◌, ◌+◌, ℕ, Bool, List, Option, Some, ap, length, refl, slice_set, subst, sym, [], ◌∷◌, ◌++◌}
+use Rattle.std.proofs.Common.{◌≡◌, ◌∙◌, ℕ, Bool, List, Option, Some, ap, length, refl, slice_set, subst, sym, [], ◌∷◌, ◌++◌}
 use Rattle.std.specs.Vec.{with_item}
 use Rattle.fdp_base.specs.declared.entry.Entry.{Entry}
 use Rattle.fdp_base.specs.declared.entry.Entry.TheVariants as entries
@@ -20,7 +20,7 @@ use Rattle.fdp_owners.specs.declared.owner.Owner.{Owner}
 use Rattle.fdp_readings.specs.fdp_pages.Steps.{MayPut, PutsPage}
 use Rattle.fdp_rules.specs.PlainState.{Going}
 use Rattle.fdp_rules.specs.Step.{Follows}
-use Rattle.fdp_book.proofs.Numbers.{numbers-logged}
+use Rattle.fdp_book.proofs.Numbers.{generation-counted, numbers-logged, small-totals}
 use Rattle.fdp_book.proofs.book.Book.place.Goals as goal
 use Rattle.fdp_readings.specs.fdp_locations.Held.{pages_held}
 
@@ -35,6 +35,11 @@ place-requires-clause-page c =
     let f : Flight = c.flight-flight.result.now in
     let next = c.requires.next (going_of f) c.flight-flight.ensures.going in
     subst (λ (b : BookSeen). MayPut b.pages f.rg f.ruh c.args.spot) (sym c.self.view_is) next.may
+
+pub count-requires-clause-small : goal.count-requires-clause-small
+count-requires-clause-small c =
+    let old = c.self.inside in
+    small-totals old.config old.origin old.log old.tables c.position.result c.self.invariant c.position.ensures.position c.position.ensures.small c.position.ensures.few
 
 pub push_page-requires : goal.push_page-requires
 push_page-requires c =
@@ -67,16 +72,12 @@ invariant_of-self c =
     c.push.ensures.entries_are
     ∙ ap (λ (n : ℕ). old.log.entries ++ entries.Placed (record { ticket = c.args.ticket.now.position; index = n; unit = spot.unit; page = spot.page }) ∷ []) count
     ∙ ap (λ (t : ℕ). old.log.entries ++ entries.Placed (record { ticket = t; index = length f.pages.items; unit = spot.unit; page = spot.page }) ∷ []) (sym ticket) in
-    let now : Tables = record old.tables { sums = record old.tables.sums { media_blocks = old.tables.sums.media_blocks + 1 }; flights = with_item old.tables.flights c.from.result c.push_page.new.flight; pages = c.place.new.self } in
+    let now : Tables = record old.tables { outline = c.count.new.outline; flights = with_item old.tables.flights c.from.result c.push_page.new.flight; pages = c.place.new.self } in
     let held = held-placed old.config old.origin.found (pages_held old.config old.origin.cells) old.log.entries old.tables now c.args.ticket.now.queue f more.0 spot write.0 owner
     c.self.invariant.held c.joined.ensures k.1.there
     (subst (λ (t : ℕ). (told : Bool) → Follows told old.config (point_in b) (entries.Placed (record { ticket = t; index = length f.pages.items; unit = spot.unit; page = spot.page }))) (sym ticket) k.1.next.follows)
     (record {
-      setting = refl;
-      host_blocks = refl;
-      media_blocks = refl;
-      erases = refl;
-      spaces = refl;
+      counts = c.count.ensures;
       map = refl;
       flights_are = ap (λ (i : ℕ). slice_set old.tables.flights.items i c.push_page.new.flight) c.from.ensures ∙ ap (λ (o : Option Flight). slice_set old.tables.flights.items c.args.ticket.now.queue o) more.1;
       flight = more.2;
@@ -90,14 +91,14 @@ invariant_of-self c =
       held = subst (λ (es : List Entry). IsHeld old.config old.origin.found (pages_held old.config old.origin.cells) es now) (sym entry) held;
       before_is = c.push.ensures.before_is ∙ c.self.invariant.before_is;
       names_are = c.push.ensures.names_are ∙ c.self.invariant.names_are;
-      numbers = numbers-logged old.tables.setting now.setting old.log c.push.new.self _ refl c.push.ensures c.self.invariant.numbers;
+      numbers = numbers-logged old.tables.outline.generation now.outline.generation old.log c.push.new.self _ (generation-counted 1 0 old.tables.outline now.outline c.count.ensures) c.push.ensures c.self.invariant.numbers;
     }
 
 pub returns : goal.returns
 returns c g is =
     let old = c.self.inside in
     let b : BookSeen = book_of old.config old.origin old.log old.tables in
-    let now : Tables = record old.tables { sums = record old.tables.sums { media_blocks = old.tables.sums.media_blocks + 1 }; flights = with_item old.tables.flights c.from.result c.push_page.new.flight; pages = c.place.new.self } in
+    let now : Tables = record old.tables { outline = c.count.new.outline; flights = with_item old.tables.flights c.from.result c.push_page.new.flight; pages = c.place.new.self } in
     let new : BookSeen = book_of old.config old.origin c.push.new.self now in
     let k = placing b c.args.self.now old.tables c.args.ticket.now c.args.spot c.flight-flight.result.now c.self.invariant.held c.self.view_is c.requires.waiting c.requires.next c.flight-flight.ensures in
     let f : Flight = k.0 in

@@ -5,7 +5,7 @@ use Rattle.fdp_book.specs.declared.tables.Tables.{Tables}
 use Rattle.fdp_book.specs.Book.{BookSeen, written_in, first_in}
 use Rattle.fdp_book.specs.Held.{IsHeld, book_of}
 use Rattle.fdp_book.specs.Logged.{Logged}
-use Rattle.fdp_book.specs.Relocating.{Relocates}
+use Rattle.fdp_book.specs.Relocating.{Relocates, told_by}
 use Rattle.fdp_book.proofs.Held.Relocated.{held-step}
 use Rattle.fdp_book.proofs.Relocating.Cells.{step-holds}
 use Rattle.fdp_book.proofs.Relocating.Steps.{step-follows}
@@ -16,7 +16,7 @@ use Rattle.fdp_readings.specs.fdp_locations.Written.{written_by}
 use Rattle.fdp_readings.proofs.fdp_locations.Owned.{stored-before}
 use Rattle.fdp_readings.proofs.fdp_locations.Others.{is-group}
 use Rattle.fdp_rules.specs.History.{point_of}
-use Rattle.fdp_book.proofs.Numbers.{numbers-on}
+use Rattle.fdp_book.proofs.Numbers.{numbers-told, small-totals}
 use Rattle.fdp_book.proofs.book.Book.relocate.Goals as goal
 use Rattle.fdp_readings.specs.fdp_locations.Held.{pages_held}
 
@@ -29,30 +29,35 @@ advance-step-requires-clause-stored g c = λ told.
     stored-before old.config (point_of old.config old.origin.found old.log.entries) (written_in b) held.pages_are.at old.tables.pages flash.geometry flash.cells held.pages_are.led
     (subst (λ (x : BookSeen). HoldsWritten flash.geometry flash.cells (written_in x) x.pages.units) (sym c.self.view_is) (c.requires.stored told))
 
+pub tell-requires-clause-small : goal.tell-requires-clause-small
+tell-requires-clause-small g c =
+    let old = c.self.inside in
+    small-totals old.config old.origin old.log old.tables c.position.result c.self.invariant c.position.ensures.position c.position.ensures.small c.position.ensures.few
+
 pub invariant_of-self : goal.invariant_of-self
 invariant_of-self g c =
     let old = c.self.inside in
     let b : BookSeen = book_of old.config old.origin old.log old.tables in
     let held : IsHeld old.config old.origin.found (pages_held old.config old.origin.cells) old.log.entries old.tables = c.self.invariant.held in
-    let now : Tables = record old.tables { sums = c.tell.new.sums; pages = c.advance-step.new.self } in
+    let now : Tables = record old.tables { outline = c.tell.new.outline; pages = c.advance-step.new.self } in
     let low = subst (λ (x : BookSeen). c.args.rg < x.config.groups) (sym c.self.view_is) c.requires.group in
     record {
       held = subst (λ (es : List Entry). IsHeld old.config old.origin.found (pages_held old.config old.origin.cells) es now) (sym c.tell.ensures.entries_are)
           (held-step old.config old.origin.found (pages_held old.config old.origin.cells) old.log.entries old.tables now c.args.rg held c.joined.ensures low refl c.advance-step.ensures.rest
           (is-group old.config _ old.tables.pages c.args.rg held.units_are low) (g.F.Flash.state c.args.flash.now) (g.F.Flash.state c.advance-step.new.flash)
           c.args.may_erase c.advance-step.result
-          (record { host_blocks_are = c.tell.ensures.host_blocks_are; media_blocks_are = c.tell.ensures.media_blocks_are; erases_are = c.tell.ensures.erases_are })
+          c.tell.ensures.counts
           c.advance-step.ensures.step);
       before_is = ap (λ (x : Logged). x.before) c.tell.ensures.log_is ∙ c.self.invariant.before_is;
       names_are = ap (λ (x : Logged). x.names) c.tell.ensures.log_is ∙ c.self.invariant.names_are;
-      numbers = numbers-on old.tables.setting.generation old.log c.tell.new.log (ap (λ (x : Logged). x.spent) c.tell.ensures.log_is) (omega (arith, c.tell.ensures.room_is)) c.self.invariant.numbers;
+      numbers = numbers-told (told_by c.args.rg c.advance-step.result) old.tables.outline now.outline old.log c.tell.new.log c.tell.ensures.counts (ap (λ (x : Logged). x.spent) c.tell.ensures.log_is) (omega (arith, c.tell.ensures.room_is)) c.self.invariant.numbers;
     }
 
 pub returns-clause-step : goal.returns-clause-step
 returns-clause-step g c =
     let old = c.self.inside in
     let b : BookSeen = book_of old.config old.origin old.log old.tables in
-    let now : Tables = record old.tables { sums = c.tell.new.sums; pages = c.advance-step.new.self } in
+    let now : Tables = record old.tables { outline = c.tell.new.outline; pages = c.advance-step.new.self } in
     let new : BookSeen = book_of old.config old.origin c.tell.new.log now in
     let held : IsHeld old.config old.origin.found (pages_held old.config old.origin.cells) old.log.entries old.tables = c.self.invariant.held in
     let low = subst (λ (x : BookSeen). c.args.rg < x.config.groups) (sym c.self.view_is) c.requires.group in

@@ -14,13 +14,13 @@ use Rattle.fdp_book.proofs.book.Book.reopened.Goals as goal
 pub reopened-requires : goal.reopened-requires
 reopened-requires g c = early-found c.args.config.now (g.F.Flash.state c.args.flash.now) c.args.state c.args.pages c.requires.config c.joined.ensures c.requires.found
 
-pub invariant_of-book : goal.invariant_of-book
+pub invariant_of-result : goal.invariant_of-result
 unfolding reading_of_state
-invariant_of-book g c =
+invariant_of-result g c =
     let config : DriveConfig = c.args.config.now in
     let opening : Opening = opening_found config (g.F.Flash.state c.args.flash.now) c.args.state c.args.pages in
     let log : Logged = record { entries = entries.Reopened ∷ []; before = c.args.state.summary.totals.position; spare = 0; spent = 0; room = 0; may_move = false; names = config.unit_pages } in
-    let generation : c.in_ok-tables.tables.setting.generation ≡ c.args.state.summary.generation = c.in_ok-tables.ensures.generation in
+    let generation : c.in_ok-tables.tables.outline.generation ≡ c.args.state.summary.generation = c.in_ok-tables.ensures.generation in
     let narrow : c.args.state.summary.generation < 2 ^ 31 = narrow-found config (g.F.Flash.state c.args.flash.now) c.args.state c.args.pages c.requires.config c.joined.ensures c.requires.found in
     let book : IsBook config opening log c.in_ok-tables.tables = record { held = c.in_ok-tables.ensures.held; before_is = refl; names_are = refl; numbers = record { few = omega (arith, generation, narrow); fewer = λ low. omega (arith, generation, narrow) } } in
     book-as config c.in_ok-copied.field-0 opening _ log _ c.in_ok-tables.tables c.in_ok-copied.ensures c.in_ok-origin.ensures c.in_ok-log.ensures book

@@ -24,7 +24,10 @@ use Rattle.fdp_book.specs.Held.{flight_in}
 use Rattle.fdp_book.proofs.Forgetting.{may-forget, set-twice}
 use Rattle.fdp_rules.specs.Step.{IsQueue}
 use Rattle.std.specs.Vec.{with_item}
-use Rattle.fdp_book.proofs.Numbers.{numbers-logged}
+use Rattle.fdp_book.specs.Outlined.{Counts}
+use Rattle.fdp_book.specs.Saving.{AreSmall}
+use Rattle.fdp_book.proofs.Numbers.{generation-counted, numbers-logged, small-totals}
+use Rattle.fdp_book.proofs.Outlining.{namespaces-said}
 use Rattle.fdp_book.proofs.book.Book.start.Goals as goal
 use Rattle.fdp_readings.specs.fdp_locations.Held.{pages_held}
 
@@ -66,7 +69,7 @@ made c =
     record {
       number_is = ap (λ (g : Going). g.number) going;
       ticket_is = ap (λ (g : Going). g.ticket) going ∙ ap (λ (n : ℕ). n + 1) (c.position-position.ensures.position ∙ ap (λ (n : ℕ). n + length c.self.inside.log.entries) c.self.invariant.before_is ∙ ap position_in c.self.view_is);
-      birth_is = ap (λ (g : Going). g.birth) going ∙ c.unwrap_or-birth.ensures ∙ ap (λ (o : Option ℕ). unwrap_or o 0) c.birth.ensures ∙ birth-read _ _ ((held c).spaces_are.namespaces c.unwrap-extent.result.nsid) ∙ ap (birth_of (state_in c.args.self.now)) (nsid-is c);
+      birth_is = ap (λ (g : Going). g.birth) going ∙ c.unwrap_or-birth.ensures ∙ ap (λ (o : Option ℕ). unwrap_or o 0) c.birth.ensures ∙ birth-read _ _ (namespaces-said c.args.self.now.config (point_in c.args.self.now) c.self.inside.tables.outline (held c).outline_is c.unwrap-extent.result.nsid) ∙ ap (birth_of (state_in c.args.self.now)) (nsid-is c);
       roomiest_is = roomiest_is ∙ c.requires.may.admitted.admits.roomiest_is;
       target =
           ap (λ (g : Going). record { rg = g.rg; ruh = g.ruh; valid = g.pid_valid }) going
@@ -92,13 +95,18 @@ drop_flight-requires c =
     let old = c.self.inside in
     may-forget old.config old.origin.found (pages_held old.config old.origin.cells) old.log.entries old.tables c.args.queue c.self.invariant.held (subst (λ (b : BookSeen). IsQueue b.config c.args.queue) (sym c.self.view_is) c.requires.may.queue_is)
 
+pub count-requires-clause-small : goal.count-requires-clause-small
+count-requires-clause-small c =
+    let old = c.self.inside in
+    subst (λ (t : Tables). AreSmall t.outline.totals) (sym c.drop_flight.ensures.rest) (small-totals old.config old.origin old.log old.tables c.position-position.result c.self.invariant c.position-position.ensures.position c.position-position.ensures.small c.position-position.ensures.few)
+
 pub invariant_of-self : goal.invariant_of-self
 invariant_of-self c =
     let old = c.self.inside in
     let go_old : IsLetGo old.config (point_in (book_of old.config old.origin old.log old.tables)) c.args.queue c.args.number c.args.command (flight c) =
     subst (λ (b : BookSeen). IsLetGo b.config (point_in b) c.args.queue c.args.number c.args.command (flight c)) (sym c.self.view_is) (go c) in
     let mid : Tables = c.drop_flight.new.tables in
-    let now : Tables = record mid { flights = with_item mid.flights c.from.result (Some (flight c)) } in
+    let now : Tables = record mid { outline = c.count.new.outline; flights = with_item mid.flights c.from.result (Some (flight c)) } in
     let forgets = c.drop_flight.ensures in
     record {
       held = held_started old.config old.origin.found (pages_held old.config old.origin.cells) old.log.entries c.push.new.self.entries old.tables mid now c.args.queue c.args.number c.args.command (flight c)
@@ -107,23 +115,21 @@ invariant_of-self c =
             old = flight_in old.tables.flights.items c.args.queue;
             forgets = forgets;
             flights_are = ap (λ (q : ℕ). slice_set mid.flights.items q (Some (flight c))) c.from.ensures ∙ ap (λ (xs : List (Option Flight)). slice_set xs c.args.queue (Some (flight c))) forgets.flights_are ∙ set-twice old.tables.flights.items c.args.queue None (Some (flight c));
-            setting = ap (λ (t : Tables). t.setting) forgets.rest;
-            sums = ap (λ (t : Tables). t.sums) forgets.rest;
-            spaces = ap (λ (t : Tables). t.spaces) forgets.rest;
+            counts = subst (λ (t : Tables). Counts 0 0 t.outline c.count.new.outline) forgets.rest c.count.ensures;
             map = ap (λ (t : Tables). t.map) forgets.rest;
             pages = refl;
           })
           (c.push.ensures.entries_are ∙ ap (λ (e : Entry). old.log.entries ++ e ∷ []) (entry-is c));
       before_is = c.push.ensures.before_is ∙ c.self.invariant.before_is;
       names_are = c.push.ensures.names_are ∙ c.self.invariant.names_are;
-      numbers = numbers-logged old.tables.setting now.setting old.log c.push.new.self _ (ap (λ (t : Tables). t.setting) forgets.rest) c.push.ensures c.self.invariant.numbers;
+      numbers = numbers-logged old.tables.outline.generation now.outline.generation old.log c.push.new.self _ (generation-counted 0 0 mid.outline now.outline c.count.ensures ∙ ap (λ (t : Tables). t.outline.generation) forgets.rest) c.push.ensures c.self.invariant.numbers;
     }
 
 pub returns-clause-step : goal.returns-clause-step
 returns-clause-step c =
     let old = c.self.inside in
     let mid : Tables = c.drop_flight.new.tables in
-    let now : Tables = record mid { flights = with_item mid.flights c.from.result (Some (flight c)) } in
+    let now : Tables = record mid { outline = c.count.new.outline; flights = with_item mid.flights c.from.result (Some (flight c)) } in
     let new : BookSeen = book_of old.config old.origin c.push.new.self now in
     let longer : IsLonger c.args.self.now new (started-entry c ∷ []) =
     subst (λ (b : BookSeen). IsLonger b new (started-entry c ∷ [])) c.self.view_is

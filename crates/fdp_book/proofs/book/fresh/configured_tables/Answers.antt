@@ -1,4 +1,4 @@
-use Rattle.std.proofs.Common.{◌≡◌, ◌∙◌, ◌+◌, ◌*◌, ◌<◌, ℕ, None, replicate, ap, false, refl, subst, sym}
+use Rattle.std.proofs.Common.{◌≡◌, ◌∙◌, [], ◌+◌, ◌*◌, ◌<◌, ℕ, None, replicate, ap, false, subst, sym}
 use Rattle.fdp_base.specs.declared.config.DriveConfig.{DriveConfig}
 use Rattle.fdp_base.specs.declared.config.Geometry.{Geometry}
 use Rattle.fdp_base.specs.declared.entry.Spot.{Spot}
@@ -10,6 +10,8 @@ use Rattle.fdp_readings.specs.fdp_pages.PageTables.{PageTables, no_targets}
 use Rattle.fdp_units.specs.DataUnits.{free_unit}
 use Rattle.fdp_units.specs.UnitTable.{is_worn_at, unit_at}
 use Rattle.fdp_book.specs.Book.{AreUnused}
+use Rattle.fdp_rules.specs.History.{first_state, fresh, point_of, state_of}
+use Rattle.fdp_book.proofs.Outlining.{generation-said}
 use Rattle.fdp_book.proofs.Held.Fresh.{held-fresh}
 use Rattle.fdp_book.proofs.book.fresh.configured_tables.Goals as goal
 
@@ -28,8 +30,8 @@ returns-clause-held c =
     let config = c.args.config.now in
     let geometry : c.geometry.result ≡ geometry_of config = c.geometry.ensures.value in
     let pages = c.in_ok-pages.ensures in
-    held-fresh config c.requires _ refl refl
-    c.in_ok-configured_spaces.ensures
+    held-fresh config c.requires _
+    c.in_ok-configured_outline.ensures
     (record {
       joined = c.joined.ensures;
       classes = pages.classes ∙ c.classes-classes.ensures;
@@ -43,3 +45,7 @@ pub returns-clause-unused : goal.returns-clause-unused
 returns-clause-unused c =
     let pages = c.in_ok-pages.ensures in
     unused c.args.config.now c.geometry.result c.in_ok-pages.pages c.geometry.ensures.value pages.handles pages.units pages.worn pages.owners pages.passes
+
+pub returns-clause-generation : goal.returns-clause-generation
+unfolding point_of state_of first_state fresh
+returns-clause-generation c = let config = c.args.config.now in sym (generation-said config (point_of config (fresh config) []) _ c.in_ok-configured_outline.ensures)

@@ -6,15 +6,15 @@ use Rattle.fdp_book.proofs.book.namespaces.delete_namespace.Goals as goal
 
 pub release_writes-requires : goal.release_writes-requires
 release_writes-requires c =
-    subst (λ (fs : List (Option Flight)). HasFlights c.args.tables.now.spaces fs c.args.tables.now.pages) (sym c.deref.ensures.value) (record { at = c.requires.pointers.at; are = c.requires.pointers.flown })
+    subst (λ (fs : List (Option Flight)). HasFlights c.args.tables.now.outline fs c.args.tables.now.pages) (sym c.deref.ensures.value) (record { at = c.requires.pointers.at; are = c.requires.pointers.flown })
 
 pub clear_blocks-requires-clause-pointers : goal.clear_blocks-requires-clause-pointers
 clear_blocks-requires-clause-pointers c =
     apart-pointers c.args.tables.now c.args.nsid c.release_writes.new.pages c.requires.pointers
-    (subst (λ (fs : List (Option Flight)). Releases c.args.tables.now.spaces fs c.args.nsid (length fs) c.args.tables.now.pages c.release_writes.new.pages) c.deref.ensures.value c.release_writes.ensures)
+    (subst (λ (fs : List (Option Flight)). Releases c.args.tables.now.outline fs c.args.nsid (length fs) c.args.tables.now.pages c.release_writes.new.pages) c.deref.ensures.value c.release_writes.ensures)
 
 pub returns : goal.returns
 returns c =
-    deletes c.args.tables.now c.args.nsid c.size-size.result c.clear_blocks.new.map c.delete.new.self c.remove.new.self c.release_writes.new.pages c.clear_blocks.new.pages c.size-size.ensures.value
-    (subst (λ (fs : List (Option Flight)). Releases c.args.tables.now.spaces fs c.args.nsid (length fs) c.args.tables.now.pages c.release_writes.new.pages) c.deref.ensures.value c.release_writes.ensures)
-    c.clear_blocks.ensures c.delete.ensures.blocks c.delete.ensures.sizes c.delete.ensures.geometry c.remove.ensures.namespaces c.remove.ensures.groups _ refl refl refl refl
+    deletes c.args.tables.now c.args.nsid c.size-size.result c.clear_blocks.new.map c.delete.new.self c.release_writes.new.pages c.clear_blocks.new.pages c.size-size.ensures.value
+    (subst (λ (fs : List (Option Flight)). Releases c.args.tables.now.outline fs c.args.nsid (length fs) c.args.tables.now.pages c.release_writes.new.pages) c.deref.ensures.value c.release_writes.ensures)
+    c.clear_blocks.ensures c.delete.ensures.blocks c.delete.ensures.sizes c.delete.ensures.geometry _ refl refl refl

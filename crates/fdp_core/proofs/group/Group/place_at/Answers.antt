@@ -25,7 +25,7 @@ use Rattle.fdp_core.proofs.group.Group.place_at.Given.{Over}
 use Rattle.fdp_core.proofs.Apart.{safe-now}
 use Rattle.fdp_core.proofs.group.Group.place_at.Goals as goal
 use Rattle.fdp_core.proofs.group.Group.place_at.Goals.{then-last, else-last}
-use Rattle.fdp_relocation.specs.fdp_keeper.Keeper.{CanSave, KeeperSeen, KeepsMade}
+use Rattle.fdp_relocation.specs.fdp_keeper.Keeper.{CanSave, KeeperSeen, KeepsEntry}
 use Rattle.fdp_loading.specs.fdp_ledger.Calls.{FailsToProgram}
 use Rattle.fdp_flash.specs.FlashState.{FlashState}
 use Rattle.fdp_loading.specs.fdp_survival.Books.{IsInOrder}
@@ -67,8 +67,8 @@ end_shut-done-requires-clause-next g c going =
     (subst (λ (s : Seen g.row.F.Denot). IsTicketOf (state_in s.book) c.args.ticket going → IsNextSpot s.book c.args.ticket going c.args.spot) (sym c.self.view_is) (λ is. (c.requires.next going is).0) here))
 
 -- the place of a write is that of the one that is going
-shut-as : (b : BookSeen) (k l : KeeperSeen) (f n : FlashState) (g : Going) (place : WritePlace) (answer : Saved) → place ≡ record { rg = g.rg; ruh = g.ruh } → KeepsMade b (entries.Shut (record { rg = place.rg; ruh = place.ruh })) k l f n answer → KeepsMade b (entries.Shut (record { rg = g.rg; ruh = g.ruh })) k l f n answer
-shut-as b k l f n g place answer same h = subst (λ (x : WritePlace). KeepsMade b (entries.Shut (record { rg = x.rg; ruh = x.ruh })) k l f n answer) same h
+shut-as : (b : BookSeen) (k l : KeeperSeen) (f n : FlashState) (g : Going) (place : WritePlace) (answer : Saved) → place ≡ record { rg = g.rg; ruh = g.ruh } → KeepsEntry b (entries.Shut (record { rg = place.rg; ruh = place.ruh })) k l f n answer → KeepsEntry b (entries.Shut (record { rg = g.rg; ruh = g.ruh })) k l f n answer
+shut-as b k l f n g place answer same h = subst (λ (x : WritePlace). KeepsEntry b (entries.Shut (record { rg = x.rg; ruh = x.ruh })) k l f n answer) same h
 
 -- ---- it was programmed
 
@@ -166,7 +166,7 @@ module _ (g : Over) (c : goal.After-known-in-Err g) where
     shuts : ShutsAndEnds (begun c.self.inside.book) c.end_shut-done.new.self c.args.ticket going c.args.spot statuses.WRITE_FAULT c.moment-moment.result c.end_shut-done.result
     shuts = subst (λ (b : BookSeen). IsTicketOf (state_in b) c.args.ticket going → ShutsAndEnds b c.end_shut-done.new.self c.args.ticket going c.args.spot statuses.WRITE_FAULT c.moment-moment.result c.end_shut-done.result) c.begin-in-Err.ensures (c.end_shut-done.ensures going) here
 
-    keeps : KeepsMade c.self.inside.book (entries.Shut (record { rg = going.rg; ruh = going.ruh })) c.self.inside.keeper c.save_shut-saved.new.self (g.F.Flash.state c.program-programmed.new.flash) (g.F.Flash.state c.save_shut-saved.new.flash) c.save_shut-saved.result
+    keeps : KeepsEntry c.self.inside.book (entries.Shut (record { rg = going.rg; ruh = going.ruh })) c.self.inside.keeper c.save_shut-saved.new.self (g.F.Flash.state c.program-programmed.new.flash) (g.F.Flash.state c.save_shut-saved.new.flash) c.save_shut-saved.result
     keeps = shut-as c.self.inside.book c.self.inside.keeper c.save_shut-saved.new.self (g.F.Flash.state c.program-programmed.new.flash) (g.F.Flash.state c.save_shut-saved.new.flash) going _ c.save_shut-saved.result (c.place_of_write-rg.ensures going here) c.save_shut-saved.ensures
 
     whole : IsSound c.self.inside.handed (g.F.Flash.state c.program-programmed.new.flash) c.end_shut-done.new.self (take c.self.inside.block.len (c.program-programmed.new.block ++ drop (length c.program-programmed.new.block) c.self.inside.block.items)) → IsWhole c.self.inside.handed (g.F.Flash.state c.save_shut-saved.new.flash) c.end_shut-done.new.self c.save_shut-saved.new.self (take c.self.inside.block.len (c.program-programmed.new.block ++ drop (length c.program-programmed.new.block) c.self.inside.block.items))

@@ -1,9 +1,15 @@
+use Rattle.std.proofs.Common.{[], refl}
 use Rattle.fdp_base.specs.declared.entry.Entry.TheVariants as entries
-use Rattle.fdp_keeper.proofs.Parts.{can-keep, kept-made}
+use Rattle.fdp_book.specs.Book.{point_in}
+use Rattle.fdp_book.proofs.Making.Entries.{of-shut}
+use Rattle.fdp_records.specs.Limits.{is_within_limits}
 use Rattle.fdp_keeper.proofs.keeper.Keeper.save_shut.Goals as goal
 
-pub save_shut-saved-requires-clause-can : goal.save_shut-saved-requires-clause-can
-save_shut-saved-requires-clause-can g c = can-keep c.args.book.now c.args.self.now c.self.inside.saver c.self.inside.outline c.self.inside.firm (g.F.Flash.state c.args.flash.now) c.self.view_is c.requires.can
+pub save-requires-clause-limits : goal.save-requires-clause-limits
+unfolding is_within_limits
+save-requires-clause-limits g c = refl
 
 pub returns : goal.returns
-returns g c = kept-made c.args.book.now (entries.Shut (record { rg = c.args.rg; ruh = c.args.ruh })) c.args.self.now c.self.inside.saver c.save_shut-saved.new.saver c.self.inside.outline c.save_shut-saved.new.outline c.self.inside.firm c.firm_saved-self-inside.result (g.F.Flash.state c.args.flash.now) (g.F.Flash.state c.save_shut-saved.new.flash) c.save_shut-saved.result c.self.view_is c.save_shut-saved.ensures (c.firm_saved-self-inside.ensures (entries.Shut (record { rg = c.args.rg; ruh = c.args.ruh })))
+returns g c =
+    let b = c.args.book.now in
+    c.save.ensures (entries.Shut (record { rg = c.args.rg; ruh = c.args.ruh })) [] (of-shut b.config (point_in b) c.args.rg c.args.ruh c.known.ensures.orderly c.requires.handle)

@@ -1,0 +1,5 @@
+pub mod Entries
+pub mod Limits
+pub mod KindBits
+pub mod Accepted
+pub mod Marking

@@ -1,5 +1,0 @@
-use Rattle.std.proofs.Common.{length}
-use Rattle.fdp_keeper.proofs.updated.+closed_by.Given as goal
-
-abbrev pub decreases-closed_by : goal.decreases-closed_by
-decreases-closed_by l = length l.pids.now

@@ -1,2 +1,0 @@
-pub mod SpaceTable
-pub mod Resolving
