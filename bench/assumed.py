@@ -5,7 +5,7 @@ bench/assumed.py FOLDER check CRATE [FLAG..]   checks CRATE with these flags of 
 bench/assumed.py FOLDER build CRATE..          makes the libraries of these crates anew; those of crates that stand on them go
 
 A library here has the contracts, the definitions and the lemmas of its crate; in the place of each body stands the call of a foreign function that promises what is
-false. So it is there in a minute or two where the proofs take ten, and it proves nothing: `rt ci` has still to prove what a check over it found.
+false. So most are there in a minute or two, the largest in five, where the proofs take ten; and it proves nothing: `rt ci` has still to prove what a check over it found.
 """
 import os
 import re
