@@ -29,7 +29,7 @@ pub fn never()
     let _ = never_returns(0);
 }
 """
-HEAD = re.compile(r'^( *)(?:pub(?:\([a-z]+\))? )?(const )?(?:unsafe )?(?:extern "C" )?fn ')
+HEAD = re.compile(r'^( *)(?:pub(?:\([a-z]+\))? )?(?:final )?(const )?(?:unsafe )?(?:extern "C" )?fn ')
 CLAUSE = re.compile(r" *(requires|ensures)\b")
 
 
@@ -67,10 +67,10 @@ def without_body(lines, at, indent, out):
 
 
 def ends_signature(line, indent):
-    """Whether a line is the last of the signature of a function, or of its clauses."""
+    """Whether a line is the last of the signature of a function, or of its clauses. A line that closes more than it opens ends a clause of several lines."""
     if line.startswith(indent + "{") or line.endswith(";"):
         return True
-    return CLAUSE.match(line) is None and line.endswith(("{", "}"))
+    return CLAUSE.match(line) is None and line.endswith(("{", "}")) and line.count("{") >= line.count("}")
 
 
 class Libraries:
@@ -121,7 +121,7 @@ class Libraries:
         crate = os.path.join(TOP, "crates", name)
         for part in ("src", "specs", "proofs"):
             if os.path.isdir(os.path.join(crate, part)):
-                shutil.copytree(os.path.join(crate, part), os.path.join(source, part))
+                shutil.copytree(os.path.join(crate, part), os.path.join(source, part), ignore=shutil.ignore_patterns("tests.rt"))
         proofs = os.path.join(source, "proofs")
         for entry in os.listdir(proofs) if os.path.isdir(proofs) else []:
             if entry[0].islower():
