@@ -1,8 +1,9 @@
 -- The checkpoint pages of an area that were looked at, and what the page behind them makes of it.
-use Rattle.std.proofs.Common.{◌≡◌, ℕ, zero, suc, ◌+◌, ◌<◌, ◌≤◌, Bool, true, false, List, [], ◌∷◌, drop, length, Option, Some, None, refl, sym, ap, ◌∙◌, arith, zero-add}
+use Rattle.std.proofs.Common.{◌≡◌, ℕ, zero, suc, ◌+◌, ◌-◌, ◌<◌, ◌≤◌, Bool, true, false, List, [], ◌∷◌, ◌++◌, drop, length, Option, Some, None, refl, sym, ap, ◌∙◌, arith, zero-add, inl, inr}
 use Rattle.std.specs.Prelude.{IfSome, ◌==◌, ◌&&◌, bytes_eq, if◌then◌else◌, nat_lt, option_map, slice_get}
 use Rattle.std.specs.Option.{option_and_then, option_map_or}
-use Rattle.std.proofs.lemmas.Bool.{and_parts, eqb-true}
+use Rattle.std.proofs.lemmas.Bool.{and_parts, cases_lt, eqb-true}
+use Rattle.std.proofs.lemmas.List.{length-drop}
 use Rattle.std.proofs.lemmas.Slice.Eq.{bytes_eq-Decides}
 use Rattle.fdp_base.specs.declared.config.Geometry.{Geometry}
 use Rattle.fdp_base.specs.Geometry.{area_pages}
@@ -14,23 +15,82 @@ use Rattle.fdp_records.specs.declared.spare.SystemKind.TheVariants as kinds
 use Rattle.fdp_records.specs.declared.spare.SystemSpare.{SystemSpare}
 use Rattle.fdp_records.specs.Spares.{said_by_system, system_code, system_spare}
 use Rattle.fdp_records.proofs.SpareTold.{system_is_spelled}
+use Rattle.fdp_image.proofs.Journaling.{sealed_with, slice_get-drop}
 use Rattle.fdp_image.proofs.Leading.{leading_ends, leading_most, leading_next}
-use Rattle.fdp_image.specs.Areas.{Sealed, area_of, current_area, first_stamp, is_known_version, is_seal, later_of, leading, more, page_bytes, sealed_behind, sealed_by, sealed_in, stamp_of}
+use Rattle.fdp_image.specs.Areas.{Sealed, area_of, current_area, first_stamp, is_known_version, is_seal, later_of, leading, page_bytes, sealed_behind, sealed_by, sealed_in, stamp_of}
 use Rattle.fdp_image.proofs.NextRecord.{current_sealed}
 use Rattle.fdp_areas.specs.declared.seal.Current.{Current}
 use Rattle.fdp_areas.specs.declared.seal.Seal.{Seal}
-use Rattle.fdp_areas.specs.Seals.{IsCurrentSeal, IsSealed, LiesIn, Tells, TellsCurrent, later_seal}
+use Rattle.fdp_areas.specs.Seals.{IsCurrentSeal, IsNoPage, IsSealed, LiesIn, Tells, TellsCurrent, later_seal}
 
--- ---- the pages that come first
+-- ---- the pages that were looked at
 
--- the same for checkpoint pages, which are numbered from 0
-pub one_more : (t : Stamp) (cells : List Cell) (i : ℕ) (cell : Cell) (bytes : List ℕ) → i ≤ length (leading kinds.Checkpoint 0 t cells) → slice_get cells i ≡ Some cell
-    → page_bytes kinds.Checkpoint i t cell ≡ Some bytes → i + 1 ≤ length (leading kinds.Checkpoint 0 t cells)
-one_more t cells i cell bytes most at page = leading_next kinds.Checkpoint 0 t cells i cell bytes most at (ap (λ (n : ℕ). page_bytes kinds.Checkpoint n t cell) (zero-add i) ∙ page)
+-- so many checkpoint pages come first, and behind them so many journal pages; none of them is not the last of its kind where the next kind began
+pub record IsWalked (t : Stamp) (cells : List Cell) (checkpoint before : ℕ) : Type 0 where
+  pub pages : checkpoint ≤ length (leading kinds.Checkpoint 0 t cells)
+  pub ended : 0 < before → length (leading kinds.Checkpoint 0 t cells) ≡ checkpoint
+  pub records : before ≤ length (leading kinds.Journal 0 t (drop checkpoint cells))
 
-pub no_more : (t : Stamp) (cells : List Cell) (i : ℕ) (cell : Cell) → i ≤ length (leading kinds.Checkpoint 0 t cells) → slice_get cells i ≡ Some cell
-    → page_bytes kinds.Checkpoint i t cell ≡ None → length (leading kinds.Checkpoint 0 t cells) ≡ i
-no_more t cells i cell most at page = leading_ends kinds.Checkpoint 0 t cells i cell most at (ap (λ (n : ℕ). page_bytes kinds.Checkpoint n t cell) (zero-add i) ∙ page)
+-- just so many of both come first
+pub record IsEnded (t : Stamp) (cells : List Cell) (checkpoint before : ℕ) : Type 0 where
+  pub pages : length (leading kinds.Checkpoint 0 t cells) ≡ checkpoint
+  pub records : length (leading kinds.Journal 0 t (drop checkpoint cells)) ≡ before
+
+-- the page behind checkpoint pages is a further one
+pub walked_page : (t : Stamp) (cells : List Cell) (checkpoint before : ℕ) (cell : Cell) (bytes : List ℕ) → IsWalked t cells checkpoint before → slice_get cells (checkpoint + before) ≡ Some cell → before ≡ 0
+    → page_bytes kinds.Checkpoint checkpoint t cell ≡ Some bytes → IsWalked t cells (checkpoint + 1) before
+walked_page t cells checkpoint before cell bytes h at none page =
+    let place : checkpoint + before ≡ checkpoint = omega (arith, none) in
+    let here : slice_get cells checkpoint ≡ Some cell = sym (ap (slice_get cells) place) ∙ at in
+    record {
+      pages = leading_next kinds.Checkpoint 0 t cells checkpoint cell bytes h.pages here (ap (λ (n : ℕ). page_bytes kinds.Checkpoint n t cell) (zero-add checkpoint) ∙ page);
+      ended = λ some. absurd (omega (arith, some, none));
+      records = omega (arith, none);
+    }
+
+-- behind a page that is none there are no further checkpoint pages
+no_page : (t : Stamp) (cells : List Cell) (checkpoint before : ℕ) (cell : Cell) → IsWalked t cells checkpoint before → slice_get cells (checkpoint + before) ≡ Some cell → IsNoPage checkpoint before t cell
+    → length (leading kinds.Checkpoint 0 t cells) ≡ checkpoint
+no_page t cells checkpoint before cell h at page = elim (cases_lt 0 before) [
+  | inl some ↦ h.ended some
+  | inr few ↦ (
+      let none : before ≡ 0 = omega (arith, few) in
+      let place : checkpoint + before ≡ checkpoint = omega (arith, none) in
+      leading_ends kinds.Checkpoint 0 t cells checkpoint cell h.pages (sym (ap (slice_get cells) place) ∙ at) (ap (λ (n : ℕ). page_bytes kinds.Checkpoint n t cell) (zero-add checkpoint) ∙ page none)
+      )
+]
+
+-- the page behind them is the next journal page
+pub walked_record : (t : Stamp) (cells : List Cell) (checkpoint before : ℕ) (cell : Cell) (bytes : List ℕ) → IsWalked t cells checkpoint before → slice_get cells (checkpoint + before) ≡ Some cell
+    → IsNoPage checkpoint before t cell → page_bytes kinds.Journal before t cell ≡ Some bytes → IsWalked t cells checkpoint (before + 1)
+walked_record t cells checkpoint before cell bytes h at none page = record {
+  pages = h.pages;
+  ended = λ some. no_page t cells checkpoint before cell h at none;
+  records =
+      leading_next kinds.Journal 0 t (drop checkpoint cells) before cell bytes h.records (slice_get-drop cells checkpoint before ∙ at)
+      (ap (λ (n : ℕ). page_bytes kinds.Journal n t cell) (zero-add before) ∙ page);
+}
+
+-- it is none
+pub walked_ends : (t : Stamp) (cells : List Cell) (checkpoint before : ℕ) (cell : Cell) → IsWalked t cells checkpoint before → slice_get cells (checkpoint + before) ≡ Some cell
+    → IsNoPage checkpoint before t cell → page_bytes kinds.Journal before t cell ≡ None → IsEnded t cells checkpoint before
+walked_ends t cells checkpoint before cell h at none page = record {
+  pages = no_page t cells checkpoint before cell h at none;
+  records =
+      leading_ends kinds.Journal 0 t (drop checkpoint cells) before cell h.records (slice_get-drop cells checkpoint before ∙ at)
+      (ap (λ (n : ℕ). page_bytes kinds.Journal n t cell) (zero-add before) ∙ page);
+}
+
+-- they are the whole area
+walked_out : (t : Stamp) (cells : List Cell) (checkpoint before : ℕ) → IsWalked t cells checkpoint before → length cells ≤ checkpoint + before → IsEnded t cells checkpoint before
+walked_out t cells checkpoint before h end =
+    let most = leading_most kinds.Checkpoint 0 t cells in
+    let few = leading_most kinds.Journal 0 t (drop checkpoint cells) in
+    let size : length (drop checkpoint cells) ≡ length cells - checkpoint = length-drop checkpoint cells in
+    record {
+      pages = elim (cases_lt 0 before) [ inl some ↦ h.ended some | inr none ↦ (let pages = h.pages in omega (arith, pages, most, none, end)) ];
+      records = (let pages = h.records in omega (arith, pages, few, size, end));
+    }
 
 -- ---- the first page
 
@@ -69,43 +129,53 @@ first_of_cell Torn t e = absurd cc
 first_of_cell (Whole spare bytes) t e = (bytes, first_page t spare bytes e)
 
 -- so it comes first
-pub first_leads : (cells : List Cell) (t : Stamp) → option_and_then stamp_of (slice_get cells 0) ≡ Some t → 1 ≤ length (leading kinds.Checkpoint 0 t cells)
+first_leads : (cells : List Cell) (t : Stamp) → option_and_then stamp_of (slice_get cells 0) ≡ Some t → 1 ≤ length (leading kinds.Checkpoint 0 t cells)
 first_leads [] t e = absurd cc
 first_leads (c ∷ cs) t e = let page = first_of_cell c t e in leading_next kinds.Checkpoint 0 t (c ∷ cs) 0 c page.0 (omega arith) refl page.1
 
--- ---- the seal
+pub first_walked : (cells : List Cell) (t : Stamp) → option_and_then stamp_of (slice_get cells 0) ≡ Some t → IsWalked t cells 1 0
+first_walked cells t e = record { pages = first_leads cells t e; ended = λ some. absurd (omega (arith, some)); records = omega arith }
 
-sealed_by_test : (cells : List Cell) (t : Stamp) (i : ℕ) (b : Bool) → length (leading kinds.Checkpoint 0 t cells) ≡ i → option_map_or (is_seal t i) (slice_get cells i) false ≡ b
-    → sealed_by cells t ≡ (if b then Some (record { stamp = t; checkpoint = leading kinds.Checkpoint 0 t cells; journal = leading kinds.Journal 0 t (drop (suc (i + 0)) cells) }) else None)
-unfolding sealed_by sealed_behind
-sealed_by_test cells t i b size test =
-    let count : length (leading kinds.Checkpoint 0 t cells) + 0 ≡ i = omega arith in
-    let n : i ≡ i + 0 = omega arith in
-    let chosen : option_map_or (is_seal t (length (leading kinds.Checkpoint 0 t cells) + 0)) (slice_get cells (length (leading kinds.Checkpoint 0 t cells) + 0)) false ≡ b =
-    ap (λ (k : ℕ). option_map_or (is_seal t k) (slice_get cells k) false) count ∙ test in
-    ap
-    (λ (x : Bool).
-    if x then Some (record { stamp = t; checkpoint = leading kinds.Checkpoint 0 t cells; journal = leading kinds.Journal 0 t (drop (suc (length (leading kinds.Checkpoint 0 t cells) + 0)) cells) }) else None)
-    chosen
-    ∙ ap (λ (k : ℕ). if b then Some (record { stamp = t; checkpoint = leading kinds.Checkpoint 0 t cells; journal = leading kinds.Journal 0 t (drop (suc k) cells) }) else None) (count ∙ n)
+-- ---- the seal
 
 in_area : (cells : List Cell) (t : Stamp) → option_and_then stamp_of (slice_get cells 0) ≡ Some t → sealed_in cells ≡ sealed_by cells t
 unfolding sealed_in
 in_area cells t e = ap (option_and_then (sealed_by cells)) e
 
--- the page behind the checkpoint pages is the seal
-pub seal_found : (cells : List Cell) (t : Stamp) (i : ℕ) (cell : Cell) → option_and_then stamp_of (slice_get cells 0) ≡ Some t → length (leading kinds.Checkpoint 0 t cells) ≡ i
-    → slice_get cells i ≡ Some cell → is_seal t i cell ≡ true → IsSealed cells (record { stamp = t; checkpoint = i })
-seal_found cells t i cell first size at seal = record {
-  area = record { stamp = t; checkpoint = leading kinds.Checkpoint 0 t cells; journal = leading kinds.Journal 0 t (drop (suc (i + 0)) cells) };
-  sealed = in_area cells t first ∙ sealed_by_test cells t i true size (ap (λ (o : Option Cell). option_map_or (is_seal t i) o false) at ∙ seal);
-  seal_is = record { stamp = refl; checkpoint = size };
-}
+-- the page behind them is the seal
+pub seal_found : (cells : List Cell) (t : Stamp) (checkpoint before : ℕ) (cell : Cell) → option_and_then stamp_of (slice_get cells 0) ≡ Some t → IsEnded t cells checkpoint before
+    → slice_get cells (checkpoint + before) ≡ Some cell → is_seal t (checkpoint + before) cell ≡ true → IsSealed cells (record { stamp = t; checkpoint = checkpoint; before = before })
+seal_found cells t checkpoint before cell first h at seal =
+    let pages = leading kinds.Checkpoint 0 t cells in
+    let records = leading kinds.Journal 0 t (drop (length pages) cells) in
+    let count : length records ≡ before = ap (λ (n : ℕ). length (leading kinds.Journal 0 t (drop n cells))) h.pages ∙ h.records in
+    let place : checkpoint + before ≡ length pages + length records = omega (arith, count, h.pages) in
+    let behind = leading kinds.Journal (length records) t (drop (suc (length pages + length records)) cells) in
+    record {
+      area = record { stamp = t; checkpoint = pages; before = length records; journal = records ++ behind };
+      sealed = sealed_with cells t pages records behind (record {
+        stamp = first;
+        pages = refl;
+        first = refl;
+        seal = sym (ap (λ (n : ℕ). option_map_or (is_seal t n) (slice_get cells n) false) place) ∙ ap (λ (o : Option Cell). option_map_or (is_seal t (checkpoint + before)) o false) at ∙ seal;
+        records = refl;
+      });
+      seal_is = record { stamp = refl; checkpoint = h.pages; before = count };
+    }
 
 -- it is not
-pub seal_missing : (cells : List Cell) (t : Stamp) (i : ℕ) → option_and_then stamp_of (slice_get cells 0) ≡ Some t → length (leading kinds.Checkpoint 0 t cells) ≡ i
-    → option_map_or (is_seal t i) (slice_get cells i) false ≡ false → sealed_in cells ≡ None
-seal_missing cells t i first size test = in_area cells t first ∙ sealed_by_test cells t i false size test
+pub seal_missing : (cells : List Cell) (t : Stamp) (checkpoint before : ℕ) → option_and_then stamp_of (slice_get cells 0) ≡ Some t → IsEnded t cells checkpoint before
+    → option_map_or (is_seal t (checkpoint + before)) (slice_get cells (checkpoint + before)) false ≡ false → sealed_in cells ≡ None
+unfolding sealed_by sealed_behind
+seal_missing cells t checkpoint before first h test =
+    let pages = leading kinds.Checkpoint 0 t cells in
+    let records = leading kinds.Journal 0 t (drop (length pages) cells) in
+    let count : length records ≡ before = ap (λ (n : ℕ). length (leading kinds.Journal 0 t (drop n cells))) h.pages ∙ h.records in
+    let place : length pages + length records ≡ checkpoint + before = omega (arith, count, h.pages) in
+    let behind = leading kinds.Journal (length records) t (drop (suc (length pages + length records)) cells) in
+    in_area cells t first
+    ∙ ap (λ (b : Bool). if b then Some (record { stamp = t; checkpoint = pages; before = length records; journal = records ++ behind }) else None)
+    (ap (λ (n : ℕ). option_map_or (is_seal t n) (slice_get cells n) false) place ∙ test)
 
 -- there is no first checkpoint page
 pub no_first : (cells : List Cell) → option_and_then stamp_of (slice_get cells 0) ≡ None → sealed_in cells ≡ None
@@ -117,24 +187,22 @@ slice_get-end [] i h = refl
 slice_get-end (c ∷ cs) zero h = absurd (omega arith)
 slice_get-end (c ∷ cs) (suc i) h = slice_get-end cs i (omega arith)
 
--- the whole area is checkpoint pages
-pub no_room_for_seal : (cells : List Cell) (t : Stamp) (i : ℕ) → option_and_then stamp_of (slice_get cells 0) ≡ Some t → i ≤ length (leading kinds.Checkpoint 0 t cells) → length cells ≤ i → sealed_in cells ≡ None
-no_room_for_seal cells t i first most end =
-    let size : length (leading kinds.Checkpoint 0 t cells) ≡ i = omega (arith, leading_most kinds.Checkpoint 0 t cells) in
-    seal_missing cells t i first size (ap (λ (o : Option Cell). option_map_or (is_seal t i) o false) (slice_get-end cells i end))
+-- the whole area is checkpoint pages and journal pages
+pub no_room_for_seal : (cells : List Cell) (t : Stamp) (checkpoint before : ℕ) → option_and_then stamp_of (slice_get cells 0) ≡ Some t → IsWalked t cells checkpoint before → length cells ≤ checkpoint + before → sealed_in cells ≡ None
+no_room_for_seal cells t checkpoint before first h end =
+    seal_missing cells t checkpoint before first (walked_out t cells checkpoint before h end)
+    (ap (λ (o : Option Cell). option_map_or (is_seal t (checkpoint + before)) o false) (slice_get-end cells (checkpoint + before) end))
 
--- no page that is blank or torn is a checkpoint page or the seal
-pub blank_is_none : (t : Stamp) (i : ℕ) (cells : List Cell) → option_and_then stamp_of (slice_get cells 0) ≡ Some t → i ≤ length (leading kinds.Checkpoint 0 t cells) → slice_get cells i ≡ Some Blank → sealed_in cells ≡ None
+-- no page that is blank or torn is one of them or the seal
+pub blank_is_none : (t : Stamp) (checkpoint before : ℕ) (cells : List Cell) → option_and_then stamp_of (slice_get cells 0) ≡ Some t → IsWalked t cells checkpoint before → slice_get cells (checkpoint + before) ≡ Some Blank → sealed_in cells ≡ None
 unfolding page_bytes
-blank_is_none t i cells first most at =
-    let size = leading_ends kinds.Checkpoint 0 t cells i Blank most at refl in
-    seal_missing cells t i first size (ap (λ (o : Option Cell). option_map_or (is_seal t i) o false) at)
+blank_is_none t checkpoint before cells first h at =
+    seal_missing cells t checkpoint before first (walked_ends t cells checkpoint before Blank h at (λ none. refl) refl) (ap (λ (o : Option Cell). option_map_or (is_seal t (checkpoint + before)) o false) at)
 
-pub torn_is_none : (t : Stamp) (i : ℕ) (cells : List Cell) → option_and_then stamp_of (slice_get cells 0) ≡ Some t → i ≤ length (leading kinds.Checkpoint 0 t cells) → slice_get cells i ≡ Some Torn → sealed_in cells ≡ None
+pub torn_is_none : (t : Stamp) (checkpoint before : ℕ) (cells : List Cell) → option_and_then stamp_of (slice_get cells 0) ≡ Some t → IsWalked t cells checkpoint before → slice_get cells (checkpoint + before) ≡ Some Torn → sealed_in cells ≡ None
 unfolding page_bytes
-torn_is_none t i cells first most at =
-    let size = leading_ends kinds.Checkpoint 0 t cells i Torn most at refl in
-    seal_missing cells t i first size (ap (λ (o : Option Cell). option_map_or (is_seal t i) o false) at)
+torn_is_none t checkpoint before cells first h at =
+    seal_missing cells t checkpoint before first (walked_ends t cells checkpoint before Torn h at (λ none. refl) refl) (ap (λ (o : Option Cell). option_map_or (is_seal t (checkpoint + before)) o false) at)
 
 -- ---- both areas
 
@@ -170,7 +238,7 @@ current_told g cells (Some x) (Some y) a b = of_test (nat_lt x.stamp.epoch y.sta
   }
 
 -- the later of seals that stand in their areas stands in its own
-pub later_lies : (g : Geometry) (first second : Option Seal) → IfSome first (λ x. x.checkpoint < area_pages g) → IfSome second (λ x. x.checkpoint < area_pages g) → IfSome (later_seal first second) (LiesIn g)
+pub later_lies : (g : Geometry) (first second : Option Seal) → IfSome first (λ x. x.checkpoint + x.before < area_pages g) → IfSome second (λ x. x.checkpoint + x.before < area_pages g) → IfSome (later_seal first second) (LiesIn g)
 later_lies g None None a b = tt
 later_lies g (Some x) None a b = record { area = omega arith; pages = omega arith }
 later_lies g None (Some y) a b = record { area = omega arith; pages = omega arith }

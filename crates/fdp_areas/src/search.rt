@@ -1,4 +1,4 @@
-ghost use Rattle.std.specs.Prelude.{◌≡◌, ◌≤◌, ◌<◌, ◌-◌, IsTrue, IfOk, IfSome, Some, bytes_eq, length, slice_get};
+ghost use Rattle.std.specs.Prelude.{◌≡◌, ◌≤◌, ◌<◌, ◌+◌, ◌-◌, ◌^◌, IsTrue, IfOk, IfSome, Some, bytes_eq, length, slice_get};
 ghost use Rattle.std.specs.Option.{option_and_then};
 ghost use Rattle.fdp_base.specs.Geometry.{IsValidGeometry, area_pages};
 ghost use Rattle.fdp_image.specs.Areas.{area_of, first_stamp, stamp_of};
@@ -17,8 +17,8 @@ use fdp_records::{Stamp, SystemKind, SystemSpare};
 /// The version of the images that are read.
 const VERSION: u8 = 1;
 
-/// Searches a system area for its seal: looks at its checkpoint pages, up to the first page that is none, each once. A seal counts
-/// only behind all of them. `page` is room for the bytes of a page.
+/// Searches a system area for its seal: looks at its checkpoint pages and at the journal pages that follow them, up to the first page that is none, each
+/// once. A seal counts only behind all of them. `page` is room for the bytes of a page.
 pub fn find_seal<F: Flash>(
     flash: &mut F,
     area: u8,
@@ -27,7 +27,7 @@ pub fn find_seal<F: Flash>(
     requires area { area ≤ 1 }
     requires room { length page.old ≡ (F.state flash.old).geometry.block }
     ensures looks { ReadsOnly (area_pages (F.state flash.old).geometry) (F.state flash.old) (F.state flash.new) }
-    ensures inside { IfOk result (λ found. IfSome found (λ seal. seal.checkpoint < area_pages (F.state flash.old).geometry)) }
+    ensures inside { IfOk result (λ found. IfSome found (λ seal. seal.checkpoint + seal.before < area_pages (F.state flash.old).geometry)) }
     ensures found { IsTrue (F.state flash.old).told → IfOk result (Tells (area_of (F.state flash.old).geometry area (F.state flash.old).cells)) }
     ensures ends { Ends (F.state flash.old) (F.state flash.new) result }
 {
@@ -81,7 +81,7 @@ fn first_stamp(spare: &[u8; 32]) -> Option<Stamp>
     }
 }
 
-/// Looks at the pages behind the first, up to the first that is no checkpoint page.
+/// Looks at the pages behind the first: at checkpoint pages, then at journal pages, up to the first that is neither.
 fn walk<F: Flash>(
     flash: &mut F,
     geometry: &Geometry,
@@ -96,19 +96,23 @@ fn walk<F: Flash>(
     requires room { length page.old ≡ geometry.now.block }
     requires first { IsTrue (F.state flash.old).told → option_and_then stamp_of (slice_get (area_of geometry.now area (F.state flash.old).cells) 0) ≡ Some stamp }
     ensures looks { ReadsOnly (area_pages geometry.now - 1) (F.state flash.old) (F.state flash.new) }
-    ensures inside { IfOk result (λ found. IfSome found (λ seal. seal.checkpoint < area_pages geometry.now)) }
+    ensures inside { IfOk result (λ found. IfSome found (λ seal. seal.checkpoint + seal.before < area_pages geometry.now)) }
     ensures found { IsTrue (F.state flash.old).told → IfOk result (Tells (area_of geometry.now area (F.state flash.old).cells)) }
     ensures ends { Ends (F.state flash.old) (F.state flash.new) result }
 {
     let mut spare = [0; 32];
+    let mut checkpoint = 1;
+    let mut before = 0;
     for number in 1..geometry.area_pages() {
         match look_at(flash, geometry, area, number, &mut spare, page) {
-            Seen::Whole => match step(&spare, page, number, stamp) {
-                Step::More => {}
+            Seen::Whole => match step(&spare, page, checkpoint, before, stamp) {
+                Step::More => checkpoint += 1,
+                Step::Record => before += 1,
                 Step::Seal => {
                     return Ok(Some(Seal {
                         stamp,
-                        checkpoint: number,
+                        checkpoint,
+                        before,
                     }));
                 }
                 Step::Other => return Ok(None),
@@ -125,15 +129,20 @@ fn walk<F: Flash>(
     Ok(None)
 }
 
-/// What a whole page is that comes behind so many checkpoint pages.
+/// What a whole page is that comes behind so many checkpoint pages and, behind these, so many journal pages.
 #[tactic(auto, unfolding(fdp_image::specs::Areas::page_bytes))]
-fn step(spare: &[u8; 32], bytes: &[u8], number: u32, stamp: Stamp) -> Step
-    ensures { IsStep number stamp spare.now bytes.now result }
+fn step(spare: &[u8; 32], bytes: &[u8], checkpoint: u32, before: u32, stamp: Stamp) -> Step
+    requires { checkpoint + before < 2 ^ 31 }
+    ensures { IsStep checkpoint before stamp spare.now bytes.now result }
 {
-    if is_page(spare, SystemKind::Checkpoint, number, stamp) {
+    // A checkpoint page behind a journal page is none of those that come first.
+    if before == 0 && is_page(spare, SystemKind::Checkpoint, checkpoint, stamp) {
         return Step::More;
     }
-    if is_page(spare, SystemKind::Seal, number, stamp) && are_zeros(bytes) {
+    if is_page(spare, SystemKind::Journal, before, stamp) {
+        return Step::Record;
+    }
+    if is_page(spare, SystemKind::Seal, checkpoint + before, stamp) && are_zeros(bytes) {
         return Step::Seal;
     }
     Step::Other

@@ -12,9 +12,12 @@ use Rattle.fdp_flash.specs.declared.cell.Cell.TheVariants.{Blank, Torn, Whole}
 use Rattle.fdp_flash.proofs.Lists.{slice_get-set_other, slice_get-set_same}
 use Rattle.fdp_image.specs.Areas.{first_stamp, is_seal, leading, more, page_bytes, sealed_behind, sealed_by, sealed_in, stamp_of}
 use Rattle.fdp_image.specs.Fields.{are_zeros, pieces}
-use Rattle.fdp_image.specs.Replacing.{IsCheckpointOf, IsNewlySealed, new_stamp, pages_for}
+use Rattle.fdp_image.specs.Replacing.{HasNoSeal, IsCheckpointOf, IsNewlySealed, new_stamp, pages_for}
 use Rattle.fdp_image.specs.Saving.{AreBlankFrom}
 use Rattle.fdp_image.proofs.Journaling.{leading_blank, sealed_with, slice_get-drop}
+use Rattle.fdp_image.proofs.Leading.{leading_none, whole_page}
+use Rattle.fdp_image.proofs.Unsealed.{IsLeft, blank_no_seal, left_no_seal, set_no_seal, unsealed}
+use Rattle.fdp_image.proofs.Wiping.{in_range, seal_is_no_page, seal_is_no_record}
 use Rattle.fdp_records.specs.declared.spare.Stamp.{Stamp}
 use Rattle.fdp_records.specs.declared.spare.SystemKind.TheVariants.{Checkpoint, Journal, Seal}
 use Rattle.fdp_records.specs.Spares.{said_by_system, system_spare}
@@ -52,79 +55,25 @@ pages_some block s some = of_count (pages_for block s) refl where
 
 -- ---- an area without a seal
 
--- no page is a seal
-abbrev pub HasNoSeal : List Cell → Type 0
-HasNoSeal cells = (k : ℕ) (cell : Cell) → slice_get cells k ≡ Some cell → (t : Stamp) (n : ℕ) → is_seal t n cell ≡ false
-
-pub unsealed : (cells : List Cell) → HasNoSeal cells → sealed_in cells ≡ None
-unfolding sealed_in sealed_by sealed_behind
-unsealed cells none = of_stamp (option_and_then stamp_of (slice_get cells 0)) where
-  of_seal : (t : Stamp) (n : ℕ) (o : Option Cell) → slice_get cells n ≡ o → option_map_or (is_seal t n) o false ≡ false
-  of_seal t n None is = refl
-  of_seal t n (Some cell) is = none n cell is t n
-
-  of_stamp : (o : Option Stamp) → option_and_then (sealed_by cells) o ≡ None
-  of_stamp None = refl
-  of_stamp (Some t) =
-      let pages = leading Checkpoint 0 t cells in
-      let n = length pages + 0 in
-      ap (λ (b : Bool). if b then Some (record { stamp = t; checkpoint = pages; journal = leading Journal 0 t (drop (suc n) cells) }) else None) (of_seal t n (slice_get cells n) refl)
-
-blank_no_seal : (t : Stamp) (n : ℕ) → is_seal t n Blank ≡ false
-unfolding page_bytes
-blank_no_seal t n = refl
-
-torn_no_seal : (t : Stamp) (n : ℕ) → is_seal t n Torn ≡ false
-unfolding page_bytes
-torn_no_seal t n = refl
-
-page_no_seal : (t x : Stamp) (n k : ℕ) (bytes : List ℕ) → is_seal t n (Whole (system_spare (record { kind = Checkpoint; number = k; stamp = x })) bytes) ≡ false
-unfolding page_bytes system_spare
-page_no_seal t x n k bytes = refl
-
--- a page that a program of a checkpoint page may leave
-abbrev pub IsLeft : ℕ → ℕ → List ℕ → Cell → Type 0
-IsLeft epoch number bytes cell = (cell ≡ Blank) ⊎ (cell ≡ Torn) ⊎ (cell ≡ Whole (system_spare (record { kind = Checkpoint; number = number; stamp = new_stamp epoch })) bytes)
-
-left_no_seal : (epoch number : ℕ) (bytes : List ℕ) (cell : Cell) (t : Stamp) (n : ℕ) → IsLeft epoch number bytes cell → is_seal t n cell ≡ false
-left_no_seal epoch number bytes cell t n (inl is) = ap (is_seal t n) is ∙ blank_no_seal t n
-left_no_seal epoch number bytes cell t n (inr (inl is)) = ap (is_seal t n) is ∙ torn_no_seal t n
-left_no_seal epoch number bytes cell t n (inr (inr is)) = ap (is_seal t n) is ∙ page_no_seal t (new_stamp epoch) n number bytes
-
-in_range : (cells : List Cell) (k : ℕ) (cell : Cell) → slice_get cells k ≡ Some cell → k < length cells
-in_range [] k cell e = absurd cc
-in_range (c ∷ cs) zero cell e = omega arith
-in_range (c ∷ cs) (suc k) cell e = let lt = in_range cs k cell e in omega arith
-
 pages_no_seal : (block count epoch : ℕ) (s : State) (cells : List Cell) (number : ℕ) → HasPages block count epoch s cells number → HasNoSeal cells
 pages_no_seal block count epoch s cells number p k cell at t n = elim (cases_lt k number) [
   | inl below ↦ (
       let both : Some (Whole (system_spare (record { kind = Checkpoint; number = k; stamp = new_stamp epoch })) (page_of block count s k)) ≡ Some cell = sym (p.whole k below) ∙ at in
-      let is : Whole (system_spare (record { kind = Checkpoint; number = k; stamp = new_stamp epoch })) (page_of block count s k) ≡ cell = cc in
-      sym (ap (is_seal t n) is) ∙ page_no_seal t (new_stamp epoch) n k (page_of block count s k)
+      let is : cell ≡ Whole (system_spare (record { kind = Checkpoint; number = k; stamp = new_stamp epoch })) (page_of block count s k) = cc in
+      left_no_seal Checkpoint k (new_stamp epoch) (page_of block count s k) cell (inl refl) (inr (inr is)) t n
       )
   | inr above ↦ (
       let both : Some Blank ≡ Some cell = sym (p.blank k (omega arith) (in_range cells k cell at)) ∙ at in
-      let is : Blank ≡ cell = cc in
-      sym (ap (is_seal t n) is) ∙ blank_no_seal t n
+      let is : cell ≡ Blank = cc in
+      left_no_seal Checkpoint k (new_stamp epoch) [] cell (inl refl) (inl is) t n
       )
-]
-
-set_no_seal : (cells : List Cell) (number : ℕ) (new : Cell) → number < length cells → HasNoSeal cells → ((t : Stamp) (n : ℕ) → is_seal t n new ≡ false) → HasNoSeal (set cells number new)
-set_no_seal cells number new inside none one k cell at t n = elim (cases_eq k number) [
-  | inl same ↦ (
-      let both : Some new ≡ Some cell = sym (ap (slice_get (set cells number new)) same ∙ slice_get-set_same cells number new inside) ∙ at in
-      let is : new ≡ cell = cc in
-      sym (ap (is_seal t n) is) ∙ one t n
-      )
-  | inr other ↦ none k cell (sym (slice_get-set_other cells number k new other) ∙ at) t n
 ]
 
 -- while pages are programmed the area is not sealed
-pub pages_unsealed : (block count epoch : ℕ) (s : State) (cells : List Cell) (number : ℕ) (cell : Cell) (bytes : List ℕ) → number < length cells → HasPages block count epoch s cells number → IsLeft epoch number bytes cell
+pub pages_unsealed : (block count epoch : ℕ) (s : State) (cells : List Cell) (number : ℕ) (cell : Cell) (bytes : List ℕ) → number < length cells → HasPages block count epoch s cells number → IsLeft Checkpoint number (new_stamp epoch) bytes cell
     → sealed_in (set cells number cell) ≡ None
 pages_unsealed block count epoch s cells number cell bytes inside p left =
-    unsealed (set cells number cell) (set_no_seal cells number cell inside (pages_no_seal block count epoch s cells number p) (λ t n. left_no_seal epoch number bytes cell t n left))
+    unsealed (set cells number cell) (set_no_seal cells number cell inside (pages_no_seal block count epoch s cells number p) (left_no_seal Checkpoint number (new_stamp epoch) bytes cell (inl refl) left))
 
 -- a seal that is blank or torn seals nothing
 pub half_sealed : (block count epoch : ℕ) (s : State) (cells : List Cell) (number : ℕ) (cell : Cell) → number < length cells → HasPages block count epoch s cells number → (cell ≡ Blank) ⊎ (cell ≡ Torn)
@@ -163,12 +112,6 @@ unfolding pieces
 pieces_count size zero bytes = refl
 pieces_count size (suc n) bytes = ap suc (pieces_count size n (drop size bytes))
 
-whole_read : (number : ℕ) (t : Stamp) (bytes : List ℕ) → page_bytes Checkpoint number t (Whole (system_spare (record { kind = Checkpoint; number = number; stamp = t })) bytes) ≡ Some bytes
-unfolding page_bytes
-whole_read number t bytes =
-    let spare = system_spare (record { kind = Checkpoint; number = number; stamp = t }) in
-    ap (λ (b : Bool). if b then Some bytes else None) ((bytes_eq-Decides spare spare).1 refl)
-
 -- whole pages, and behind them one that is none, are those that come first
 leading_whole : (size first n : ℕ) (t : Stamp) (bytes : List ℕ) (cells : List Cell)
     → ((k : ℕ) → k < n → slice_get cells k ≡ Some (Whole (system_spare (record { kind = Checkpoint; number = first + k; stamp = t })) (take size (drop (k * size) bytes))))
@@ -196,7 +139,7 @@ leading_whole size first (suc n) t bytes (c ∷ cs) whole end =
     ∙ (λ i. Some (Whole (system_spare (record { kind = Checkpoint; number = number i; stamp = t })) (take size (drop (far i) bytes))))
     ∙ ap (λ (bs : List ℕ). Some (Whole (system_spare (record { kind = Checkpoint; number = suc first + k; stamp = t })) (take size bs))) (sym (drop-drop (k * size) size bytes)))
     (ap (λ (k : ℕ). option_and_then (page_bytes Checkpoint k t) (slice_get cs n)) behind ∙ end) in
-    ap (λ (o : Option (List ℕ)). more o (leading Checkpoint (suc first) t cs)) (ap (page_bytes Checkpoint first t) here ∙ whole_read first t (take size bytes))
+    ap (λ (o : Option (List ℕ)). more o (leading Checkpoint (suc first) t cs)) (ap (page_bytes Checkpoint first t) here ∙ whole_page Checkpoint first t (take size bytes))
     ∙ ap (λ (ps : List (List ℕ)). take size bytes ∷ ps) rest
 
 zeros_are : (n : ℕ) → are_zeros (zeros n) ≡ true
@@ -209,10 +152,6 @@ seal_read n t size =
     let spare = system_spare (record { kind = Seal; number = n; stamp = t }) in
     ap (λ (b : Bool). option_map_or are_zeros (if b then Some (zeros size) else None) false) ((bytes_eq-Decides spare spare).1 refl) ∙ zeros_are size
 
-seal_no_page : (n k : ℕ) (t : Stamp) (bytes : List ℕ) → page_bytes Checkpoint k t (Whole (system_spare (record { kind = Seal; number = n; stamp = t })) bytes) ≡ None
-unfolding page_bytes system_spare
-seal_no_page n k t bytes = refl
-
 -- what is at hand when the seal is programmed
 pub record IsReady (block count epoch : ℕ) (s : State) (cells : List Cell) : Type 0 where
   pub some : 0 < block
@@ -224,7 +163,7 @@ pub record IsReady (block count epoch : ℕ) (s : State) (cells : List Cell) : T
   pub pages : HasPages block count epoch s cells count
 
 pub sealed_anew : (block count epoch : ℕ) (s : State) (cells : List Cell) → IsReady block count epoch s cells
-    → IsNewlySealed block epoch s (set cells count (Whole (system_spare (record { kind = Seal; number = count; stamp = new_stamp epoch })) (zeros block)))
+    → IsNewlySealed block epoch s [] (set cells count (Whole (system_spare (record { kind = Seal; number = count; stamp = new_stamp epoch })) (zeros block)))
 sealed_anew block count epoch s cells h =
     let t = new_stamp epoch in
     let cell = Whole (system_spare (record { kind = Seal; number = count; stamp = t })) (zeros block) in
@@ -242,7 +181,7 @@ sealed_anew block count epoch s cells h =
     let pages : leading Checkpoint 0 t new ≡ list =
     leading_whole block 0 count t bytes new
     (λ k lt. let on : k ≡ 0 + k = omega arith in other k lt ∙ h.pages.whole k lt ∙ ap (λ (n : ℕ). Some (Whole (system_spare (record { kind = Checkpoint; number = n; stamp = t })) (page_of block count s k))) on)
-    (ap (λ (o : Option Cell). option_and_then (page_bytes Checkpoint (0 + count) t) o) at ∙ seal_no_page count (0 + count) t (zeros block)) in
+    (ap (λ (o : Option Cell). option_and_then (page_bytes Checkpoint (0 + count) t) o) at ∙ seal_is_no_page t count (0 + count) cell (seal_read count t block)) in
     let first_cell : slice_get new 0 ≡ Some (Whole (system_spare (record { kind = Checkpoint; number = 0; stamp = t })) (page_of block count s 0)) = other 0 some ∙ h.pages.whole 0 some in
     let behind : AreBlankFrom 0 (drop (suc (length list + 0)) new) =
     λ k lo hi.
@@ -252,10 +191,11 @@ sealed_anew block count epoch s cells h =
     let told : s ≡ state_in bytes = sym (written_told 1 (count * block) s h.state h.fits room) in
     let summary : summary_in bytes ≡ s.summary = sym (summary_told s bytes told) in
     record {
-      area = record { stamp = t; checkpoint = list; journal = [] };
-      sealed = sealed_with new t list [] (record {
+      area = record { stamp = t; checkpoint = list; before = 0; journal = [] };
+      sealed = sealed_with new t list [] [] (record {
         stamp = ap (option_and_then stamp_of) first_cell ∙ ap (option_and_then first_stamp) h.first;
         pages = pages;
+        first = leading_none Journal 0 t (drop (length list) new) cell (slice_get-drop new (length list) 0 ∙ ap (slice_get new) place ∙ at) (seal_is_no_record t count 0 cell (seal_read count t block));
         seal =
             ap (λ (k : ℕ). option_map_or (is_seal t k) (slice_get new k) false) place ∙ ap (λ (o : Option Cell). option_map_or (is_seal t count) o false) at
             ∙ seal_read count t block;
@@ -267,7 +207,8 @@ sealed_anew block count epoch s cells h =
         state = told;
         filled = rw (summary, written_long 1 (count * block) s h.state h.fits room) few;
       });
-      pages = size ∙ h.count_is;
+      filled = size ∙ h.count_is;
+      before = refl;
       journal = refl;
     }
 
@@ -276,9 +217,4 @@ blank_behind block count epoch s cells cell h k lo hi =
     slice_get-set_other cells count k cell (λ same. absurd (omega (arith, same, lo, h.count_is))) ∙ h.pages.blank k (omega (arith, lo, h.count_is)) (omega (arith, hi, length-set cells count cell))
 
 pub blank_unsealed : (cells : List Cell) → AreBlankFrom 0 cells → sealed_in cells ≡ None
-blank_unsealed cells blank =
-    unsealed cells
-    (λ k cell at t n.
-    let both : Some Blank ≡ Some cell = sym (blank k (omega arith) (in_range cells k cell at)) ∙ at in
-    let is : Blank ≡ cell = cc in
-    sym (ap (is_seal t n) is) ∙ blank_no_seal t n)
+blank_unsealed cells blank = unsealed cells (blank_no_seal cells blank)

@@ -213,7 +213,7 @@ seal_held x count s bytes now new result h p =
         | inr other ↦ elim other [
           | inl torn ↦ inl (ap sealed_in area ∙ half_sealed g.block count x.stamp.epoch s cells count here.cell r.inside r.pages (inr torn))
           | inr whole ↦ inr
-              (subst (IsNewlySealed g.block x.stamp.epoch s) (sym (area ∙ ap (set cells count) (whole ∙ seal_cell x count s bytes now h)))
+              (subst (IsNewlySealed g.block x.stamp.epoch s []) (sym (area ∙ ap (set cells count) (whole ∙ seal_cell x count s bytes now h)))
               (sealed_anew g.block count x.stamp.epoch s cells r))
         ]
       ];
@@ -233,7 +233,7 @@ seal_done x count s bytes now new h p told =
     let whole = set_is ∙ ap (set cells count) (seal_cell x count s bytes now h) in
     let cell = Whole (system_spare (record { kind = kinds.Seal; number = count; stamp = new_stamp x.stamp.epoch })) (zeros g.block) in
     record {
-      sealed = subst (IsNewlySealed g.block x.stamp.epoch s) (sym whole) (sealed_anew g.block count x.stamp.epoch s cells r);
+      sealed = subst (IsNewlySealed g.block x.stamp.epoch s []) (sym whole) (sealed_anew g.block count x.stamp.epoch s cells r);
       blank = subst (λ (cs : List Cell). AreBlankFrom (suc (pages_for g.block s.summary)) cs) (sym whole) (blank_behind g.block count x.stamp.epoch s cells cell r);
     }
 

@@ -1,5 +1,5 @@
 -- A checkpoint that is written: its pages, what is between the calls, and which calls are made.
-use Rattle.std.specs.Prelude.{◌≡◌, ◌⊎◌, ℕ, suc, ◌+◌, ◌*◌, ◌<◌, List, ◌++◌, drop, slice_get, take, Option, Some, None}
+use Rattle.std.specs.Prelude.{◌≡◌, ◌⊎◌, ℕ, suc, ◌+◌, ◌*◌, ◌<◌, List, [], ◌++◌, drop, slice_get, take, Option, Some, None}
 use Rattle.fdp_base.specs.declared.config.Geometry.{Geometry}
 use Rattle.fdp_flash.specs.declared.cell.Cell.{Cell}
 use Rattle.fdp_flash.specs.declared.cell.Cell.TheVariants.{Whole}
@@ -41,11 +41,11 @@ pub record IsErasing (g : Geometry) (area : ℕ) (old new : List Cell) : Type 0 
 -- the pages beside an area are as they were, and it is not sealed, or sealed anew
 pub record IsSealing (g : Geometry) (area epoch : ℕ) (s : State) (old new : List Cell) : Type 0 where
   pub beside : IsSameBeside g area old new
-  pub left : (sealed_in (area_of g area new) ≡ None) ⊎ IsNewlySealed g.block epoch s (area_of g area new)
+  pub left : (sealed_in (area_of g area new) ≡ None) ⊎ IsNewlySealed g.block epoch s [] (area_of g area new)
 
 -- an area is sealed anew, and blank behind its seal, so that a journal can go on there
 pub record IsWritten (g : Geometry) (area epoch : ℕ) (s : State) (cells : List Cell) : Type 0 where
-  pub sealed : IsNewlySealed g.block epoch s (area_of g area cells)
+  pub sealed : IsNewlySealed g.block epoch s [] (area_of g area cells)
   pub blank : AreBlankFrom (suc (pages_for g.block s.summary)) (area_of g area cells)
 
 -- a program of a page of an area, by its number there

@@ -31,6 +31,7 @@ use Rattle.fdp_image.specs.Reads.{changes_in, is_checkpoint_of, is_sound_checkpo
 use Rattle.fdp_image.specs.Saving.{CanGoOn, IsCurrent, IsNextRecord, IsSavedIn, ReadsWithOrWithout}
 use Rattle.fdp_image.proofs.Fitting.{all_fit-append, said_by-made, said_by-parts}
 use Rattle.fdp_image.proofs.Journaling.{journal_grows, journal_stays, slice_get-set_other}
+use Rattle.fdp_image.proofs.Leading.{whole_page}
 
 -- ---- the areas
 
@@ -198,12 +199,6 @@ said_with c s r bytes xs said fit told =
 
 -- ---- the image
 
-whole_page : (number : ℕ) (t : Stamp) (bytes : List ℕ) → page_bytes Journal number t (Whole (system_spare (record { kind = Journal; number = number; stamp = t })) bytes) ≡ Some bytes
-unfolding page_bytes
-whole_page number t bytes =
-    let spare = system_spare (record { kind = Journal; number = number; stamp = t }) in
-    ap (λ (b : Bool). if b then Some bytes else None) ((bytes_eq-Decides spare spare).1 refl)
-
 no_page : (number : ℕ) (t : Stamp) (cell : Cell) → (cell ≡ Blank) ⊎ (cell ≡ Torn) → page_bytes Journal number t cell ≡ None
 unfolding page_bytes
 no_page number t cell (inl e) = ap (page_bytes Journal number t) e
@@ -275,7 +270,7 @@ next_record_reads c cells r at spare bytes xs image size read fit next left =
     let more : left.cell ≡ Whole spare bytes → reads_as c image ≡ Some (with_changes c r xs) =
     λ whole.
     let page : page_bytes Journal (length s.journal) s.stamp left.cell ≡ Some bytes =
-    ap (page_bytes Journal (length s.journal) s.stamp) (whole ∙ ap (λ (sp : List ℕ). Whole sp bytes) next.spare_is) ∙ whole_page (length s.journal) s.stamp bytes in
+    ap (page_bytes Journal (length s.journal) s.stamp) (whole ∙ ap (λ (sp : List ℕ). Whole sp bytes) next.spare_is) ∙ whole_page Journal (length s.journal) s.stamp bytes in
     ap (reads_as c) place ∙ read_by c (set cells (first_page g (area_unit g number) + next_page s) left.cell) number (with_page s bytes)
     (area_read g cells number s (with_page s bytes) left.cell next.current room refl (λ sealed. journal_grows (area_of g number cells) s left.cell bytes sealed long next.blank page))
     ∙ said_with c s r bytes xs said fit next.told in
@@ -312,7 +307,7 @@ next_page_current g cells number s at bytes image size open_ room at_is left =
       current =
           ap (current_area g) place
           ∙ area_read g cells number s (with_page s bytes) left.cell open_.current room refl
-          (λ sealed. journal_grows (area_of g number cells) s left.cell bytes sealed long open_.blank (ap (page_bytes Journal (length s.journal) s.stamp) whole ∙ whole_page (length s.journal) s.stamp bytes));
+          (λ sealed. journal_grows (area_of g number cells) s left.cell bytes sealed long open_.blank (ap (page_bytes Journal (length s.journal) s.stamp) whole ∙ whole_page Journal (length s.journal) s.stamp bytes));
       stamp = refl;
     } in
     elim left.page [
@@ -342,7 +337,7 @@ next_record_saved c cells r at spare bytes xs image size read fit next done =
     let new = set cells (first_page g (area_unit g number) + next_page s) cell in
     let place : image ≡ new = done ∙ ap (λ (k : ℕ). set cells k cell) next.place in
     let page : page_bytes Journal (length s.journal) s.stamp cell ≡ Some bytes =
-    ap (λ (sp : List ℕ). page_bytes Journal (length s.journal) s.stamp (Whole sp bytes)) next.spare_is ∙ whole_page (length s.journal) s.stamp bytes in
+    ap (λ (sp : List ℕ). page_bytes Journal (length s.journal) s.stamp (Whole sp bytes)) next.spare_is ∙ whole_page Journal (length s.journal) s.stamp bytes in
     let current : current_area g new ≡ Some (number, with_page s bytes) =
     area_read g cells number s (with_page s bytes) cell next.current room refl (λ sealed. journal_grows (area_of g number cells) s cell bytes sealed long next.blank page) in
     let area : area_of g number new ≡ set (area_of g number cells) (next_page s) cell = area_set g number (next_page s) cells cell in
@@ -371,7 +366,7 @@ next_page_done g cells number s at bytes image size open_ room at_is done =
       current =
           ap (current_area g) place
           ∙ area_read g cells number s (with_page s bytes) cell open_.current room refl
-          (λ sealed. journal_grows (area_of g number cells) s cell bytes sealed long open_.blank (whole_page (length s.journal) s.stamp bytes));
+          (λ sealed. journal_grows (area_of g number cells) s cell bytes sealed long open_.blank (whole_page Journal (length s.journal) s.stamp bytes));
       blank = λ k lo hi.
           let same : area_of g number image ≡ set (area_of g number cells) (next_page s) cell = ap (area_of g number) place ∙ area in
           let within : k < length (area_of g number cells) = omega (arith, hi, ap length same, length-set (area_of g number cells) (next_page s) cell) in

@@ -42,11 +42,16 @@ unfoldable pub leading : SystemKind → ℕ → Stamp → List Cell → List (Li
 leading kind number t [] = []
 leading kind number t (cell ∷ cells) = more (page_bytes kind number t cell) (leading kind (suc number) t cells)
 
--- an area that is sealed: its version and epoch, its checkpoint pages, and its journal pages in order
+-- an area that is sealed: its version and epoch, its checkpoint pages, how many of its journal pages stand before the seal, and its journal pages in order
 pub record Sealed : Type 0 where
   pub stamp : Stamp
   pub checkpoint : List (List ℕ)
+  pub before : ℕ
   pub journal : List (List ℕ)
+
+-- where a journal page stands in its area, by its number: behind so many checkpoint pages, and behind the seal too where so many stand before it
+abbrev pub record_page : ℕ → ℕ → ℕ → ℕ
+record_page checkpoint before number = if nat_lt number before then checkpoint + number else suc checkpoint + number
 
 -- the page is the seal with this number: its bytes are zero
 abbrev pub is_seal : Stamp → ℕ → Cell → Bool
@@ -57,12 +62,16 @@ unfoldable pub sealed_behind : List Cell → Stamp → List (List ℕ) → List 
 sealed_behind cells t checkpoint before =
     let count = length checkpoint + length before in
     if option_map_or (is_seal t count) (slice_get cells count) false
-    then Some (record { stamp = t; checkpoint = checkpoint; journal = before ++ leading Journal (length before) t (drop (suc count) cells) })
+    then Some (record { stamp = t; checkpoint = checkpoint; before = length before; journal = before ++ leading Journal (length before) t (drop (suc count) cells) })
     else None
 
--- the area as it is sealed with this version and epoch: no journal page stands before the seal
+-- the journal pages that come right behind the checkpoint pages: those before the seal
+abbrev pub pages_before : List Cell → Stamp → List (List ℕ) → List (List ℕ)
+pages_before cells t checkpoint = leading Journal 0 t (drop (length checkpoint) cells)
+
+-- the area as it is sealed with this version and epoch: behind its checkpoint pages and the journal pages that follow them
 unfoldable pub sealed_by : List Cell → Stamp → Option Sealed
-sealed_by cells t = sealed_behind cells t (leading Checkpoint 0 t cells) []
+sealed_by cells t = sealed_behind cells t (leading Checkpoint 0 t cells) (pages_before cells t (leading Checkpoint 0 t cells))
 
 -- the versions of an image that are read
 abbrev pub is_known_version : ℕ → Bool

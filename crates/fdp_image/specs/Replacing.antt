@@ -1,5 +1,5 @@
 -- A checkpoint that takes the place of what a system area held.
-use Rattle.std.specs.Prelude.{◌≡◌, ◌≢◌, ◌⊎◌, ℕ, ◌+◌, ◌-◌, ◌/◌, ◌<◌, ◌≤◌, IsTrue, List, [], length, slice_get, take, Some, None}
+use Rattle.std.specs.Prelude.{◌≡◌, ◌≢◌, ◌⊎◌, ℕ, ◌+◌, ◌-◌, ◌/◌, ◌<◌, ◌≤◌, IsTrue, false, List, [], length, slice_get, take, Some, None}
 use Rattle.std.specs.List.{concat, list_all}
 use Rattle.fdp_base.specs.declared.config.DriveConfig.{DriveConfig}
 use Rattle.fdp_base.specs.declared.config.Geometry.{Geometry}
@@ -13,7 +13,7 @@ use Rattle.fdp_snapshot.specs.declared.state.State.{State}
 use Rattle.fdp_snapshot.specs.declared.state.Summary.{Summary}
 use Rattle.fdp_snapshot.specs.Checkpoint.{checkpoint_size, is_checkpoint}
 use Rattle.fdp_snapshot.specs.Reading.{state_in, summary_in}
-use Rattle.fdp_image.specs.Areas.{Sealed, area_of, area_unit, current_area, sealed_in}
+use Rattle.fdp_image.specs.Areas.{Sealed, area_of, area_unit, current_area, is_seal, sealed_in}
 use Rattle.fdp_image.specs.BadFields.{bad_field}
 use Rattle.fdp_image.specs.Checkpoint.{reading_of_state}
 use Rattle.fdp_image.specs.CheckpointFields.{same_keys}
@@ -34,21 +34,22 @@ pub record IsCheckpointOf (version block : ℕ) (bytes : List ℕ) (s : State) :
 abbrev pub new_stamp : ℕ → Stamp
 new_stamp epoch = record { version = 1; epoch = epoch }
 
--- an area is sealed with this state and epoch: its content reads back as exactly this state, and it has no journal page
-pub record IsNewlySealed (block epoch : ℕ) (s : State) (cells : List Cell) : Type 0 where
+-- an area is sealed with this state and epoch: its content reads back as exactly this state, these journal pages stand before the seal, and none behind it
+pub record IsNewlySealed (block epoch : ℕ) (s : State) (pages : List (List ℕ)) (cells : List Cell) : Type 0 where
   pub area : Sealed
   pub sealed : sealed_in cells ≡ Some area
   pub stamp : area.stamp ≡ new_stamp epoch
   pub content : IsCheckpointOf 1 block (concat area.checkpoint) s
-  pub pages : length area.checkpoint ≡ pages_for block s.summary
-  pub journal : area.journal ≡ []
+  pub filled : length area.checkpoint ≡ pages_for block s.summary
+  pub before : area.before ≡ length pages
+  pub journal : area.journal ≡ pages
 
 -- each page of an area is as it was, blank or torn
 pub record IsWiped (old new : List Cell) : Type 0 where
   pub size : length new ≡ length old
   pub pages : (k : ℕ) → k < length old → (slice_get new k ≡ slice_get old k) ⊎ (slice_get new k ≡ Some Blank) ⊎ (slice_get new k ≡ Some Torn)
 
--- an area is sealed with the checkpoint pages and the seal that it had, and with a beginning of its journal
+-- an area is sealed with the checkpoint pages, the journal pages before the seal and the seal that it had, and with a beginning of its journal
 pub record IsShortened (old new : List Cell) : Type 0 where
   pub before : Sealed
   pub after : Sealed
@@ -56,13 +57,19 @@ pub record IsShortened (old new : List Cell) : Type 0 where
   pub sealed_after : sealed_in new ≡ Some after
   pub stamp : after.stamp ≡ before.stamp
   pub checkpoint : after.checkpoint ≡ before.checkpoint
+  pub before_is : after.before ≡ before.before
   pub kept : ℕ
+  pub enough : before.before ≤ kept
   pub journal : after.journal ≡ take kept before.journal
 
 -- what may become of an area that a checkpoint is written into: it is not sealed, or as it was but for the end of its journal, or
 -- sealed with the new checkpoint
 abbrev pub IsReplacedIn : ℕ → ℕ → State → List Cell → List Cell → Type 0
-IsReplacedIn block epoch s old new = (sealed_in new ≡ None) ⊎ IsShortened old new ⊎ IsNewlySealed block epoch s new
+IsReplacedIn block epoch s old new = (sealed_in new ≡ None) ⊎ IsShortened old new ⊎ IsNewlySealed block epoch s [] new
+
+-- no page is a seal
+abbrev pub HasNoSeal : List Cell → Type 0
+HasNoSeal cells = (k : ℕ) (cell : Cell) → slice_get cells k ≡ Some cell → (t : Stamp) (n : ℕ) → is_seal t n cell ≡ false
 
 -- all pages of the data units and of the other system area are as they were
 pub record IsSameBeside (g : Geometry) (area : ℕ) (old new : List Cell) : Type 0 where

@@ -5,7 +5,7 @@ use Rattle.fdp_base.specs.declared.config.DriveConfig.{DriveConfig}
 use Rattle.fdp_base.specs.declared.config.Geometry.{Geometry}
 use Rattle.fdp_base.specs.Placement.{geometry_of}
 use Rattle.fdp_flash.specs.Layout.{first_page}
-use Rattle.fdp_image.specs.Areas.{Sealed, area_unit}
+use Rattle.fdp_image.specs.Areas.{Sealed, area_unit, record_page}
 use Rattle.fdp_image.specs.Checkpoint.{reading_of_state, said_by_checkpoint}
 use Rattle.fdp_image.specs.Reading.{Reading}
 use Rattle.fdp_state.specs.fdp_replay.Replay.{IsBadAt, IsReplayed, IsUnfitAt}
@@ -33,10 +33,10 @@ whole_journal c g z first last count old new says start end all replayed =
       };
     }
 
-pub bad_journal : (c : DriveConfig) (g : Geometry) (area : ℕ) (z : Sealed) (first : State) (number count page : ℕ) (old new : Reading) → g ≡ geometry_of c → SaysState c g z first → old ≡ reading_of_state first
-    → length z.checkpoint ≡ count → IsReplayed fits c z.journal number old new → IsBadAt z.journal number ⊎ IsUnfitAt fits c z.journal number new
-    → page ≡ first_page g (area_unit g area) + (suc count + number) → SaysNone c g area z page
-bad_journal c g area z first number count page old new cut says start pages replayed bad place =
+pub bad_journal : (c : DriveConfig) (g : Geometry) (area : ℕ) (z : Sealed) (first : State) (number count seen page : ℕ) (old new : Reading) → g ≡ geometry_of c → SaysState c g z first → old ≡ reading_of_state first
+    → length z.checkpoint ≡ count → z.before ≡ seen → IsReplayed fits c z.journal number old new → IsBadAt z.journal number ⊎ IsUnfitAt fits c z.journal number new
+    → page ≡ first_page g (area_unit g area) + record_page count seen number → SaysNone c g area z page
+bad_journal c g area z first number count seen page old new cut says start pages before replayed bad place =
     record {
       keys = says.keys;
       bad = inr (inr (record {
@@ -45,6 +45,6 @@ bad_journal c g area z first number count page old new cut says start pages repl
         said = new;
         before = subst (λ (r : Reading). IsReplayed fits c z.journal number r new) (said_first z first old says.state start) replayed;
         bad = bad;
-        place = place ∙ ap (λ (x : Geometry). first_page x (area_unit x area) + (suc count + number)) cut ∙ ap (λ (n : ℕ). first_page (geometry_of c) (area_unit (geometry_of c) area) + (suc n + number)) (sym pages);
+        place = place ∙ (λ i. first_page (cut i) (area_unit (cut i) area) + record_page (sym pages i) (sym before i) number);
       }));
     }

@@ -6,7 +6,7 @@ use Rattle.fdp_base.specs.Placement.{geometry_of}
 use Rattle.fdp_checkpoint.specs.Pages.{IsBadIn}
 use Rattle.fdp_flash.specs.declared.cell.Cell.{Cell}
 use Rattle.fdp_flash.specs.Layout.{first_page}
-use Rattle.fdp_image.specs.Areas.{Sealed, area_unit}
+use Rattle.fdp_image.specs.Areas.{Sealed, area_unit, record_page}
 use Rattle.fdp_image.specs.Checkpoint.{said_by_checkpoint}
 use Rattle.fdp_image.specs.Reading.{Reading}
 use Rattle.fdp_image.specs.Reads.{is_checkpoint_of}
@@ -35,7 +35,7 @@ pub record IsBadRecord (c : DriveConfig) (area : ℕ) (z : Sealed) (page : ℕ) 
   pub said : Reading
   pub before : IsReplayed fits c z.journal number (said_by_checkpoint (concat z.checkpoint)) said
   pub bad : IsBadAt z.journal number ⊎ IsUnfitAt fits c z.journal number said
-  pub place : page ≡ number_in c area (suc (length z.checkpoint) + number)
+  pub place : page ≡ number_in c area (record_page (length z.checkpoint) z.before number)
 
 -- the page is that of the first block that is not kept on its page
 pub record IsBadBlock (c : DriveConfig) (cells : List Cell) (z : Sealed) (page : ℕ) : Type 0 where

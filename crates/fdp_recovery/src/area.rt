@@ -8,7 +8,7 @@ ghost use Rattle.fdp_base.specs.Geometry.{IsValidGeometry, area_pages};
 ghost use Rattle.fdp_checkpoint.specs.Pages.{IsBadIn};
 ghost use Rattle.fdp_flash.specs.Layout.{first_page};
 ghost use Rattle.fdp_flash.specs.OnlyReads.{ReadsOnly};
-ghost use Rattle.fdp_image.specs.Areas.{Sealed, area_unit, current_area};
+ghost use Rattle.fdp_image.specs.Areas.{Sealed, area_unit, current_area, record_page};
 ghost use Rattle.fdp_image.specs.Replacing.{IsCheckpointOf};
 ghost use Rattle.fdp_recovery.specs.declared.opened.OpenFault.TheVariants.{NoMemory};
 ghost use Rattle.fdp_recovery.specs.Opened.{EndsOpening};
@@ -155,9 +155,9 @@ fn bad_record(geometry: &Geometry, current: &Current, number: u32) -> OpenFault
     requires valid { IsValidGeometry geometry.now }
     requires inside { LiesIn geometry.now current.now }
     requires within { suc current.now.seal.checkpoint + number < area_pages geometry.now }
-    ensures { result ≡ OpenFault.BadImage (first_page geometry.now (area_unit geometry.now current.now.area) + (suc current.now.seal.checkpoint + number)) }
+    ensures { result ≡ OpenFault.BadImage (first_page geometry.now (area_unit geometry.now current.now.area) + record_page current.now.seal.checkpoint current.now.seal.before number) }
 {
     OpenFault::BadImage {
-        page: number_in(geometry, current.area, 1 + current.seal.checkpoint + number),
+        page: number_in(geometry, current.area, current.seal.record_page(number)),
     }
 }

@@ -1,6 +1,9 @@
 -- The pages of a journal that were read, and what the next page makes of them.
-use Rattle.std.proofs.Common.{◌≡◌, ℕ, zero, suc, ◌+◌, ◌≤◌, Bool, true, false, IsTrue, List, [], ◌∷◌, ◌++◌, ◌-◌, drop, length, take, Option, Some, None, refl, sym, ap, ◌∙◌, subst, arith, zero-add, length-drop}
-use Rattle.std.specs.Prelude.{bytes_eq, if◌then◌else◌, slice_get}
+use Rattle.std.proofs.Common.{◌≡◌, ℕ, zero, suc, ◌+◌, ◌<◌, ◌≤◌, Bool, true, false, IsTrue, List, [], ◌∷◌, ◌++◌, ◌-◌, drop, length, take, Option, Some, None, refl, sym, ap, ◌∙◌, subst, arith, zero-add, inl, inr}
+use Rattle.std.specs.Prelude.{bytes_eq, if◌then◌else◌, nat_lt, slice_get}
+use Rattle.std.proofs.lemmas.Bool.{cases_lt}
+use Rattle.std.proofs.lemmas.Bool.Decides.{nat_tests}
+use Rattle.std.proofs.lemmas.List.{length-append, length-drop, length-take-le}
 use Rattle.std.proofs.lemmas.List.Sums.{fold-append}
 use Rattle.fdp_base.specs.declared.config.DriveConfig.{DriveConfig}
 use Rattle.fdp_base.specs.declared.config.Geometry.{Geometry}
@@ -15,26 +18,31 @@ use Rattle.fdp_records.specs.declared.spare.SystemKind.TheVariants as kinds
 use Rattle.fdp_records.specs.Reading.{decoded}
 use Rattle.fdp_records.specs.Spares.{system_spare}
 use Rattle.fdp_image.specs.Applied.{applied, with_changes}
-use Rattle.fdp_image.specs.Areas.{Sealed, area_of, current_area, leading, more, page_bytes}
+use Rattle.fdp_image.specs.Areas.{Sealed, area_of, current_area, leading, more, page_bytes, record_page}
 use Rattle.fdp_image.specs.Fits.{Fitting, all_fit}
 use Rattle.fdp_image.specs.Reading.{Reading}
 use Rattle.fdp_image.specs.Reads.{changes_in}
 use Rattle.fdp_image.proofs.Fitting.{all_fit-append, fit_one, unfit_one}
-use Rattle.fdp_image.proofs.Journaling.{journal_read, slice_get-drop}
+use Rattle.fdp_image.proofs.Journaling.{journal_cells, journal_read, slice_get-drop}
 use Rattle.fdp_image.proofs.NextRecord.{area_long, current_sealed, told-push, told_one}
 use Rattle.fdp_areas.specs.declared.seal.Current.{Current}
-use Rattle.fdp_areas.specs.Seals.{IsCurrentSeal}
+use Rattle.fdp_areas.specs.Seals.{IsCurrentSeal, LiesIn}
 use Rattle.fdp_image.proofs.Leading.{leading_ends, leading_most, leading_next}
+use Rattle.fdp_image.proofs.Wiping.{in_range}
 use Rattle.fdp_replay.specs.Records.{IsTaken, IsUnfit}
 use Rattle.fdp_replay.specs.Replay.{IsReplayed}
 
--- the pages behind the seal
-abbrev pub behind_seal : Geometry → List Cell → Current → List Cell
-behind_seal g cells x = drop (suc x.seal.checkpoint) (area_of g x.area cells)
+-- the pages of the area where its journal stands
+abbrev pub record_cells : Geometry → List Cell → Current → List Cell
+record_cells g cells x = journal_cells x.seal.checkpoint x.seal.before (area_of g x.area cells)
 
--- the journal pages behind the seal
+-- the journal pages there
 abbrev pub journal_of : Geometry → List Cell → Current → List (List ℕ)
-journal_of g cells x = leading kinds.Journal 0 x.seal.stamp (behind_seal g cells x)
+journal_of g cells x = leading kinds.Journal 0 x.seal.stamp (record_cells g cells x)
+
+-- where they stand in the area
+abbrev pub place_of : Current → ℕ → ℕ
+place_of x number = record_page x.seal.checkpoint x.seal.before number
 
 -- the bytes of a page that is the next of those that come first
 pub leading_at : (kind : SystemKind) (number : ℕ) (t : Stamp) (cells : List Cell) (i : ℕ) (cell : Cell) (bytes : List ℕ) → i ≤ length (leading kind number t cells)
@@ -90,7 +98,7 @@ replayed_more fits c journal i bytes start old new at p taken = record {
   reading = taken.reading ∙ ap (λ (r : Reading). with_changes c r taken.changes) p.reading ∙ sym (fold-append (applied c) start p.changes taken.changes);
 }
 
--- the journal of the current area stands behind its seal
+-- the journal of the current area stands there
 pub sealed_journal : (g h : Geometry) (cells : List Cell) (x : Current) (area : Sealed) → g ≡ h → IsCurrentSeal h cells x → current_area h cells ≡ Some (x.area, area)
     → area.journal ≡ journal_of g cells x
 sealed_journal g h cells x area same is current =
@@ -99,17 +107,51 @@ sealed_journal g h cells x area same is current =
     let one : is.area ≡ area = ap (λ (p : ℕ × Sealed). p.1) pair in
     let stamp : area.stamp ≡ x.seal.stamp = ap (λ (s : Sealed). s.stamp) (sym one) ∙ is.seal_is.stamp in
     let count : length area.checkpoint ≡ x.seal.checkpoint = ap (λ (s : Sealed). length s.checkpoint) (sym one) ∙ is.seal_is.checkpoint in
+    let before : area.before ≡ x.seal.before = ap (λ (s : Sealed). s.before) (sym one) ∙ is.seal_is.before in
     sym (journal_read (area_of h x.area cells) area (current_sealed h cells x.area area current))
-    ∙ ap (λ (t : Stamp). leading kinds.Journal 0 t (drop (suc (length area.checkpoint)) (area_of h x.area cells))) stamp
-    ∙ ap (λ (n : ℕ). leading kinds.Journal 0 x.seal.stamp (drop (suc n) (area_of h x.area cells))) count
+    ∙ (λ i. leading kinds.Journal 0 (stamp i) (journal_cells (count i) (before i) (area_of h x.area cells)))
     ∙ ap (λ (k : Geometry). journal_of k cells x) (sym same)
 
--- a page of the area behind the seal, by its number in the journal
-pub behind_at : (g : Geometry) (cells : List Cell) (x : Current) (number : ℕ) (cell : Cell) → slice_get (area_of g x.area cells) (1 + x.seal.checkpoint + number) ≡ Some cell
-    → slice_get (behind_seal g cells x) number ≡ Some cell
-behind_at g cells x number cell at =
-    let place : suc x.seal.checkpoint + number ≡ 1 + x.seal.checkpoint + number = omega arith in
-    slice_get-drop (area_of g x.area cells) (suc x.seal.checkpoint) number ∙ ap (slice_get (area_of g x.area cells)) place ∙ at
+slice_get-first : (xs ys : List Cell) (k : ℕ) (cell : Cell) → slice_get xs k ≡ Some cell → slice_get (xs ++ ys) k ≡ Some cell
+slice_get-first [] ys k cell at = absurd cc
+slice_get-first (x ∷ xs) ys zero cell at = at
+slice_get-first (x ∷ xs) ys (suc k) cell at = slice_get-first xs ys k cell at
+
+slice_get-take : (n : ℕ) (xs : List Cell) (k : ℕ) → k < n → slice_get (take n xs) k ≡ slice_get xs k
+slice_get-take zero xs k lt = absurd (omega (arith, lt))
+slice_get-take (suc n) [] k lt = refl
+slice_get-take (suc n) (x ∷ xs) zero lt = refl
+slice_get-take (suc n) (x ∷ xs) (suc k) lt = slice_get-take n xs k (omega (arith, lt))
+
+slice_get-behind : (xs ys : List Cell) (k : ℕ) → slice_get (xs ++ ys) (length xs + k) ≡ slice_get ys k
+slice_get-behind [] ys k = ap (slice_get ys) (zero-add k)
+slice_get-behind (x ∷ xs) ys k = let place : length (x ∷ xs) + k ≡ suc (length xs + k) = omega arith in ap (slice_get (x ∷ (xs ++ ys))) place ∙ slice_get-behind xs ys k
+
+-- a page of the area that is one of these, by its number in the journal
+pub record_at : (g : Geometry) (cells : List Cell) (x : Current) (number : ℕ) (cell : Cell) → slice_get (area_of g x.area cells) (place_of x number) ≡ Some cell → slice_get (record_cells g cells x) number ≡ Some cell
+record_at g cells x number cell at = elim (cases_lt number x.seal.before) [
+  | inl first ↦ (
+      let n = x.seal.checkpoint in
+      let b = x.seal.before in
+      let area = area_of g x.area cells in
+      let test : nat_lt number b ≡ true = grind (arith, nat_tests, first) in
+      let here : slice_get area (n + number) ≡ Some cell = sym (ap (λ (t : Bool). slice_get area (if t then n + number else suc n + number)) test) ∙ at in
+      slice_get-first (take b (drop n area)) (drop (suc (n + b)) area) number cell (slice_get-take b (drop n area) number first ∙ slice_get-drop area n number ∙ here)
+      )
+  | inr behind ↦ (
+      let n = x.seal.checkpoint in
+      let b = x.seal.before in
+      let area = area_of g x.area cells in
+      let test : nat_lt number b ≡ false = grind (arith, nat_tests, behind) in
+      let here : slice_get area (suc n + number) ≡ Some cell = sym (ap (λ (t : Bool). slice_get area (if t then n + number else suc n + number)) test) ∙ at in
+      let inside : suc n + number < length area = in_range area (suc n + number) cell here in
+      let size : length (take b (drop n area)) ≡ b = length-take-le b (drop n area) (omega (arith, inside, behind, length-drop n area)) in
+      let place : number ≡ length (take b (drop n area)) + (number - b) = omega (arith, size, behind) in
+      let far : suc (n + b) + (number - b) ≡ suc n + number = omega (arith, behind) in
+      ap (slice_get (record_cells g cells x)) place
+      ∙ slice_get-behind (take b (drop n area)) (drop (suc (n + b)) area) (number - b) ∙ slice_get-drop area (suc (n + b)) (number - b) ∙ ap (slice_get area) far ∙ here
+      )
+]
 
 -- a whole page with the spare of the next record, and one with another spare
 pub journal_page : (t : Stamp) (number : ℕ) (spare bytes : List ℕ) → bytes_eq (system_spare (record { kind = kinds.Journal; number = number; stamp = t })) spare ≡ true
@@ -132,32 +174,43 @@ torn_page t number = refl
 
 -- the next page is one of the journal
 pub journal_next : (g : Geometry) (cells : List Cell) (x : Current) (i : ℕ) (cell : Cell) (bytes : List ℕ) → i ≤ length (journal_of g cells x)
-    → slice_get (area_of g x.area cells) (1 + x.seal.checkpoint + i) ≡ Some cell → page_bytes kinds.Journal i x.seal.stamp cell ≡ Some bytes
+    → slice_get (area_of g x.area cells) (place_of x i) ≡ Some cell → page_bytes kinds.Journal i x.seal.stamp cell ≡ Some bytes
     → (i + 1 ≤ length (journal_of g cells x)) × (slice_get (journal_of g cells x) i ≡ Some bytes)
 journal_next g cells x i cell bytes most at page =
     let here = ap (λ (n : ℕ). page_bytes kinds.Journal n x.seal.stamp cell) (zero-add i) ∙ page in
-    let there = behind_at g cells x i cell at in
-    (leading_next kinds.Journal 0 x.seal.stamp (behind_seal g cells x) i cell bytes most there here, leading_at kinds.Journal 0 x.seal.stamp (behind_seal g cells x) i cell bytes most there here)
+    let there = record_at g cells x i cell at in
+    (leading_next kinds.Journal 0 x.seal.stamp (record_cells g cells x) i cell bytes most there here, leading_at kinds.Journal 0 x.seal.stamp (record_cells g cells x) i cell bytes most there here)
 
 -- the next page is none of it
 pub journal_ends : (g : Geometry) (cells : List Cell) (x : Current) (i : ℕ) (cell : Cell) → i ≤ length (journal_of g cells x)
-    → slice_get (area_of g x.area cells) (1 + x.seal.checkpoint + i) ≡ Some cell → page_bytes kinds.Journal i x.seal.stamp cell ≡ None → i ≡ length (journal_of g cells x)
+    → slice_get (area_of g x.area cells) (place_of x i) ≡ Some cell → page_bytes kinds.Journal i x.seal.stamp cell ≡ None → i ≡ length (journal_of g cells x)
 journal_ends g cells x i cell most at page =
-    sym (leading_ends kinds.Journal 0 x.seal.stamp (behind_seal g cells x) i cell most (behind_at g cells x i cell at) (ap (λ (n : ℕ). page_bytes kinds.Journal n x.seal.stamp cell) (zero-add i) ∙ page))
+    sym (leading_ends kinds.Journal 0 x.seal.stamp (record_cells g cells x) i cell most (record_at g cells x i cell at) (ap (λ (n : ℕ). page_bytes kinds.Journal n x.seal.stamp cell) (zero-add i) ∙ page))
 
 pub journal_ends_blank : (g : Geometry) (cells : List Cell) (x : Current) (i : ℕ) → i ≤ length (journal_of g cells x)
-    → slice_get (area_of g x.area cells) (1 + x.seal.checkpoint + i) ≡ Some Blank → i ≡ length (journal_of g cells x)
+    → slice_get (area_of g x.area cells) (place_of x i) ≡ Some Blank → i ≡ length (journal_of g cells x)
 journal_ends_blank g cells x i most at = journal_ends g cells x i Blank most at (blank_page x.seal.stamp i)
 
 pub journal_ends_torn : (g : Geometry) (cells : List Cell) (x : Current) (i : ℕ) → i ≤ length (journal_of g cells x)
-    → slice_get (area_of g x.area cells) (1 + x.seal.checkpoint + i) ≡ Some Torn → i ≡ length (journal_of g cells x)
+    → slice_get (area_of g x.area cells) (place_of x i) ≡ Some Torn → i ≡ length (journal_of g cells x)
 journal_ends_torn g cells x i most at = journal_ends g cells x i Torn most at (torn_page x.seal.stamp i)
 
 -- the area ends
-pub journal_fills : (g : Geometry) (cells : List Cell) (x : Current) (i : ℕ) → length cells ≡ all_pages g → x.area ≤ 1 → i ≤ length (journal_of g cells x)
+pub journal_fills : (g : Geometry) (cells : List Cell) (x : Current) (i : ℕ) → length cells ≡ all_pages g → LiesIn g x → i ≤ length (journal_of g cells x)
     → area_pages g - (1 + x.seal.checkpoint) ≤ i → i ≡ length (journal_of g cells x)
-journal_fills g cells x i size two most end =
-    omega (arith, leading_most kinds.Journal 0 x.seal.stamp (behind_seal g cells x), length-drop (suc x.seal.checkpoint) (area_of g x.area cells), area_long g x.area cells two size)
+journal_fills g cells x i size lies most end =
+    let n = x.seal.checkpoint in
+    let b = x.seal.before in
+    let area = area_of g x.area cells in
+    let first : length (take b (drop n area)) ≤ b = length-take-most b (drop n area) in
+    let sum = length-append (take b (drop n area)) (drop (suc (n + b)) area) in
+    let within = lies.pages in
+    omega (arith, leading_most kinds.Journal 0 x.seal.stamp (record_cells g cells x), sum, first, within, length-drop (suc (n + b)) area, area_long g x.area cells lies.area size)
+  where
+    length-take-most : (n : ℕ) (xs : List Cell) → length (take n xs) ≤ n
+    length-take-most zero xs = omega arith
+    length-take-most (suc n) [] = omega arith
+    length-take-most (suc n) (x ∷ xs) = let most = length-take-most n xs in omega (arith, most)
 
 -- all pages of the journal were read
 pub replayed_whole : (fits : Fitting) (c : DriveConfig) (journal : List (List ℕ)) (area : Sealed) (i : ℕ) (old new : Reading) → area.journal ≡ journal → i ≡ length journal

@@ -12,7 +12,7 @@ use fdp_flash::{Flash, Seen};
 use fdp_records::SystemKind;
 use std::alloc::Global;
 
-/// Reads the journal behind a seal into a state: applies the change of each of its pages in order, up to the first page that is not
+/// Reads the journal of a sealed area into a state: applies the change of each of its pages in order, those before the seal first, up to the first page that is not
 /// whole with the next number and the version and epoch of the area. It looks at each page once. The answer is how many pages the
 /// journal has. `page` is room for the bytes of a page.
 pub fn replay<F: Flash, R: Replayed>(
@@ -32,16 +32,16 @@ pub fn replay<F: Flash, R: Replayed>(
     ensures within { NamesWithin (F.state flash.old).geometry current.now result }
 {
     let geometry = flash.geometry();
-    let first = 1 + current.seal.checkpoint;
     let stamp = current.seal.stamp;
-    let left = geometry.area_pages() - first;
+    // All pages of the area but its checkpoint pages and the seal.
+    let left = geometry.area_pages() - (1 + current.seal.checkpoint);
     let mut spare = [0; 32];
     for number in 0..left {
         match look_at(
             flash,
             &geometry,
             current.area,
-            first + number,
+            current.seal.record_page(number),
             &mut spare,
             page,
         ) {

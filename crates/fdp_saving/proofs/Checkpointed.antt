@@ -158,7 +158,7 @@ done_stands s given area epoch old new h done told =
     let z = w.sealed.area in
     let is : z.stamp.epoch ≡ s.stamp.epoch + 1 = ap (λ (t : Stamp). t.epoch) w.sealed.stamp in
     let none : length z.journal ≡ 0 = ap length w.sealed.journal in
-    let pages = w.sealed.pages in
+    let pages = w.sealed.filled in
     record {
       sealed = λ some. (z, w.sealed.sealed);
       epoch = λ x e.

@@ -84,7 +84,7 @@ says_at c s old new own tried same sealed says =
       own_says = sealed_says c s.area new sealed.0 (kept ∙ sealed.1) ∙ sym (sealed_says c s.area old sealed.0 sealed.1) ∙ says.own_says;
       current = elim says.current [
         | inl is ↦ inl (current ∙ is ∙ sym (ap (option_map (λ (x : Sealed). (s.area, x))) kept))
-        | inr was ↦ inr (record { sealed = was.sealed; current = current ∙ was.current; empty = was.empty; says = was.says })
+        | inr was ↦ inr (record { sealed = was.sealed; current = current ∙ was.current; ended = was.ended; says = was.says })
       ];
     }
 

@@ -1,6 +1,7 @@
 -- What a checkpoint in the other area leaves the areas to say.
-use Rattle.std.proofs.Common.{◌≡◌, ℕ, zero, suc, ◌≤◌, ◌<◌, ◌⊎◌, List, [], ◌∷◌, Some, refl, sym, ap, ◌∙◌, subst, arith, inl, inr, take}
+use Rattle.std.proofs.Common.{◌≡◌, ℕ, ◌≤◌, ◌<◌, ◌⊎◌, List, [], length, Some, refl, sym, ap, ◌∙◌, subst, arith, inl, inr}
 use Rattle.std.specs.List.{concat}
+use Rattle.std.proofs.lemmas.List.{take_all}
 use Rattle.fdp_base.specs.declared.config.DriveConfig.{DriveConfig}
 use Rattle.fdp_base.specs.declared.config.Geometry.{Geometry}
 use Rattle.fdp_base.specs.Placement.{geometry_of}
@@ -40,27 +41,24 @@ beside_data c area old new beside page lt = beside.below page (below (geometry_o
 -- ---- what the areas say
 
 -- an area that is sealed anew says its state
-pub anew_says : (c : DriveConfig) (block epoch : ℕ) (given : State) (cells : List Cell) → block ≡ c.block → (anew : IsNewlySealed block epoch given cells) → IsSavedBy c given → said_by_area c anew.area ≡ Some (reading_of_state given)
+pub anew_says : (c : DriveConfig) (block epoch : ℕ) (given : State) (cells : List Cell) → block ≡ c.block → (anew : IsNewlySealed block epoch given [] cells) → IsSavedBy c given → said_by_area c anew.area ≡ Some (reading_of_state given)
 anew_says c block epoch given cells same anew saved =
     let version : 1 ≡ anew.area.stamp.version = sym (ap (λ (t : Stamp). t.version) anew.stamp) in
     let content = subst (λ (v : ℕ). IsCheckpointOf v c.block (concat anew.area.checkpoint) given) version (subst (λ (n : ℕ). IsCheckpointOf 1 n (concat anew.area.checkpoint) given) same anew.content) in
     says_state c anew.area given content anew.journal saved
 
-none_kept : (n : ℕ) (xs : List (List ℕ)) → xs ≡ [] → take n xs ≡ []
-none_kept zero xs none = refl
-none_kept (suc n) [] none = refl
-none_kept (suc n) (x ∷ xs) none = absurd cc
-
--- an area without a journal that lost none of its checkpoint is as it was
-unshortened : (old new : List Cell) (z : Sealed) → sealed_in old ≡ Some z → z.journal ≡ [] → (short : IsShortened old new) → sealed_in new ≡ Some z
-unshortened old new z sealed empty short =
+-- an area all of whose journal pages stand before its seal, and that lost none of these, is as it was
+unshortened : (old new : List Cell) (z : Sealed) → sealed_in old ≡ Some z → z.before ≡ length z.journal → (short : IsShortened old new) → sealed_in new ≡ Some z
+unshortened old new z sealed ended short =
     let both : Some short.before ≡ Some z = sym short.sealed_before ∙ sealed in
     let before : short.before ≡ z = cc in
-    let none : short.before.journal ≡ [] = ap (λ (x : Sealed). x.journal) before ∙ empty in
-    let journal : short.after.journal ≡ z.journal = short.journal ∙ none_kept short.kept short.before.journal none ∙ sym empty in
+    let whole : short.before.before ≡ length short.before.journal = subst (λ (x : Sealed). x.before ≡ length x.journal) (sym before) ended in
+    let enough = short.enough in
+    let journal : short.after.journal ≡ z.journal = short.journal ∙ take_all short.kept short.before.journal (omega (arith, whole, enough)) ∙ ap (λ (x : Sealed). x.journal) before in
     let stamp : short.after.stamp ≡ z.stamp = short.stamp ∙ ap (λ (x : Sealed). x.stamp) before in
     let checkpoint : short.after.checkpoint ≡ z.checkpoint = short.checkpoint ∙ ap (λ (x : Sealed). x.checkpoint) before in
-    let same : short.after ≡ z = λ i. record { stamp = stamp i; checkpoint = checkpoint i; journal = journal i } in
+    let count : short.after.before ≡ z.before = short.before_is ∙ ap (λ (x : Sealed). x.before) before in
+    let same : short.after ≡ z = λ i. record { stamp = stamp i; checkpoint = checkpoint i; before = count i; journal = journal i } in
     short.sealed_after ∙ ap Some same
 
 -- the saver's area has a lower epoch
@@ -102,12 +100,12 @@ replaced_says c s own tried epoch given old new two says below beside replaced s
           (record { before = short.before; after = short.after; sealed_before = short.sealed_before; sealed_after = short.sealed_after; stamp = short.stamp }) kept is)
       | inr was ↦ (
           let sealed = current_sealed g old other was.sealed was.current in
-          let same = unshortened (area_of g other old) (area_of g other new) was.sealed sealed was.empty short in
-          inr (record { sealed = was.sealed; current = same_choice g old new area two kept (same ∙ sym sealed) ∙ was.current; empty = was.empty; says = was.says })
+          let same = unshortened (area_of g other old) (area_of g other new) was.sealed sealed was.ended short in
+          inr (record { sealed = was.sealed; current = same_choice g old new area two kept (same ∙ sym sealed) ∙ was.current; ended = was.ended; says = was.says })
           )
     ]
 
-    of_anew : IsNewlySealed g.block epoch given (area_of g other new) → IsTried c other new (reading_of_state given)
+    of_anew : IsNewlySealed g.block epoch given [] (area_of g other new) → IsTried c other new (reading_of_state given)
     of_anew anew =
         let is : anew.area.stamp.epoch ≡ epoch = ap (λ (t : Stamp). t.epoch) anew.stamp in
         record {
@@ -115,6 +113,6 @@ replaced_says c s own tried epoch given old new two says below beside replaced s
           current =
               other_later g new anew.area area two anew.sealed
               (λ x e. let lt : x.stamp.epoch < epoch = below x (sym kept ∙ e) in omega (arith, lt, is));
-          empty = anew.journal;
+          ended = anew.before ∙ ap length (sym anew.journal);
           says = anew_says c g.block epoch given (area_of g other new) refl anew saved;
         }

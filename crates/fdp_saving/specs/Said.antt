@@ -1,5 +1,5 @@
 -- What the two system areas of a drive say.
-use Rattle.std.specs.Prelude.{◌≡◌, ◌⊎◌, ℕ, List, [], Contains, Option, Some}
+use Rattle.std.specs.Prelude.{◌≡◌, ◌⊎◌, ℕ, List, length, Contains, Option, Some}
 use Rattle.fdp_base.specs.declared.config.DriveConfig.{DriveConfig}
 use Rattle.fdp_base.specs.Placement.{geometry_of}
 use Rattle.fdp_flash.specs.declared.cell.Cell.{Cell}
@@ -14,11 +14,11 @@ use Rattle.fdp_saving.specs.Saver.{other_area}
 abbrev pub said_alone : DriveConfig → ℕ → List Cell → Option Reading
 said_alone c area cells = said_by_current c cells (sealed_at (geometry_of c) cells area)
 
--- an area is current, has no journal, and says this
+-- an area is current, has no journal page behind its seal, and says this
 pub record IsTried (c : DriveConfig) (area : ℕ) (cells : List Cell) (tried : Reading) : Type 0 where
   pub sealed : Sealed
   pub current : current_area (geometry_of c) cells ≡ Some (area, sealed)
-  pub empty : sealed.journal ≡ []
+  pub ended : sealed.before ≡ length sealed.journal
   pub says : said_by_area c sealed ≡ Some tried
 
 -- What the areas say: that of the saver says `own`; and that is current, if one is, or the other one is, which says `tried`.

@@ -1,4 +1,4 @@
-use Rattle.std.proofs.Common.{◌<◌, List, subst}
+use Rattle.std.proofs.Common.{◌+◌, ◌<◌, List, subst}
 use Rattle.std.specs.Prelude.{IfSome}
 use Rattle.fdp_base.specs.declared.config.Geometry.{Geometry}
 use Rattle.fdp_base.specs.Geometry.{area_pages}
@@ -23,4 +23,4 @@ returns-in-Ok-find_seal-clause-inside g c =
     let a = g.F.Flash.state c.args.flash.now in
     rw c.later_of.ensures
     (later_lies a.geometry _ _ c.in-Ok.ensures.inside
-    (subst (λ (x : Geometry). IfSome c.in-Ok-find_seal.second (λ s. s.checkpoint < area_pages x)) c.in-Ok.ensures.looks.held.run.geometry c.in-Ok-find_seal.ensures.inside))
+    (subst (λ (x : Geometry). IfSome c.in-Ok-find_seal.second (λ s. s.checkpoint + s.before < area_pages x)) c.in-Ok.ensures.looks.held.run.geometry c.in-Ok-find_seal.ensures.inside))
