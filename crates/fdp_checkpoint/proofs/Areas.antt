@@ -38,7 +38,7 @@ end_of_area g area = omega arith
 pub erased_beside : (g : Geometry) (area : ℕ) (old new : List Cell) → AreaMayLeave g (area_unit g area) g.area_units old new → IsSameBeside g area old new
 erased_beside g area old new p = record { size = p.size; below = p.below; above = λ page le. p.above page (omega (arith, end_of_area g area, le)) }
 
-erased_wiped : (g : Geometry) (area : ℕ) (old new : List Cell) → area ≤ 1 → length old ≡ all_pages g → AreaMayLeave g (area_unit g area) g.area_units old new → IsWiped (area_of g area old) (area_of g area new)
+pub erased_wiped : (g : Geometry) (area : ℕ) (old new : List Cell) → area ≤ 1 → length old ≡ all_pages g → AreaMayLeave g (area_unit g area) g.area_units old new → IsWiped (area_of g area old) (area_of g area new)
 erased_wiped g area old new two size p = record {
   size = area_long g area new two (p.size ∙ size) ∙ sym (area_long g area old two size);
   pages = λ k lt.

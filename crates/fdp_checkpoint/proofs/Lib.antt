@@ -6,4 +6,6 @@ pub mod OfImage
 pub mod Areas
 pub mod SealedAnew
 pub mod Steps
+pub mod Sliced
+pub mod Frozen
 pub mod Counted

@@ -10,8 +10,8 @@ use Rattle.fdp_records.specs.declared.spare.SystemKind.{SystemKind}
 use Rattle.fdp_records.specs.Spares.{system_spare}
 use Rattle.fdp_checkpoint.specs.declared.target.Target.{Target}
 
--- one call was made: the program of this page of the area, with its spare and these bytes
-pub record ProgramsIn (x : Target) (kind : SystemKind) (number : ℕ) (bytes : List ℕ) (old new : FlashState) (result : Wrote) : Type 0 where
+-- one call was made: the program of this page of the area, with the spare of this kind and number and these bytes
+pub record ProgramsIn (x : Target) (kind : SystemKind) (number page : ℕ) (bytes : List ℕ) (old new : FlashState) (result : Wrote) : Type 0 where
   pub call : Begins old new
-  pub answer : Programs old new (spot_in x.geometry x.area number) (system_spare (record { kind = kind; number = number; stamp = x.stamp })) bytes result
-  pub place : page_number x.geometry (spot_in x.geometry x.area number) ≡ first_page x.geometry (area_unit x.geometry x.area) + number
+  pub answer : Programs old new (spot_in x.geometry x.area page) (system_spare (record { kind = kind; number = number; stamp = x.stamp })) bytes result
+  pub place : page_number x.geometry (spot_in x.geometry x.area page) ≡ first_page x.geometry (area_unit x.geometry x.area) + page

@@ -5,9 +5,8 @@ ghost use Rattle.fdp_flash.specs.Failing.{FailsLast};
 ghost use Rattle.fdp_flash.specs.Planned.{MakesPlanned, calls_from};
 ghost use Rattle.fdp_flash.specs.Runs.{Holds};
 ghost use Rattle.fdp_image.specs.Areas.{area_of};
-ghost use Rattle.fdp_image.specs.Replacing.{new_stamp};
 ghost use Rattle.fdp_image.specs.Saving.{AreBlankFrom};
-ghost use Rattle.fdp_snapshot.specs.Checkpoint.{IsState, checkpoint_size};
+ghost use Rattle.fdp_snapshot.specs.Checkpoint.{IsState, checkpoint_of, checkpoint_size};
 ghost use Rattle.fdp_snapshot.specs.Fixed.{fixed_of, fixed_size};
 
 use crate::target::{Target, program_page};
@@ -28,7 +27,6 @@ pub fn fill<F: Flash>(
     requires geometry { target.now.geometry ≡ (F.state flash.old).geometry }
     requires valid { IsValidGeometry target.now.geometry }
     requires area { target.now.area ≤ 1 }
-    requires stamp { target.now.stamp ≡ new_stamp target.now.stamp.epoch }
     requires count { count < area_pages target.now.geometry }
     requires state { IsState (with_pages summary.now pages.now) }
     requires fits { checkpoint_size summary.now ≤ count * target.now.geometry.block }
@@ -38,7 +36,7 @@ pub fn fill<F: Flash>(
     requires blank { IsTrue (F.state flash.old).told → AreBlankFrom 0 (area_of target.now.geometry target.now.area (F.state flash.old).cells) }
     ensures size { length page.new ≡ length page.old }
     ensures held { Holds (IsUnsealed target.now.geometry target.now.area (F.state flash.old).cells) (F.state flash.old) (F.state flash.new) }
-    ensures done { IsTrue (F.state flash.old).told → result ≡ Wrote.Done → HasPages target.now.geometry.block count target.now.stamp.epoch (with_pages summary.now pages.now) (area_of target.now.geometry target.now.area (F.state flash.new).cells) count }
+    ensures done { IsTrue (F.state flash.old).told → result ≡ Wrote.Done → HasPages target.now.geometry.block target.now.stamp (checkpoint_of 1 (count * target.now.geometry.block) (with_pages summary.now pages.now)) (area_of target.now.geometry target.now.area (F.state flash.new).cells) count }
     ensures faultless { result ≡ Wrote.Done → (F.state flash.new).faults ≡ (F.state flash.old).faults }
     ensures programs { (F.state flash.new).programs ≡ (F.state flash.old).programs }
     ensures calls { MakesPlanned (F.state flash.old) (F.state flash.new) (calls_from (page_call target.now.geometry target.now.area) 0 count) result }
@@ -46,7 +44,7 @@ pub fn fill<F: Flash>(
 {
     for number in 0..count {
         put_page(fixed, pages, number as usize, page);
-        match program_page(flash, target, SystemKind::Checkpoint, number, page) {
+        match program_page(flash, target, SystemKind::Checkpoint, number, number, page) {
             Wrote::Done => {}
             Wrote::Failed => return Wrote::Failed,
         }

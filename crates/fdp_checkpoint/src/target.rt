@@ -9,6 +9,9 @@ use fdp_flash::{Flash, Wrote};
 use fdp_image::page_of_area;
 use fdp_records::{Stamp, SystemKind, SystemSpare};
 
+/// The version of the images that are written.
+pub const VERSION: u8 = 1;
+
 /// Where a checkpoint goes: a flash of this geometry, one of its system areas, and the version and epoch of the pages.
 #[derive(Debug, Drop)]
 pub struct Target {
@@ -17,23 +20,24 @@ pub struct Target {
     pub stamp: Stamp,
 }
 
-/// Programs a page of the area with its kind and number.
+/// Programs this page of the area with its kind and number.
 pub fn program_page<F: Flash>(
     flash: &mut F,
     target: &Target,
     kind: SystemKind,
     number: u32,
+    place: u32,
     page: &[u8],
 ) -> Wrote
     requires geometry { target.now.geometry ≡ (F.state flash.old).geometry }
     requires valid { IsValidGeometry target.now.geometry }
     requires area { target.now.area ≤ 1 }
-    requires number { number < area_pages target.now.geometry }
+    requires place { place < area_pages target.now.geometry }
     requires size { length page.now ≡ target.now.geometry.block }
-    requires order { IsTrue (F.state flash.old).told → AreBlankFrom number (area_of target.now.geometry target.now.area (F.state flash.old).cells) }
-    ensures { ProgramsIn target.now kind number page.now (F.state flash.old) (F.state flash.new) result }
+    requires order { IsTrue (F.state flash.old).told → AreBlankFrom place (area_of target.now.geometry target.now.area (F.state flash.old).cells) }
+    ensures { ProgramsIn target.now kind number place page.now (F.state flash.old) (F.state flash.new) result }
 {
-    let at = page_of_area(&target.geometry, target.area, number);
+    let at = page_of_area(&target.geometry, target.area, place);
     let spare = SystemSpare {
         kind,
         number,

@@ -1,4 +1,4 @@
-ghost use Rattle.std.specs.Prelude.{◌≡◌, ◌≤◌, ◌<◌, ◌+◌, ◌^◌, IsTrue, length};
+ghost use Rattle.std.specs.Prelude.{◌≡◌, ◌≤◌, ◌<◌, ◌+◌, ◌^◌, [], IsTrue, length};
 ghost use Rattle.fdp_base.specs.Geometry.{IsValidGeometry, area_pages};
 ghost use Rattle.fdp_checkpoint.specs.Writing.{IsSealing, IsWritten, checkpoint_calls, page_call, with_pages};
 ghost use Rattle.fdp_flash.specs.Failing.{FailsLast};
@@ -15,13 +15,10 @@ use crate::count::page_count;
 use crate::erasing::erase;
 use crate::filling::fill;
 use crate::sealing::seal;
-use crate::target::Target;
+use crate::target::{Target, VERSION};
 use fdp_flash::{Flash, Wrote};
 use fdp_records::Stamp;
 use fdp_snapshot::{FIXED_SIZE, PageList, Summary, put_fixed};
-
-/// The version of the images that are written.
-pub const VERSION: u8 = 1;
 
 /// Writes the checkpoint of a state, its summary and the pages of its blocks, into a system area: erases the area unit by unit, programs the pages of the checkpoint in order, and
 /// then the seal, which alone makes the area a sealed one. It stops at the first call that fails. `page` is room for the bytes of a page;
@@ -100,7 +97,7 @@ fn put_content<F: Flash>(
     requires fixed { fixed.now ≡ fixed_of 1 summary.now }
     requires room { length page.old ≡ target.now.geometry.block }
     requires blank { IsTrue (F.state flash.old).told → AreBlankFrom 0 (area_of target.now.geometry target.now.area (F.state flash.old).cells) }
-    ensures held { Holds (IsSealing target.now.geometry target.now.area target.now.stamp.epoch (with_pages summary.now pages.now) (F.state flash.old).cells) (F.state flash.old) (F.state flash.new) }
+    ensures held { Holds (IsSealing target.now.geometry target.now.area target.now.stamp.epoch (with_pages summary.now pages.now) [] (F.state flash.old).cells) (F.state flash.old) (F.state flash.new) }
     ensures done { IsTrue (F.state flash.old).told → result ≡ Wrote.Done → IsWritten target.now.geometry target.now.area target.now.stamp.epoch (with_pages summary.now pages.now) (F.state flash.new).cells }
     ensures faultless { result ≡ Wrote.Done → (F.state flash.new).faults ≡ (F.state flash.old).faults }
     ensures programs { (F.state flash.new).programs ≡ (F.state flash.old).programs }
@@ -108,7 +105,7 @@ fn put_content<F: Flash>(
     ensures failed { result ≡ Wrote.Failed → FailsLast (F.state flash.old) (F.state flash.new) (F.state flash.new).moment }
 {
     match fill(flash, target, summary, pages, fixed, count, page) {
-        Wrote::Done => seal(flash, target, summary, pages, count, page),
+        Wrote::Done => seal(flash, target, count, &[]),
         Wrote::Failed => Wrote::Failed,
     }
 }
