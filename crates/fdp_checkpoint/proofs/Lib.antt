@@ -8,4 +8,5 @@ pub mod SealedAnew
 pub mod Steps
 pub mod Sliced
 pub mod Frozen
+pub mod Staying
 pub mod Counted
