@@ -1,5 +1,5 @@
 -- What a slice leaves of an area, and what its calls have done.
-use Rattle.std.proofs.Common.{◌≡◌, ℕ, ◌+◌, ◌-◌, ◌<◌, ◌≤◌, ◌⊎◌, Bool, true, false, IsTrue, List, [], ◌∷◌, Some, refl, sym, ap, ◌∙◌, subst, arith, inl, inr}
+use Rattle.std.proofs.Common.{◌≡◌, ℕ, ◌+◌, ◌-◌, ◌<◌, ◌≤◌, ◌⊎◌, Bool, true, false, IsTrue, List, [], ◌∷◌, Some, refl, sym, ap, ◌∙◌, subst, arith, inl, inr, zero, suc, ◌++◌}
 use Rattle.std.specs.Prelude.{if◌then◌else◌, nat_lt}
 use Rattle.std.proofs.lemmas.Bool.Decides.{nat_tests}
 use Rattle.fdp_base.specs.declared.config.Geometry.{Geometry}
@@ -254,3 +254,28 @@ call_stops call first number count start now new least most before p q =
     let all : n + 1 + (count - (n + 1)) ≡ count = omega (arith, least, most) in
     subst (λ (m : ℕ). StopsAt start new (calls_from call first m)) all
     (rw (calls_split call first (n + 1) (count - (n + 1))) (stops_before start new (calls_from call first (n + 1)) (calls_from call (first + (n + 1)) (count - (n + 1))) here))
+
+same_calls : (f h : ℕ → Call) (a b n : ℕ) → ((k : ℕ) → k < n → f (a + k) ≡ h (b + k)) → calls_from f a n ≡ calls_from h b n
+unfolding calls_from
+same_calls f h a b zero each = refl
+same_calls f h a b (suc n) each =
+    let from : a + 0 ≡ a = omega arith in
+    let to : b + 0 ≡ b = omega arith in
+    let first : f a ≡ h b = ap f (sym from) ∙ each 0 (omega arith) ∙ ap h to in
+    let rest =
+    same_calls f h (suc a) (suc b) n
+    (λ k lt.
+    let x : suc a + k ≡ a + suc k = omega arith in
+    let y : b + suc k ≡ suc b + k = omega arith in
+    ap f x ∙ each (suc k) (omega (arith, lt)) ∙ ap h y) in
+    λ i. first i ∷ rest i
+
+-- all calls of the slices are the erases of the units and then the programs of the pages
+pub all_calls : (g : Geometry) (area count : ℕ) → calls_from (slice_call g area) 0 (g.area_units + count) ≡ calls_from erase_of (area_unit g area) g.area_units ++ calls_from (page_call g area) 0 count
+all_calls g area count =
+    let erases : calls_from (slice_call g area) 0 g.area_units ≡ calls_from erase_of (area_unit g area) g.area_units =
+    same_calls (slice_call g area) erase_of 0 (area_unit g area) g.area_units (λ k lt. let on : 0 + k ≡ k = omega arith in ap (slice_call g area) on ∙ erase_is g area k lt) in
+    let pages : calls_from (slice_call g area) (0 + g.area_units) count ≡ calls_from (page_call g area) 0 count =
+    same_calls (slice_call g area) (page_call g area) (0 + g.area_units) 0 count
+    (λ k lt. let on : 0 + g.area_units + k - g.area_units ≡ 0 + k = omega arith in page_is g area (0 + g.area_units + k) (omega arith) ∙ ap (page_call g area) on) in
+    calls_split (slice_call g area) 0 g.area_units count ∙ (λ i. erases i ++ pages i)

@@ -1,16 +1,17 @@
-ghost use Rattle.std.specs.Prelude.{◌≡◌, ◌≢◌, ◌⊎◌, ◌<◌, ◌≤◌, ◌+◌, ℕ, false, IsTrue, List, Some};
+ghost use Rattle.std.specs.Prelude.{◌≡◌, ◌≢◌, ◌⊎◌, ◌<◌, ◌≤◌, ◌+◌, ◌++◌, ℕ, false, IsTrue, List, Some};
 ghost use Rattle.std.specs.List.{concat, list_all};
 ghost use Rattle.fdp_base.specs.declared.config.DriveConfig.{DriveConfig};
 ghost use Rattle.fdp_base.specs.Placement.{geometry_of};
 ghost use Rattle.fdp_base.specs.declared.config.Geometry.{Geometry};
 ghost use Rattle.fdp_base.specs.declared.entry.Totals.{Totals};
 ghost use Rattle.fdp_checkpoint.specs.Pages.{IsBadIn};
-ghost use Rattle.fdp_checkpoint.specs.Slices.{IsPartDone, IsSliced};
-ghost use Rattle.fdp_checkpoint.specs.Writing.{HasCheckpoint, IsErasing, IsFrozen, IsSealing};
+ghost use Rattle.fdp_checkpoint.specs.Slices.{IsPartDone, IsSliced, slice_call};
+ghost use Rattle.fdp_checkpoint.specs.Writing.{HasCheckpoint, IsErasing, IsFrozen, IsSealing, page_call};
 ghost use Rattle.fdp_checkpoint.specs.declared.target.Target.{Target};
 ghost use Rattle.fdp_flash.specs.declared.cell.Cell.{Cell};
+ghost use Rattle.fdp_flash.specs.Planned.{calls_from, erase_of};
 ghost use Rattle.fdp_image.specs.Applied.{with_changes};
-ghost use Rattle.fdp_image.specs.Areas.{Sealed, area_of, current_area};
+ghost use Rattle.fdp_image.specs.Areas.{Sealed, area_of, area_unit, current_area};
 ghost use Rattle.fdp_image.specs.Checkpoint.{reading_of_state, said_by_checkpoint};
 ghost use Rattle.fdp_image.specs.CheckpointFields.{same_keys};
 ghost use Rattle.fdp_image.specs.Fits.{all_fit, fits};
@@ -41,9 +42,10 @@ pub fn a_slice_leaves_the_current_area()
     ensures reads { (c : DriveConfig) (area : ℕ) (old new : List Cell) (number : ℕ) (s : Sealed) → area ≤ 1 → current_area (geometry_of c) old ≡ Some (number, s) → number ≢ area → IsSliced (geometry_of c) area old new → reads_as c new ≡ reads_as c old }
 {}
 
-/// Before the first call of a checkpoint in slices nothing has to stand in its area. Once all are done no page of the area is a seal, and
+/// The calls of a checkpoint in slices are the erases of the units of its area and then the programs of its pages. Before the first of them nothing has to stand in its area. Once all are done no page of the area is a seal, and
 /// the frozen pages stand there as the checkpoint of their state.
 pub fn slices_make_a_checkpoint()
+    ensures calls { (g : Geometry) (area count : ℕ) → calls_from (slice_call g area) 0 (g.area_units + count) ≡ calls_from erase_of (area_unit g area) g.area_units ++ calls_from (page_call g area) 0 count }
     ensures begun { (x : Target) (frozen : List ℕ) (cells : List Cell) → 0 < x.geometry.area_units → IsPartDone x frozen 0 cells }
     ensures unsealed { (x : Target) (frozen : List ℕ) (done : ℕ) (cells : List Cell) → x.geometry.area_units ≤ done → IsPartDone x frozen done cells → HasNoSeal (area_of x.geometry x.area cells) }
     ensures done { (x : Target) (frozen : List ℕ) (count : ℕ) (s : State) (cells : List Cell) → IsFrozen x.geometry.block s frozen → count ≡ pages_for x.geometry.block s.summary → IsPartDone x frozen (x.geometry.area_units + count) cells → HasCheckpoint x count s cells }

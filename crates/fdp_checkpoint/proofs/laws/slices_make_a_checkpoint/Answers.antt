@@ -1,5 +1,8 @@
-use Rattle.fdp_checkpoint.proofs.Sliced.{all_done, none_done, part_no_seal}
+use Rattle.fdp_checkpoint.proofs.Sliced.{all_calls, all_done, none_done, part_no_seal}
 use Rattle.fdp_checkpoint.proofs.laws.slices_make_a_checkpoint.Goals as goal
+
+pub returns-clause-calls : goal.returns-clause-calls
+returns-clause-calls c = all_calls
 
 pub returns-clause-begun : goal.returns-clause-begun
 returns-clause-begun c = none_done
