@@ -1,12 +1,11 @@
 -- A command other than a write: what stands behind the step that saved its change and made it, could not save it, or answered it.
-use Rattle.std.proofs.Common.{◌≡◌, ℕ, ◌+◌, ◌<◌, ◌≤◌, Bool, true, false, List, [], ◌∷◌, Option, refl, sym, subst, arith}
+use Rattle.std.proofs.Common.{◌≡◌, ℕ, ◌+◌, ◌<◌, ◌≤◌, Bool, true, false, List, [], ◌∷◌, Option, refl, sym, ap, subst, arith, inr}
 use Rattle.std.specs.Prelude.{IsTrue}
 use Rattle.std.specs.List.{count_by}
 use Rattle.std.proofs.lemmas.Bool.{false≢true}
 use Rattle.fdp_base.specs.declared.command.Command.{Command}
 use Rattle.fdp_base.specs.declared.config.DriveConfig.{DriveConfig}
 use Rattle.fdp_base.specs.declared.config.Geometry.{Geometry}
-use Rattle.fdp_base.specs.declared.entry.Entry.{Entry}
 use Rattle.fdp_base.specs.declared.entry.Reply.{Reply}
 use Rattle.fdp_base.specs.declared.entry.Spot.{Spot}
 use Rattle.fdp_base.specs.declared.status.TheConstants.Status as statuses
@@ -19,7 +18,8 @@ use Rattle.fdp_relocation.specs.fdp_book.Steps as book
 use Rattle.fdp_relocation.proofs.fdp_book.Histories.Commanded.{effect-follows, unmade-follows, unsure-follows}
 use Rattle.fdp_relocation.proofs.fdp_book.Longer.{written-one}
 use Rattle.fdp_calls.specs.Calls.{counted_more}
-use Rattle.fdp_core.specs.Seen.{HasMoments, HoldsHistory}
+use Rattle.fdp_core.specs.Answers.{EndsAtOnce, reply_to_change}
+use Rattle.fdp_core.specs.Seen.{HasMoments, HoldsHistory, Seen}
 use Rattle.fdp_core.specs.Sound.{IsSound, IsWhole}
 use Rattle.fdp_core.specs.Steps as steps
 use Rattle.fdp_core.specs.Stops.{OutlastsStops}
@@ -27,10 +27,11 @@ use Rattle.fdp_core.proofs.Apart.{apart-answered, apart-commanded, apart-set, kn
 use Rattle.fdp_core.proofs.Called.{last-failed}
 use Rattle.fdp_core.proofs.Ends.{no-fetches}
 use Rattle.fdp_core.proofs.Grown.{host}
-use Rattle.fdp_core.proofs.Made.{MayFault, made-completes, made-whole, may-fault, saving-failed, sound-behind, unmade-whole}
+use Rattle.fdp_core.proofs.Made.{MayFault, made-completes, made-whole, may-fault, saving-failed, sound-behind, unmade-completes, unmade-whole}
 use Rattle.fdp_core.proofs.Refusals.{uncompleted}
 use Rattle.fdp_core.proofs.Sound.{begun, same-flash, sound-entry, sound-told}
 use Rattle.fdp_flash.specs.declared.cell.Cell.{Cell}
+use Rattle.fdp_flash.specs.Failing.{FailsLast}
 use Rattle.fdp_flash.specs.FlashState.{FlashState}
 use Rattle.fdp_loading.specs.fdp_isolation.Laned.{IsKnown}
 use Rattle.fdp_loading.proofs.fdp_isolation.Keeping.{FillsNoMore, FillsNone, left-fill, owners-fill, set-none}
@@ -48,6 +49,7 @@ use Rattle.fdp_relocation.proofs.Moving.{blank-recounted}
 use Rattle.fdp_rules.specs.Answer.{bare}
 use Rattle.fdp_rules.specs.Change.{is_media_error}
 use Rattle.fdp_rules.specs.Step.{Follows}
+use Rattle.fdp_relocation.specs.fdp_saving.declared.saved.Saved.{Saved}
 use Rattle.fdp_relocation.specs.fdp_saving.declared.saved.Saved.TheVariants as savings
 use Rattle.fdp_relocation.proofs.fdp_saving.Failing.{doubtful_failed, saved_well}
 use Rattle.fdp_loading.proofs.fdp_isolation.LeftAlone.{KeepsShut, left-shut, owners-shut}
@@ -143,74 +145,126 @@ sound-applied handed n b d block queue number command reply done so known led ot
     (keeps-well handed.faults n.faults n.faults n.told n.told b d (host queue number command reply n.moment ∷ []) ends.step refl (omega arith) so.room refl (room-applied b.config command b.pages d.pages known.joined other applies))
     refl
 
--- ---- it was saved
+-- ---- its change was saved in a step, made or not
 
-module _ {F : Type 0} (state : F → FlashState) (x y : F) (handed : Counts) (b d : BookSeen) (k l : KeeperSeen) (block : List ℕ) (queue number : ℕ) (command : Command) (done : Done) (order : IsInOrder b) (then_order : IsInOrder d) (whole : IsWhole handed (state x) b k block)
-    (may : MayTakeEffect b queue command) (keeps : KeepsEntry b (host queue number command (applied_reply (state_in b) command statuses.SUCCESS) (state y).moment) k l (state x) (state y) savings.Done)
-    (ends : book.Completes (begun b) d [] queue number command (applied_reply (state_in b) command statuses.SUCCESS) (state y).moment done) (applies : AppliesTo b.config command b.pages d.pages) where
-  abbrev success : Reply
-  success = applied_reply (state_in b) command statuses.SUCCESS
+-- what the step does to the pages, by the answer of the saving
+abbrev ChangesPages : Saved → BookSeen → Command → PageTables → Type 0
+ChangesPages savings.Done b command now = AppliesTo b.config command b.pages now
+ChangesPages (savings.Doubtful moment) b command now = AppliesTo b.config command b.pages now
+ChangesPages (savings.Unsaved moment) b command now = ChangesOwners b.pages now
 
-  effect-sound : IsSound handed (state y) d block
-  effect-sound =
-      sound-applied handed (state y) (begun b) d block queue number command success done
-      (sound-behind state x y handed b (host queue number command success (state y).moment) k l block savings.Done order whole keeps)
-      (known-begun b order.known) then_order.known.led may.other refl applies (λ _. effect-follows (state y).told b queue number command (state y).moment may) (λ wrong. absurd (false≢true wrong)) ends
+-- a step of a group that is seen so saved the change of a command with this answer, and completed the command
+pub record SavesCommand {F : Type 0} (state : F → FlashState) (x y : F) (handed : Counts) (b d : BookSeen) (k l : KeeperSeen) (block : List ℕ) (seen : Seen F) (queue number : ℕ) (command : Command) (answer : Saved) (done : Done) : Type 0 where
+  pub view_is : ◌≡◌ {A = Seen F} (record { book = b; keeper = k; handed = handed; flash = x }) seen
+  pub order : IsInOrder seen.book
+  pub then_order : IsInOrder d
+  pub whole : IsWhole handed (state x) b k block
+  pub may : MayTakeEffect seen.book queue command
+  pub keeps : (reply : Reply) (moment : ℕ) → IsTrue reply.applied → KeepsEntry b (host queue number command reply moment) k l (state x) (state y) answer
+  pub now : BookSeen
+  pub now_is : now ≡ begun b
+  pub moment : ℕ
+  pub moment_is : moment ≡ (state y).moment
+  pub ends : book.Completes now d [] queue number command (reply_to_change (state_in now) command answer) moment done
+  pub pages : ChangesPages answer now command d.pages
 
-  pub effect-whole : IsWhole handed (state y) d l block × OutlastsStops state (record { book = b; keeper = k; handed = handed; flash = x }) (record { book = d; keeper = l; handed = handed; flash = y })
-  effect-whole =
-      made-whole state x y handed b d k l block queue number command success done savings.Done order then_order whole keeps ends
-      (pages-left b.config command b.pages d.pages applies).go effect-sound refl (λ other. absurd (other refl))
+module _ {F : Type 0} {state : F → FlashState} {x y : F} {handed : Counts} {b d : BookSeen} {k l : KeeperSeen} {block : List ℕ} {seen : Seen F} {queue number : ℕ} {command : Command} {done : Done} where
+  module _ (answer : Saved) (h : SavesCommand state x y handed b d k l block seen queue number command answer done) where
+    abbrev new : Seen F
+    new = record { book = d; keeper = l; handed = handed; flash = y }
 
-  pub effect-completes : 0 < b.spare → steps.Completes state (record { book = b; keeper = k; handed = handed; flash = x }) (record { book = d; keeper = l; handed = handed; flash = y }) [] queue number command keeps.saves.calls.calls done
-  effect-completes spare =
-      made-completes state x y handed b d k l block queue number command success done savings.Done order then_order whole keeps ends spare
-      (saved_well k.saver keeps.saves.given.summary keeps.saves.calls.calls keeps.saves.calls.are) (λ wrong. absurd (false≢true wrong))
+    order : IsInOrder b
+    order = subst (λ (s : Seen F). IsInOrder s.book) (sym h.view_is) h.order
 
--- ---- the program of its record failed
+    may : MayTakeEffect b queue command
+    may = subst (λ (s : Seen F). MayTakeEffect s.book queue command) (sym h.view_is) h.may
 
-module _ {F : Type 0} (state : F → FlashState) (x y : F) (handed : Counts) (b d : BookSeen) (k l : KeeperSeen) (block : List ℕ) (queue number : ℕ) (command : Command) (moment : ℕ) (done : Done) (order : IsInOrder b) (then_order : IsInOrder d) (whole : IsWhole handed (state x) b k block)
-    (may : MayTakeEffect b queue command) (keeps : KeepsEntry b (host queue number command (bare statuses.WRITE_FAULT true) (state y).moment) k l (state x) (state y) (savings.Doubtful moment))
-    (ends : book.Completes (begun b) d [] queue number command (bare statuses.WRITE_FAULT true) (state y).moment done) (applies : AppliesTo b.config command b.pages d.pages) where
-  unsure-fault : MayFault handed b (state y)
-  unsure-fault = may-fault handed b (state x) (state y) moment whole.sound.ledger keeps.saves.calls.made.run.later keeps.saves.calls.made.run.faults keeps.saves.ends
+    ends : book.Completes (begun b) d [] queue number command (reply_to_change (state_in b) command answer) (state y).moment done
+    ends =
+        subst (λ (m : ℕ). book.Completes (begun b) d [] queue number command (reply_to_change (state_in b) command answer) m done) h.moment_is
+        (subst (λ (n : BookSeen). book.Completes n d [] queue number command (reply_to_change (state_in n) command answer) h.moment done) h.now_is h.ends)
 
-  unsure-sound : IsSound handed (state y) d block
-  unsure-sound =
-      sound-applied handed (state y) (begun b) d block queue number command (bare statuses.WRITE_FAULT true) done
-      (sound-behind state x y handed b (host queue number command (bare statuses.WRITE_FAULT true) (state y).moment) k l block (savings.Doubtful moment) order whole keeps)
-      (known-begun b order.known) then_order.known.led may.other refl applies
-      (λ moments. unsure-follows (state y).told b queue number command (state y).moment may (unsure-fault.new (moments refl))) (λ _. unsure-fault.fault) ends
+    pages : ChangesPages answer (begun b) command d.pages
+    pages = subst (λ (n : BookSeen). ChangesPages answer n command d.pages) h.now_is h.pages
 
-  pub unsure-whole : IsWhole handed (state y) d l block × OutlastsStops state (record { book = b; keeper = k; handed = handed; flash = x }) (record { book = d; keeper = l; handed = handed; flash = y })
-  unsure-whole =
-      made-whole state x y handed b d k l block queue number command (bare statuses.WRITE_FAULT true) done (savings.Doubtful moment) order then_order whole keeps ends
-      (pages-left b.config command b.pages d.pages applies).go unsure-sound refl (λ other. uncompleted command (bare statuses.WRITE_FAULT true) refl)
+    made : (reply : Reply) → IsTrue reply.applied → KeepsEntry b (host queue number command reply (state y).moment) k l (state x) (state y) answer
+    made reply = h.keeps reply (state y).moment
 
-  pub unsure-completes : 0 < b.spare → steps.Completes state (record { book = b; keeper = k; handed = handed; flash = x }) (record { book = d; keeper = l; handed = handed; flash = y }) [] queue number command keeps.saves.calls.calls done
-  unsure-completes spare =
-      made-completes state x y handed b d k l block queue number command (bare statuses.WRITE_FAULT true) done (savings.Doubtful moment) order then_order whole keeps ends spare
-      (last-failed keeps.saves.calls.calls (doubtful_failed k.saver keeps.saves.given.summary moment keeps.saves.calls.calls keeps.saves.calls.are)) (λ _. saving-failed (state x) (state y) moment keeps.saves.ends)
+    behind : IsSound handed (state y) (begun b) block
+    behind = sound-behind state x y handed b (host queue number command (bare statuses.WRITE_FAULT true) (state y).moment) k l block answer order h.whole (made (bare statuses.WRITE_FAULT true) refl)
 
--- ---- it was not saved, and is not made: what it comes to says `unmade-completes`
+    faulted : (moment : ℕ) → FailsLast (state x) (state y) moment → MayFault handed b (state y)
+    faulted moment fails = let run = (made (bare statuses.WRITE_FAULT true) refl).saves.calls.made.run in may-fault handed b (state x) (state y) moment h.whole.sound.ledger run.later run.faults fails
 
-module _ {F : Type 0} (state : F → FlashState) (x y : F) (handed : Counts) (b d : BookSeen) (k l : KeeperSeen) (block : List ℕ) (queue number : ℕ) (command : Command) (e : Entry) (moment : ℕ) (done : Done) (order : IsInOrder b) (then_order : IsInOrder d) (whole : IsWhole handed (state x) b k block)
-    (may : MayTakeEffect b queue command) (keeps : KeepsEntry b e k l (state x) (state y) (savings.Unsaved moment))
-    (ends : book.Completes (begun b) d [] queue number command (bare statuses.WRITE_FAULT false) (state y).moment done) (owners : ChangesOwners b.pages d.pages) where
-  unmade-fault : MayFault handed b (state y)
-  unmade-fault = may-fault handed b (state x) (state y) moment whole.sound.ledger keeps.saves.calls.made.run.later keeps.saves.calls.made.run.faults keeps.saves.ends
+    -- by the calls of the saving
+    abbrev Comes : Type 0
+    Comes = IsWhole handed (state y) d l block × OutlastsStops state seen new × (0 < seen.book.spare → EndsAtOnce state seen new queue number command done)
 
-  unmade-sound : IsSound handed (state y) d block
-  unmade-sound =
+    came : (reply : Reply) (applied : IsTrue reply.applied) → IsWhole handed (state y) d l block × OutlastsStops state (record { book = b; keeper = k; handed = handed; flash = x }) new
+        → (0 < b.spare → steps.Completes state (record { book = b; keeper = k; handed = handed; flash = x }) new [] queue number command (made reply applied).saves.calls.calls done) → Comes
+    came reply applied whole completes = (
+      whole.0,
+      subst (λ (s : Seen F). OutlastsStops state s new) h.view_is whole.1,
+      subst (λ (s : Seen F). 0 < s.book.spare → EndsAtOnce state s new queue number command done) h.view_is (λ spare. record {
+        calls = (made reply applied).saves.calls.calls;
+        completes = completes spare;
+        came = inr (inr (inr (record {
+          accepted = may.accepted;
+          saves = may.saved;
+          summary = (made reply applied).saves.given.summary;
+          answer = answer;
+          saved = (made reply applied).saves.calls.are;
+          reply_is = ap (λ (z : Done). z.reply) ends.done_is;
+        })));
+      }),
+    )
+
+  pub command-saved : (answer : Saved) (h : SavesCommand state x y handed b d k l block seen queue number command answer done) → Comes answer h
+  command-saved savings.Done h =
+      let success : Reply = applied_reply (state_in b) command statuses.SUCCESS in
+      let o = order savings.Done h in
+      let m = may savings.Done h in
+      let e = ends savings.Done h in
+      let p = pages savings.Done h in
+      let keeps = made savings.Done h success refl in
+      let so =
+      sound-applied handed (state y) (begun b) d block queue number command success done (behind savings.Done h) (known-begun b o.known) h.then_order.known.led m.other refl p
+      (λ _. effect-follows (state y).told b queue number command (state y).moment m) (λ wrong. absurd (false≢true wrong)) e in
+      came savings.Done h success refl
+      (made-whole state x y handed b d k l block queue number command success done savings.Done o h.then_order h.whole keeps e (pages-left b.config command b.pages d.pages p).go so refl (λ other. absurd (other refl)))
+      (λ spare. made-completes state x y handed b d k l block queue number command success done savings.Done o h.then_order h.whole keeps e spare (saved_well k.saver keeps.saves.given.summary keeps.saves.calls.calls keeps.saves.calls.are) (λ wrong. absurd (false≢true wrong)))
+  command-saved (savings.Doubtful moment) h =
+      let unsure : Reply = bare statuses.WRITE_FAULT true in
+      let o = order (savings.Doubtful moment) h in
+      let m = may (savings.Doubtful moment) h in
+      let e = ends (savings.Doubtful moment) h in
+      let p = pages (savings.Doubtful moment) h in
+      let keeps = made (savings.Doubtful moment) h unsure refl in
+      let fault = faulted (savings.Doubtful moment) h moment keeps.saves.ends in
+      let so =
+      sound-applied handed (state y) (begun b) d block queue number command unsure done (behind (savings.Doubtful moment) h) (known-begun b o.known) h.then_order.known.led m.other refl p
+      (λ moments. unsure-follows (state y).told b queue number command (state y).moment m (fault.new (moments refl))) (λ _. fault.fault) e in
+      came (savings.Doubtful moment) h unsure refl
+      (made-whole state x y handed b d k l block queue number command unsure done (savings.Doubtful moment) o h.then_order h.whole keeps e (pages-left b.config command b.pages d.pages p).go so refl (λ other. uncompleted command unsure refl))
+      (λ spare. made-completes state x y handed b d k l block queue number command unsure done (savings.Doubtful moment) o h.then_order h.whole keeps e spare
+      (last-failed keeps.saves.calls.calls (doubtful_failed k.saver keeps.saves.given.summary moment keeps.saves.calls.calls keeps.saves.calls.are)) (λ _. saving-failed (state x) (state y) moment keeps.saves.ends))
+  command-saved (savings.Unsaved moment) h =
+      let unmade : Reply = bare statuses.WRITE_FAULT false in
       let n = state y in
-      let so = sound-behind state x y handed b e k l block (savings.Unsaved moment) order whole keeps in
-      sound-told handed n n (begun b) d (host queue number command (bare statuses.WRITE_FAULT false) n.moment) block block so (same-flash n) ends.step owners refl
-      (λ moments. unmade-follows n.told b queue number command n.moment may (unmade-fault.new (moments refl)))
-      (ledger-answered handed (begun b) d n n queue number command (bare statuses.WRITE_FAULT false) n.moment done ends owners (no-fetches n) (λ error. record { fault = unmade-fault.fault; until = omega arith }) so.ledger)
-      (apart-answered n n (begun b) d queue number command (bare statuses.WRITE_FAULT false) n.moment done (known-begun b order.known) then_order.known.led (same-flash n) ends owners refl so.apart)
-      (keeps-well handed.faults n.faults n.faults n.told n.told (begun b) d (host queue number command (bare statuses.WRITE_FAULT false) n.moment ∷ []) ends.step refl (omega arith) so.room refl
-      (room-answered (begun b) d queue number command (bare statuses.WRITE_FAULT false) n.moment done (known-begun b order.known) then_order.known.led ends owners refl))
-      refl
-
-  pub command-unmade : IsWhole handed (state y) d l block × OutlastsStops state (record { book = b; keeper = k; handed = handed; flash = x }) (record { book = d; keeper = l; handed = handed; flash = y })
-  command-unmade = unmade-whole state x y handed b d k l block queue number command e moment done order whole keeps ends owners then_order.known unmade-sound
+      let o = order (savings.Unsaved moment) h in
+      let e = ends (savings.Unsaved moment) h in
+      let p = pages (savings.Unsaved moment) h in
+      let keeps = made (savings.Unsaved moment) h (bare statuses.WRITE_FAULT true) refl in
+      let fault = faulted (savings.Unsaved moment) h moment keeps.saves.ends in
+      let so = behind (savings.Unsaved moment) h in
+      let then_so =
+      sound-told handed n n (begun b) d (host queue number command unmade n.moment) block block so (same-flash n) e.step p refl
+      (λ moments. unmade-follows n.told b queue number command n.moment (may (savings.Unsaved moment) h) (fault.new (moments refl)))
+      (ledger-answered handed (begun b) d n n queue number command unmade n.moment done e p (no-fetches n) (λ error. record { fault = fault.fault; until = omega arith }) so.ledger)
+      (apart-answered n n (begun b) d queue number command unmade n.moment done (known-begun b o.known) h.then_order.known.led (same-flash n) e p refl so.apart)
+      (keeps-well handed.faults n.faults n.faults n.told n.told (begun b) d (host queue number command unmade n.moment ∷ []) e.step refl (omega arith) so.room refl
+      (room-answered (begun b) d queue number command unmade n.moment done (known-begun b o.known) h.then_order.known.led e p refl))
+      refl in
+      came (savings.Unsaved moment) h (bare statuses.WRITE_FAULT true) refl
+      (unmade-whole state x y handed b d k l block queue number command _ moment done o h.whole keeps e p h.then_order.known then_so)
+      (unmade-completes state x y handed b d k l block queue number command _ moment done o h.whole keeps e p)
