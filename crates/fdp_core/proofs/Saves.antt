@@ -1,5 +1,5 @@
 -- How a write ends whose change was saved, or could not be.
-use Rattle.std.proofs.Common.{◌≡◌, ◌≢◌, ℕ, ◌+◌, ◌<◌, ◌≤◌, true, false, List, [], ◌∷◌, refl, sym, ap, arith, inl, inr}
+use Rattle.std.proofs.Common.{◌≡◌, ◌≢◌, ℕ, ◌+◌, ◌<◌, ◌≤◌, true, false, List, [], ◌∷◌, refl, sym, ap, subst, arith, inl, inr}
 use Rattle.std.specs.Prelude.{IsFalse, IsTrue}
 use Rattle.std.specs.List.{count_by, list_any}
 use Rattle.std.proofs.lemmas.Bool.{false≢true}
@@ -10,12 +10,18 @@ use Rattle.fdp_relocation.specs.fdp_saving.declared.saved.Saved.TheVariants as s
 use Rattle.fdp_relocation.specs.fdp_book.Book.{BookSeen, IsLed, point_in, state_in}
 use Rattle.fdp_relocation.specs.fdp_pages.Steps.{ChangesOwners}
 use Rattle.fdp_loading.specs.fdp_ledger.declared.counts.Counts.{Counts}
-use Rattle.fdp_core.specs.Answers.{EndsSaved}
-use Rattle.fdp_base.specs.declared.entry.Entry.{Entry}
+use Rattle.fdp_base.specs.declared.command.Command.{Command}
+use Rattle.fdp_base.specs.declared.command.Command.TheVariants as commands
+use Rattle.fdp_base.specs.declared.command.Write.{Write}
+use Rattle.fdp_base.specs.declared.entry.Reply.{Reply}
+use Rattle.fdp_base.specs.CommandKinds.{is_write}
+use Rattle.fdp_base.proofs.Writes.{each-write}
+use Rattle.fdp_core.specs.Answers.{EndsSaved, SavesWrite}
 use Rattle.fdp_calls.specs.Calls.{FailedAt, counted_more, has_failed}
 use Rattle.fdp_flash.specs.FlashState.{FlashState}
 use Rattle.fdp_rules.specs.PlainState.{Going}
-use Rattle.fdp_core.specs.Seen.{HasMoments}
+use Rattle.fdp_core.specs.Seen.{HasMoments, Seen}
+use Rattle.fdp_flash.specs.Failing.{FailsLast}
 use Rattle.fdp_rules.specs.Step.{IsEnd, MaySucceed}
 use Rattle.fdp_loading.specs.fdp_survival.Books.{IsInOrder}
 use Rattle.fdp_core.specs.Sound.{IsSound, IsWhole}
@@ -85,60 +91,133 @@ module _ {F : Type 0} (state : F → FlashState) (x y : F) (handed : Counts) (b 
     reply_is = sym reply_is;
   }
 
--- ---- it was saved
+-- ---- its change was saved in a step, made or not
 
-module _ {F : Type 0} (state : F → FlashState) (x y : F) (handed : Counts) (b d : BookSeen) (k l : KeeperSeen) (block : List ℕ) (ticket : Ticket) (g : Going) (done : Done) (order : IsInOrder b) (then_order : IsInOrder d) (whole : IsWhole handed (state x) b k block)
-    (is : IsTicketOf (state_in b) ticket g) (may : MaySucceed b.config (point_in b) g) (keeps : KeepsEntry b (host ticket.queue g.number g.command (bare statuses.SUCCESS true) (state y).moment) k l (state x) (state y) savings.Done)
-    (ends : book.Completes (begun b) d [] ticket.queue g.number g.command (bare statuses.SUCCESS true) (state y).moment done) (owners : ChangesOwners b.pages d.pages) where
-  pub saved-whole : IsWhole handed (state y) d l block × OutlastsStops state (record { book = b; keeper = k; handed = handed; flash = x }) (record { book = d; keeper = l; handed = handed; flash = y })
-  saved-whole =
-      written-whole state x y handed b d k l block ticket g statuses.SUCCESS done savings.Done order then_order whole is may keeps ends owners
-      (λ _. may-succeed (state y) b ticket g order.known.orderly is may) (λ wrong. absurd (false≢true wrong)) (λ other. absurd (other refl))
+-- the reply to a write, by the answer of the saving
+abbrev reply_to_write : Saved → Reply
+reply_to_write savings.Done = bare statuses.SUCCESS true
+reply_to_write (savings.Doubtful moment) = bare statuses.WRITE_FAULT true
+reply_to_write (savings.Unsaved moment) = bare statuses.WRITE_FAULT false
 
-  pub saved-ends : 0 < b.spare → EndsSaved state (record { book = b; keeper = k; handed = handed; flash = x }) (record { book = d; keeper = l; handed = handed; flash = y }) ticket g savings.Done (bare statuses.SUCCESS true) done
-  saved-ends spare =
-      ends-saved state x y handed b d k l block ticket g statuses.SUCCESS done savings.Done order then_order whole is may keeps ends owners (sym (ap (λ (z : Done). z.reply) ends.done_is)) spare
-      (saved_well k.saver keeps.saves.given.summary keeps.saves.calls.calls keeps.saves.calls.are) (λ wrong. absurd (false≢true wrong))
+-- a step of a group that is seen so saved the change of the write of a ticket with this answer, and ended the write
+pub record SavesTicket {F : Type 0} (state : F → FlashState) (x y : F) (handed : Counts) (b d : BookSeen) (k l : KeeperSeen) (block : List ℕ) (seen : Seen F) (ticket : Ticket) (answer : Saved) (done : Done) : Type 0 where
+  pub view_is : ◌≡◌ {A = Seen F} (record { book = b; keeper = k; handed = handed; flash = x }) seen
+  pub order : IsInOrder seen.book
+  pub then_order : IsInOrder d
+  pub whole : IsWhole handed (state x) b k block
+  pub may : (g : Going) → IsTicketOf (state_in seen.book) ticket g → MaySucceed seen.book.config (point_in seen.book) g
+  pub keeps : (g : Going) (w : Write) (reply : Reply) (moment : ℕ) → IsTicketOf (state_in b) ticket g → g.command ≡ commands.Write w → IsTrue reply.applied → KeepsEntry b (host ticket.queue ticket.number (commands.Write w) reply moment) k l (state x) (state y) answer
+  pub now : BookSeen
+  pub now_is : now ≡ begun b
+  pub moment : ℕ
+  pub moment_is : moment ≡ (state y).moment
+  pub ends : (g : Going) → IsTicketOf (state_in now) ticket g → book.Completes now d [] ticket.queue g.number g.command (reply_to_write answer) moment done
+  pub pages : ChangesOwners now.pages d.pages
 
--- ---- the program of its record failed
+-- a write is one
+as-write : (command : Command) → is_write command ≡ true → (w : Write) × (command ≡ commands.Write w)
+as-write command is = each-write (λ x. (w : Write) × (x ≡ commands.Write w)) (λ w. (w, refl)) command is
 
-module _ {F : Type 0} (state : F → FlashState) (x y : F) (handed : Counts) (b d : BookSeen) (k l : KeeperSeen) (block : List ℕ) (ticket : Ticket) (g : Going) (moment : ℕ) (done : Done) (order : IsInOrder b) (then_order : IsInOrder d) (whole : IsWhole handed (state x) b k block)
-    (is : IsTicketOf (state_in b) ticket g) (may : MaySucceed b.config (point_in b) g) (keeps : KeepsEntry b (host ticket.queue g.number g.command (bare statuses.WRITE_FAULT true) (state y).moment) k l (state x) (state y) (savings.Doubtful moment))
-    (ends : book.Completes (begun b) d [] ticket.queue g.number g.command (bare statuses.WRITE_FAULT true) (state y).moment done) (owners : ChangesOwners b.pages d.pages) where
-  doubtful-fault : MayFault handed b (state y)
-  doubtful-fault = may-fault handed b (state x) (state y) moment whole.sound.ledger keeps.saves.calls.made.run.later keeps.saves.calls.made.run.faults keeps.saves.ends
+module _ {F : Type 0} {state : F → FlashState} {x y : F} {handed : Counts} {b d : BookSeen} {k l : KeeperSeen} {block : List ℕ} {seen : Seen F} {ticket : Ticket} {done : Done} where
+  module _ (answer : Saved) (h : SavesTicket state x y handed b d k l block seen ticket answer done) where
+    abbrev new : Seen F
+    new = record { book = d; keeper = l; handed = handed; flash = y }
 
-  pub doubtful-whole : IsWhole handed (state y) d l block × OutlastsStops state (record { book = b; keeper = k; handed = handed; flash = x }) (record { book = d; keeper = l; handed = handed; flash = y })
-  doubtful-whole =
-      written-whole state x y handed b d k l block ticket g statuses.WRITE_FAULT done (savings.Doubtful moment) order then_order whole is may keeps ends owners
-      (λ moments. inr (inr (inr (inl (may, doubtful-fault.new (moments refl), inr refl))))) (λ _. doubtful-fault.fault) (λ other. uncompleted g.command (bare statuses.WRITE_FAULT true) refl)
+    order : IsInOrder b
+    order = subst (λ (s : Seen F). IsInOrder s.book) (sym h.view_is) h.order
 
-  pub doubtful-ends : 0 < b.spare → EndsSaved state (record { book = b; keeper = k; handed = handed; flash = x }) (record { book = d; keeper = l; handed = handed; flash = y }) ticket g (savings.Doubtful moment) (bare statuses.WRITE_FAULT true) done
-  doubtful-ends spare =
-      ends-saved state x y handed b d k l block ticket g statuses.WRITE_FAULT done (savings.Doubtful moment) order then_order whole is may keeps ends owners (sym (ap (λ (z : Done). z.reply) ends.done_is)) spare
-      (last-failed keeps.saves.calls.calls (doubtful_failed k.saver keeps.saves.given.summary moment keeps.saves.calls.calls keeps.saves.calls.are)) (λ _. saving-failed (state x) (state y) moment keeps.saves.ends)
+    owners : ChangesOwners b.pages d.pages
+    owners = subst (λ (n : BookSeen). ChangesOwners n.pages d.pages) h.now_is h.pages
 
--- ---- it was not saved, and is not made
+    module _ (g : Going) (is : IsTicketOf (state_in b) ticket g) where
+      may : MaySucceed b.config (point_in b) g
+      may = subst (λ (s : Seen F). IsTicketOf (state_in s.book) ticket g → MaySucceed s.book.config (point_in s.book) g) (sym h.view_is) (h.may g) is
 
-module _ {F : Type 0} (state : F → FlashState) (x y : F) (handed : Counts) (b d : BookSeen) (k l : KeeperSeen) (block : List ℕ) (ticket : Ticket) (g : Going) (e : Entry) (moment : ℕ) (done : Done) (order : IsInOrder b) (then_order : IsInOrder d) (whole : IsWhole handed (state x) b k block)
-    (is : IsTicketOf (state_in b) ticket g) (may : MaySucceed b.config (point_in b) g) (keeps : KeepsEntry b e k l (state x) (state y) (savings.Unsaved moment))
-    (ends : book.Completes (begun b) d [] ticket.queue g.number g.command (bare statuses.WRITE_FAULT false) (state y).moment done) (owners : ChangesOwners b.pages d.pages) where
-  unsaved-fault : MayFault handed b (state y)
-  unsaved-fault = may-fault handed b (state x) (state y) moment whole.sound.ledger keeps.saves.calls.made.run.later keeps.saves.calls.made.run.faults keeps.saves.ends
+      made : (reply : Reply) → IsTrue reply.applied → KeepsEntry b (host ticket.queue g.number g.command reply (state y).moment) k l (state x) (state y) answer
+      made reply applied =
+          let w = as-write g.command (order.known.orderly.state.writes ticket.queue g is.going_is).write in
+          subst (λ (number : ℕ). KeepsEntry b (host ticket.queue number g.command reply (state y).moment) k l (state x) (state y) answer) (sym is.number_is)
+          (subst (λ (command : Command). KeepsEntry b (host ticket.queue ticket.number command reply (state y).moment) k l (state x) (state y) answer) (sym w.1) (h.keeps g w.0 reply (state y).moment is w.1 applied))
 
-  unsaved-sound : IsSound handed (state y) d block
-  unsaved-sound =
-      sound-ended handed (state y) (begun b) d block ticket g (bare statuses.WRITE_FAULT false) done (sound-behind state x y handed b e k l block (savings.Unsaved moment) order whole keeps)
-      (known-begun b order.known) then_order.known.led is (λ moments. inr (inr (inr (inl (may, unsaved-fault.new (moments refl), inl refl))))) (λ _. unsaved-fault.fault) refl ends owners
+      ends : book.Completes (begun b) d [] ticket.queue g.number g.command (reply_to_write answer) (state y).moment done
+      ends =
+          subst (λ (m : ℕ). book.Completes (begun b) d [] ticket.queue g.number g.command (reply_to_write answer) m done) h.moment_is
+          (subst (λ (n : BookSeen). IsTicketOf (state_in n) ticket g → book.Completes n d [] ticket.queue g.number g.command (reply_to_write answer) h.moment done) h.now_is (h.ends g) is)
 
-  pub unsaved-whole : IsWhole handed (state y) d l block × OutlastsStops state (record { book = b; keeper = k; handed = handed; flash = x }) (record { book = d; keeper = l; handed = handed; flash = y })
-  unsaved-whole = unmade-whole state x y handed b d k l block ticket.queue g.number g.command e moment done order whole keeps ends owners then_order.known unsaved-sound
+      fault : (moment : ℕ) → FailsLast (state x) (state y) moment → MayFault handed b (state y)
+      fault moment fails = let run = (made (bare statuses.WRITE_FAULT true) refl).saves.calls.made.run in may-fault handed b (state x) (state y) moment h.whole.sound.ledger run.later run.faults fails
 
-  pub unsaved-ends : 0 < b.spare → EndsSaved state (record { book = b; keeper = k; handed = handed; flash = x }) (record { book = d; keeper = l; handed = handed; flash = y }) ticket g (savings.Unsaved moment) (bare statuses.WRITE_FAULT false) done
-  unsaved-ends spare = record {
-    summary = keeps.saves.given.summary;
-    calls = keeps.saves.calls.calls;
-    saved = keeps.saves.calls.are;
-    completes = unmade-completes state x y handed b d k l block ticket.queue g.number g.command e moment done order whole keeps ends owners spare;
-    reply_is = ap (λ (z : Done). z.reply) ends.done_is;
-  }
+    abbrev Comes : Going → Type 0
+    Comes g = IsWhole handed (state y) d l block × OutlastsStops state seen new × (0 < seen.book.spare → SavesWrite state seen new ticket g done)
+
+    abbrev ComesOf : Going → Type 0
+    ComesOf g = IsTicketOf (state_in b) ticket g → IsWhole handed (state y) d l block × OutlastsStops state (record { book = b; keeper = k; handed = handed; flash = x }) new × (0 < b.spare → SavesWrite state (record { book = b; keeper = k; handed = handed; flash = x }) new ticket g done)
+
+    came : (g : Going) → ComesOf g → IsTicketOf (state_in seen.book) ticket g → Comes g
+    came g = subst (λ (s : Seen F). IsTicketOf (state_in s.book) ticket g → IsWhole handed (state y) d l block × OutlastsStops state s new × (0 < s.book.spare → SavesWrite state s new ticket g done)) h.view_is
+
+  pub ticket-saved : (answer : Saved) (h : SavesTicket state x y handed b d k l block seen ticket answer done) (g : Going) → IsTicketOf (state_in seen.book) ticket g → Comes answer h g
+  ticket-saved savings.Done h g =
+      came savings.Done h g
+      (λ is.
+      let o = order savings.Done h in
+      let m = may savings.Done h g is in
+      let keeps = made savings.Done h g is (bare statuses.SUCCESS true) refl in
+      let e = ends savings.Done h g is in
+      let p = owners savings.Done h in
+      let whole =
+      written-whole state x y handed b d k l block ticket g statuses.SUCCESS done savings.Done o h.then_order h.whole is m keeps e p
+      (λ _. may-succeed (state y) b ticket g o.known.orderly is m) (λ wrong. absurd (false≢true wrong)) (λ other. absurd (other refl)) in (
+        whole.0,
+        whole.1,
+        λ spare. inl
+            (ends-saved state x y handed b d k l block ticket g statuses.SUCCESS done savings.Done o h.then_order h.whole is m keeps e p (sym (ap (λ (z : Done). z.reply) e.done_is)) spare
+            (saved_well k.saver keeps.saves.given.summary keeps.saves.calls.calls keeps.saves.calls.are) (λ wrong. absurd (false≢true wrong))),
+      ))
+  ticket-saved (savings.Doubtful moment) h g =
+      came (savings.Doubtful moment) h g
+      (λ is.
+      let o = order (savings.Doubtful moment) h in
+      let m = may (savings.Doubtful moment) h g is in
+      let keeps = made (savings.Doubtful moment) h g is (bare statuses.WRITE_FAULT true) refl in
+      let e = ends (savings.Doubtful moment) h g is in
+      let p = owners (savings.Doubtful moment) h in
+      let f = fault (savings.Doubtful moment) h g is moment keeps.saves.ends in
+      let whole =
+      written-whole state x y handed b d k l block ticket g statuses.WRITE_FAULT done (savings.Doubtful moment) o h.then_order h.whole is m keeps e p
+      (λ moments. inr (inr (inr (inl (m, f.new (moments refl), inr refl))))) (λ _. f.fault) (λ other. uncompleted g.command (bare statuses.WRITE_FAULT true) refl) in (
+        whole.0,
+        whole.1,
+        λ spare. inr
+            (inl (
+              moment,
+              ends-saved state x y handed b d k l block ticket g statuses.WRITE_FAULT done (savings.Doubtful moment) o h.then_order h.whole is m keeps e p (sym (ap (λ (z : Done). z.reply) e.done_is)) spare
+                  (last-failed keeps.saves.calls.calls (doubtful_failed k.saver keeps.saves.given.summary moment keeps.saves.calls.calls keeps.saves.calls.are)) (λ _. saving-failed (state x) (state y) moment keeps.saves.ends),
+            )),
+      ))
+  ticket-saved (savings.Unsaved moment) h g =
+      came (savings.Unsaved moment) h g
+      (λ is.
+      let o = order (savings.Unsaved moment) h in
+      let m = may (savings.Unsaved moment) h g is in
+      let keeps = made (savings.Unsaved moment) h g is (bare statuses.WRITE_FAULT true) refl in
+      let e = ends (savings.Unsaved moment) h g is in
+      let p = owners (savings.Unsaved moment) h in
+      let f = fault (savings.Unsaved moment) h g is moment keeps.saves.ends in
+      let so =
+      sound-ended handed (state y) (begun b) d block ticket g (bare statuses.WRITE_FAULT false) done (sound-behind state x y handed b _ k l block (savings.Unsaved moment) o h.whole keeps)
+      (known-begun b o.known) h.then_order.known.led is (λ moments. inr (inr (inr (inl (m, f.new (moments refl), inl refl))))) (λ _. f.fault) refl e p in
+      let whole = unmade-whole state x y handed b d k l block ticket.queue g.number g.command _ moment done o h.whole keeps e p h.then_order.known so in (
+        whole.0,
+        whole.1,
+        λ spare. inr (inr (
+          moment,
+          record {
+            summary = keeps.saves.given.summary;
+            calls = keeps.saves.calls.calls;
+            saved = keeps.saves.calls.are;
+            completes = unmade-completes state x y handed b d k l block ticket.queue g.number g.command _ moment done o h.whole keeps e p spare;
+            reply_is = ap (λ (z : Done). z.reply) e.done_is;
+          },
+        )),
+      ))
