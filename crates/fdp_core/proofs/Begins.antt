@@ -1,6 +1,6 @@
 -- How a group begins a command: it refuses it, reads for it, or starts it.
 use Rattle.std.proofs.Common.{◌≡◌, ℕ, ◌<◌, arith, Bool, true, false, ◌||◌, List, [], ◌∷◌, ◌++◌, refl, ap, sym, ◌∙◌, subst, inl, inr, Some, None}
-use Rattle.std.specs.Prelude.{IsTrue, not, is_some}
+use Rattle.std.specs.Prelude.{IsFalse, IsTrue, not, is_some}
 use Rattle.std.specs.List.{list_all, list_any}
 use Rattle.std.proofs.lemmas.Bool.{false≢true}
 use Rattle.std.proofs.lemmas.List.{append-nil}
@@ -29,13 +29,22 @@ use Rattle.fdp_core.specs.Answers.{EndsAtOnce, Starts}
 use Rattle.fdp_core.specs.Fetches.{Fetches, MakesFetches, fetches_of, pages_of}
 use Rattle.fdp_core.specs.ReadSteps.{Reads, ReadsAll}
 use Rattle.fdp_core.specs.Seen.{HasMoments, Seen}
-use Rattle.fdp_core.specs.Sound.{IsSound}
-use Rattle.fdp_core.proofs.Apart.{apart-answered, apart-started, known-begun}
+use Rattle.fdp_core.specs.Sound.{IsSound, IsWhole}
+use Rattle.fdp_core.specs.Stops.{OutlastsStops}
+use Rattle.fdp_core.proofs.Apart.{apart-answered, apart-started, known-begun, safe-now, sound-isolated}
 use Rattle.fdp_core.proofs.Ends.{no-fetches}
 use Rattle.fdp_core.proofs.Grown.{adds, completes, host, matches-none}
+use Rattle.fdp_core.proofs.Isolating.{data-read, leaves-data}
+use Rattle.fdp_core.proofs.Kept.{kept-begun}
 use Rattle.fdp_core.proofs.Places.{moment-new}
 use Rattle.fdp_core.proofs.Reading.{length-blocks_from}
 use Rattle.fdp_core.proofs.Sound.{IsSameFlash, begun, same-flash, sound-begun, sound-told}
+use Rattle.fdp_core.proofs.Roomy.{leaves-read}
+use Rattle.fdp_core.proofs.Wholes.{answered-kept, entry-stops, order-begun}
+use Rattle.fdp_image.specs.Kept.{is_completed}
+use Rattle.fdp_loading.specs.fdp_survival.Books.{IsInOrder}
+use Rattle.fdp_loading.proofs.fdp_survival.Steps.{survives-fetched}
+use Rattle.fdp_relocation.specs.fdp_keeper.Keeper.{KeeperSeen}
 use Rattle.fdp_flash.specs.FlashState.{Call, FlashState, IsWellFormed as IsFlashFormed}
 use Rattle.fdp_history.specs.OrderlyState.{IsOrderlyState}
 use Rattle.fdp_loading.specs.fdp_isolation.Laned.{IsKnown}
@@ -80,6 +89,39 @@ sound-answered handed f n b d block queue number command reply moment done so ma
     (keeps-well handed.faults f.faults n.faults f.told n.told (begun b) d (host queue number command reply moment ∷ []) ends.step may.flash.told may.fetches.made.run.faults was.room refl
     (room-answered (begun b) d queue number command reply moment done (known-begun b may.known) led ends owners may.unapplied))
     refl
+
+-- a step of a group that is seen so answers a command, with no change; the flash was read from, or not called
+pub record AnswersCommand {F : Type 0} (state : F → FlashState) (x y : F) (handed : Counts) (b d : BookSeen) (k : KeeperSeen) (block : List ℕ) (seen : Seen F) (queue number : ℕ) (command : Command) (reply : Reply) (moment : ℕ) (done : Done) : Type 0 where
+  pub view_is : ◌≡◌ {A = Seen F} (record { book = b; keeper = k; handed = handed; flash = x }) seen
+  pub order : IsInOrder b
+  pub then_known : IsKnown d
+  pub whole : IsWhole handed (state x) b k block
+  pub read : IsReadFrom (state x) (state y)
+  pub now : BookSeen
+  pub now_is : now ≡ begun b
+  pub ends : book.Completes now d [] queue number command reply moment done
+  pub owners : ChangesOwners now.pages d.pages
+
+module _ {F : Type 0} {state : F → FlashState} {x y : F} {handed : Counts} {b d : BookSeen} {k : KeeperSeen} {block : List ℕ} {seen : Seen F} {queue number : ℕ} {command : Command} {reply : Reply} {moment : ℕ} {done : Done} (h : AnswersCommand state x y handed b d k block seen queue number command reply moment done) where
+  -- from the book before the step began
+  pub completed : book.Completes (begun b) d [] queue number command reply moment done
+  completed = subst (λ (n : BookSeen). book.Completes n d [] queue number command reply moment done) h.now_is h.ends
+
+  pub owners : ChangesOwners b.pages d.pages
+  owners = subst (λ (n : BookSeen). ChangesOwners n.pages d.pages) h.now_is h.owners
+
+  pub answered-stands : reply.applied ≡ false → IsFalse (is_completed command reply) → IsSound handed (state y) d block → IsWhole handed (state y) d k block × OutlastsStops state seen (record { book = d; keeper = k; handed = handed; flash = y })
+  answered-stands unapplied none so =
+      let whole : IsWhole handed (state y) d k block =
+      record { sound = so; kept = answered-kept handed (state x) (state y) (begun b) d queue number command reply moment done k (order-begun b h.order) (kept-begun handed (state x) b k h.whole.kept) h.read completed unapplied none owners } in
+      let now = safe-now handed (state y) d k block h.then_known whole in (
+        whole,
+        subst (λ (s : Seen F). OutlastsStops state s (record { book = d; keeper = k; handed = handed; flash = y })) h.view_is
+            (entry-stops state (record { book = b; keeper = k; handed = handed; flash = x }) (record { book = d; keeper = k; handed = handed; flash = y }) (host queue number command reply moment) completed.step none
+            (survives-fetched b k.saver k.firm (state x) (state y) h.read h.whole.kept.safe (sound-isolated handed (state x) b block h.order.known h.whole.sound)) h.whole.kept.safe now (omega arith)
+            (leaves-read handed (state x) (state y) b k block h.order.known h.whole h.read.kept.faults h.read)
+            (leaves-data b d (state x) (state y) completed.step.config_is completed.step.found_is completed.step.opened_is (data-read b.config (state x) (state y) h.read) now.isolated)),
+      )
 
 -- an answer of no media error tells of no failed call
 quiet : (queue number : ℕ) (command : Command) (reply : Reply) (moment : ℕ) → is_media_error reply.status ≡ false → list_any tells_failure (host queue number command reply moment ∷ []) ≡ false

@@ -1,35 +1,35 @@
-use Rattle.std.proofs.Common.{◌≡◌, ◌<◌, ◌∙◌, ap, sym, subst, [], None, Bool, false, refl, arith, ◌&&◌, length}
+use Rattle.std.proofs.Common.{◌≡◌, ◌<◌, ◌∙◌, ap, sym, subst, None, Bool, false, refl, ◌&&◌}
 use Rattle.std.specs.Prelude.{IsFalse}
 use Rattle.fdp_base.specs.declared.status.TheConstants.Status as statuses
 use Rattle.fdp_base.specs.CommandKinds.{IsWellFormed}
-use Rattle.fdp_relocation.specs.fdp_book.Book.{BookSeen, point_in}
-use Rattle.fdp_relocation.specs.fdp_book.Steps.{Completes}
+use Rattle.fdp_relocation.specs.fdp_book.Book.{point_in}
 use Rattle.fdp_core.specs.Answers.{EndsAtOnce}
 use Rattle.fdp_core.specs.Seen.{Seen}
-use Rattle.fdp_core.specs.Sound.{IsKept}
+use Rattle.fdp_core.specs.Sound.{IsWhole}
 use Rattle.fdp_core.specs.Stops.{OutlastsStops}
-use Rattle.fdp_core.proofs.Isolating.{leaves-nothing}
-use Rattle.fdp_core.proofs.Begins.{IsAnswer, begins-succeeded, sound-succeeded}
+use Rattle.fdp_core.proofs.Begins.{AnswersCommand, answered-stands, completed, owners, IsAnswer, begins-succeeded, sound-succeeded}
 use Rattle.fdp_core.proofs.Ends.{no-read}
-use Rattle.fdp_core.proofs.Grown.{host}
-use Rattle.fdp_core.proofs.Kept.{kept-begun}
-use Rattle.fdp_core.proofs.Sound.{begun}
-use Rattle.fdp_core.proofs.Wholes.{answered-kept, entry-stops, order-begun, survives-uncalled}
 use Rattle.fdp_image.specs.Kept.{is_completed}
-use Rattle.fdp_relocation.specs.fdp_pages.Steps.{ChangesOwners}
 use Rattle.fdp_rules.specs.Change.{is_status}
 use Rattle.fdp_rules.specs.Answer.{IsSuccess}
 use Rattle.fdp_rules.specs.Refusal.{refusal_of}
 use Rattle.fdp_rules.specs.Step.{IsQueue}
-use Rattle.fdp_loading.specs.fdp_survival.Books.{IsInOrder}
 use Rattle.fdp_core.proofs.group.Group.succeed.Given.{Over}
-use Rattle.fdp_core.proofs.Apart.{safe-now}
 use Rattle.fdp_core.proofs.group.Group.succeed.Goals as goal
-use Rattle.fdp_core.proofs.Roomy.{leaves-uncalled}
 
--- the answer, from the book before the step began
-completed : (g : Over) (c : goal.After-known-2 g) → Completes (begun c.self.inside.book) c.complete-done.new.self [] c.args.queue c.args.number c.args.command c.args.replies.history c.moment-moment.result c.complete-done.result
-completed g c = subst (λ (b : BookSeen). Completes b c.complete-done.new.self [] c.args.queue c.args.number c.args.command c.args.replies.history c.moment-moment.result c.complete-done.result) c.begin.ensures c.complete-done.ensures.step
+-- the answer
+answers : (g : Over) (c : goal.After-known-2 g) → AnswersCommand g.F.Flash.state c.self.inside.flash c.self.inside.flash c.self.inside.handed c.self.inside.book c.complete-done.new.self c.self.inside.keeper c.self.inside.block.items c.args.self.now c.args.queue c.args.number c.args.command c.args.replies.history c.moment-moment.result c.complete-done.result
+answers g c = record {
+  view_is = c.self.view_is;
+  order = record { known = record { config = c.known.ensures.config; orderly = c.known.ensures.orderly; units = c.known.ensures.units; joined = c.known.ensures.joined; led = c.known.ensures.led; generation = c.known.ensures.generation }; standing = c.known.ensures.standing; listed = c.known.ensures.listed };
+  then_known = record { config = c.known-2.ensures.config; orderly = c.known-2.ensures.orderly; units = c.known-2.ensures.units; joined = c.known-2.ensures.joined; led = c.known-2.ensures.led; generation = c.known-2.ensures.generation };
+  whole = c.self.invariant;
+  read = no-read (g.F.Flash.state c.self.inside.flash);
+  now = c.begin.new.self;
+  now_is = c.begin.ensures;
+  ends = c.complete-done.ensures.step;
+  owners = c.complete-done.ensures.pages;
+}
 
 -- it is an answer
 is-answer : (g : Over) (c : goal.After-known-2 g) → IsAnswer (g.F.Flash.state c.self.inside.flash).told c.self.inside.book c.args.queue c.args.command c.args.replies.history
@@ -45,36 +45,23 @@ is-answer g c =
       unapplied = success.applied ∙ c.requires.unsaved;
     }
 
-owners : (g : Over) (c : goal.After-known-2 g) → ChangesOwners c.self.inside.book.pages c.complete-done.new.self.pages
-owners g c = subst (λ (b : BookSeen). ChangesOwners b.pages c.complete-done.new.self.pages) c.begin.ensures c.complete-done.ensures.pages
-
-order : (g : Over) (c : goal.After-known-2 g) → IsInOrder c.self.inside.book
-order g c = record { known = record { config = c.known.ensures.config; orderly = c.known.ensures.orderly; units = c.known.ensures.units; joined = c.known.ensures.joined; led = c.known.ensures.led; generation = c.known.ensures.generation }; standing = c.known.ensures.standing; listed = c.known.ensures.listed }
-
 -- no change is completed
 uncompleted : (g : Over) (c : goal.After-known-2 g) → IsFalse (is_completed c.args.command c.args.replies.history)
 uncompleted g c =
     let is = is-answer g c in
     ap (λ (saved : Bool). saved && is_status c.args.replies.history.status statuses.SUCCESS) (sym is.success.applied ∙ is.unapplied)
 
-kept : (g : Over) (c : goal.After-known-2 g) → IsKept c.self.inside.handed (g.F.Flash.state c.self.inside.flash) c.complete-done.new.self c.self.inside.keeper
-kept g c =
-    let old = c.self.inside in
-    let f = g.F.Flash.state old.flash in
-    answered-kept old.handed f f (begun old.book) c.complete-done.new.self c.args.queue c.args.number c.args.command c.args.replies.history c.moment-moment.result c.complete-done.result old.keeper
-    (order-begun old.book (order g c)) (kept-begun old.handed f old.book old.keeper c.self.invariant.kept) (no-read f) (completed g c) (is-answer g c).unapplied (uncompleted g c) (owners g c)
-
 pub complete-done-requires-clause-unapplied : goal.complete-done-requires-clause-unapplied
 complete-done-requires-clause-unapplied g c = (c.requires.success false).applied ∙ c.requires.unsaved
 
+stands : (g : Over) (c : goal.After-known-2 g) → IsWhole c.self.inside.handed (g.F.Flash.state c.self.inside.flash) c.complete-done.new.self c.self.inside.keeper c.self.inside.block.items × OutlastsStops g.F.Flash.state c.args.self.now (record { book = c.complete-done.new.self; keeper = c.self.inside.keeper; handed = c.self.inside.handed; flash = c.self.inside.flash })
+stands g c =
+    answered-stands (answers g c) (is-answer g c).unapplied (uncompleted g c)
+    (sound-succeeded c.self.inside.handed (g.F.Flash.state c.self.inside.flash) c.self.inside.book c.complete-done.new.self c.self.inside.block.items c.args.queue c.args.number c.args.command c.args.replies.history c.moment-moment.result c.complete-done.result
+    c.self.invariant.sound (answers g c).order.known c.known-2.ensures.led (is-answer g c) (completed (answers g c)) (owners (answers g c)))
+
 pub invariant_of-self : goal.invariant_of-self
-invariant_of-self g c =
-    let old = c.self.inside in
-    record {
-      sound = sound-succeeded old.handed (g.F.Flash.state old.flash) old.book c.complete-done.new.self old.block.items c.args.queue c.args.number c.args.command c.args.replies.history c.moment-moment.result c.complete-done.result
-          c.self.invariant.sound (order g c).known c.known-2.ensures.led (is-answer g c) (completed g c) (owners g c);
-      kept = kept g c;
-    }
+invariant_of-self g c = (stands g c).0
 
 pub returns-clause-step : goal.returns-clause-step
 returns-clause-step g c =
@@ -82,16 +69,8 @@ returns-clause-step g c =
     let new : Seen g.row.F.Denot = record { book = c.complete-done.new.self; keeper = old.keeper; handed = old.handed; flash = old.flash } in
     subst (λ (s : Seen g.row.F.Denot). 0 < s.book.spare → EndsAtOnce g.F.Flash.state s new c.args.queue c.args.number c.args.command c.complete-done.result) c.self.view_is
     (λ spare. begins-succeeded g.F.Flash.state (record { book = old.book; keeper = old.keeper; handed = old.handed; flash = old.flash }) new c.args.queue c.args.number c.args.command c.args.replies.history c.moment-moment.result c.complete-done.result
-    spare refl refl (is-answer g c) (completed g c) c.moment-moment.ensures)
+    spare refl refl (is-answer g c) (completed (answers g c)) c.moment-moment.ensures)
     c.requires.spare
 
 pub returns-clause-stops : goal.returns-clause-stops
-returns-clause-stops g c =
-    let old = c.self.inside in
-    let new : Seen g.row.F.Denot = record { book = c.complete-done.new.self; keeper = old.keeper; handed = old.handed; flash = old.flash } in
-    subst (λ (s : Seen g.row.F.Denot). OutlastsStops g.F.Flash.state s new) c.self.view_is
-    (entry-stops g.F.Flash.state (record { book = old.book; keeper = old.keeper; handed = old.handed; flash = old.flash }) new (host c.args.queue c.args.number c.args.command c.args.replies.history c.moment-moment.result) (completed g c).step (uncompleted g c)
-    (survives-uncalled old.book old.keeper.firm (length old.book.entries) (g.F.Flash.state old.flash)) c.self.invariant.kept.safe
-    (safe-now old.handed (g.F.Flash.state old.flash) c.complete-done.new.self old.keeper old.block.items
-    (record { config = c.known-2.ensures.config; orderly = c.known-2.ensures.orderly; units = c.known-2.ensures.units; joined = c.known-2.ensures.joined; led = c.known-2.ensures.led; generation = c.known-2.ensures.generation })
-    (invariant_of-self g c)) (omega arith) (leaves-uncalled old.handed (g.F.Flash.state old.flash) old.book) (leaves-nothing old.book new.book (g.F.Flash.state old.flash)))
+returns-clause-stops g c = (stands g c).1
