@@ -21,13 +21,9 @@ use Rattle.fdp_relocation.specs.declared.advance.Advance.TheVariants as advance
 use Rattle.fdp_relocation.specs.fdp_saving.declared.saved.Saved.TheVariants as savings
 use Rattle.fdp_relocation.specs.Collected.{Collects}
 use Rattle.fdp_core.specs.Advancing.{Advances, ComesTo, MovesCopies, TellsMore}
-use Rattle.fdp_loading.specs.fdp_survival.Books.{IsSafe}
-use Rattle.fdp_core.specs.Stops.{IsSafeNow, Outlasts, OutlastsStops}
 use Rattle.fdp_rules.specs.PlainState.{PlainState}
 use Rattle.fdp_relocation.specs.fdp_saving.declared.saved.Saved.{Saved}
 use Rattle.fdp_core.proofs.Rooms.{begun_seen}
-use Rattle.fdp_core.proofs.Outlasting.{outlasts-all}
-use Rattle.fdp_core.proofs.Wholes.{unbegun}
 use Rattle.fdp_roominess.proofs.Runs.{keeps-alike}
 use Rattle.fdp_relocation.specs.fdp_book.declared.log.TheConstants.{MOST_STEP_ENTRIES}
 
@@ -134,7 +130,3 @@ cancelled-epochs b d es old now longer full was more = omega (arith, was, more, 
 -- what holds from the book of a step that has begun
 pub from-begun : {F : Type 0} (old : Seen F) (now : BookSeen) (P : Seen F → Type 0) → now ≡ begun old.book → P (record { book = now; keeper = old.keeper; handed = old.handed; flash = old.flash }) → P (begun_seen old)
 from-begun old now P is h = subst (λ (b : BookSeen). P (record { book = b; keeper = old.keeper; handed = old.handed; flash = old.flash })) is h
-
--- a whole step outlasts stops as what was done within it
-pub collect-stops : {F : Type 0} (state : F → FlashState) (old mid : Seen F) (now : BookSeen) → now ≡ begun old.book → Outlasts state (record { book = now; keeper = old.keeper; handed = old.handed; flash = old.flash }) mid → IsSafe old.book old.keeper.saver old.keeper.firm (state old.flash) → IsSafeNow (state mid.flash) mid.book mid.keeper → OutlastsStops state old mid
-collect-stops state old mid now is h was safe = unbegun state old mid (outlasts-all state (begun_seen old) mid was.at.firm_is safe (from-begun old now (λ s. Outlasts state s mid) is h))

@@ -1,5 +1,5 @@
 -- A group behind an entry that saves nothing: what saves the drive stands for its history, and no stop in the step loses what was firm.
-use Rattle.std.proofs.Common.{◌≡◌, ℕ, ◌≤◌, false, List, [], ◌∷◌, length, arith}
+use Rattle.std.proofs.Common.{◌≡◌, ℕ, ◌≤◌, false, List, [], ◌∷◌, length, subst, arith}
 use Rattle.std.specs.Prelude.{IsFalse}
 use Rattle.std.specs.List.{count_by}
 use Rattle.std.proofs.lemmas.List.Elements.{All-cons, All-nil}
@@ -17,14 +17,14 @@ use Rattle.fdp_core.specs.Stops.{IsSafeNow, KeepsPart, LeavesIsolated, LeavesRoo
 use Rattle.fdp_core.proofs.Apart.{known-begun}
 use Rattle.fdp_core.proofs.Grown.{host}
 use Rattle.fdp_core.proofs.Kept.{kept-begun, kept-on}
-use Rattle.fdp_core.proofs.Outlasting.{outlasts-part, outlasts-stops}
+use Rattle.fdp_core.proofs.Outlasting.{outlasts-all, outlasts-part, outlasts-stops}
 use Rattle.fdp_core.proofs.Rooms.{begun_seen}
 use Rattle.fdp_core.proofs.Sound.{begun, sound-begun}
 use Rattle.fdp_relocation.specs.fdp_durability.Firm.{completes}
 use Rattle.fdp_relocation.proofs.fdp_durability.Owed.{unowed}
 use Rattle.fdp_flash.specs.FlashState.{FlashState}
 use Rattle.fdp_flash.proofs.Runs.{no_run}
-use Rattle.fdp_image.specs.Kept.{is_completed, is_owed}
+use Rattle.fdp_image.specs.Kept.{AreFirm, is_completed, is_owed}
 use Rattle.fdp_relocation.specs.fdp_keeper.Keeper.{KeeperSeen}
 use Rattle.fdp_loading.specs.fdp_ledger.declared.counts.Counts.{Counts}
 use Rattle.fdp_relocation.specs.fdp_pages.Steps.{ChangesOwners}
@@ -48,6 +48,12 @@ whole-begun handed f b k block h = record { sound = sound-begun handed f b block
 -- a stop cannot tell whether the step had begun
 pub unbegun : {F : Type 0} (state : F → FlashState) (old new : Seen F) → OutlastsStops state (begun_seen old) new → OutlastsStops state old new
 unbegun state old new h = record { stops = h.stops; apart = h.apart; isolated = h.isolated; opens = h.opens; roomy = h.roomy; more = h.more; firm = h.firm }
+
+-- a step that completes no change, from where it has begun
+pub outlasts-begun : {F : Type 0} {state : F → FlashState} {old new seen : Seen F} {now : BookSeen} → old ≡ seen → now ≡ begun old.book → AreFirm old.book.entries old.keeper.firm → IsSafeNow (state new.flash) new.book new.keeper → Outlasts state (record { book = now; keeper = old.keeper; handed = old.handed; flash = old.flash }) new → OutlastsStops state seen new
+outlasts-begun {F} {state} {old} {new} is begins firm safe h =
+    subst (λ (s : Seen F). OutlastsStops state s new) is
+    (unbegun state old new (outlasts-all state (begun_seen old) new firm safe (subst (λ (b : BookSeen). Outlasts state (record { book = b; keeper = old.keeper; handed = old.handed; flash = old.flash }) new) begins h)))
 
 -- ---- an entry that completes no change
 

@@ -7,11 +7,11 @@ use Rattle.fdp_core.specs.Seen.{Seen, stage_of}
 use Rattle.fdp_core.specs.Sound.{IsWhole}
 use Rattle.fdp_core.specs.Steps.{IsGrown}
 use Rattle.fdp_core.specs.Stops.{IsIsolatedBy, OutlastsStops}
-use Rattle.fdp_core.proofs.Collecting.{cancelled, cancelled-epochs, collect-stops, collected, from-begun, grown-cancelled, grown-kept, may-still, sound-cancelled}
+use Rattle.fdp_core.proofs.Collecting.{cancelled, cancelled-epochs, collected, from-begun, grown-cancelled, grown-kept, may-still, sound-cancelled}
 use Rattle.fdp_core.proofs.Kept.{kept-alike}
 use Rattle.fdp_core.proofs.Rooms.{begun_seen}
 use Rattle.fdp_core.proofs.Sound.{begun}
-use Rattle.fdp_core.proofs.Wholes.{whole-begun}
+use Rattle.fdp_core.proofs.Wholes.{outlasts-begun, whole-begun}
 use Rattle.fdp_relocation.specs.declared.advance.Advance.{Advance}
 use Rattle.fdp_relocation.specs.declared.advance.Advance.TheVariants as advances
 use Rattle.fdp_relocation.specs.fdp_saving.declared.saved.Saved.TheVariants as saved
@@ -127,7 +127,7 @@ returns-then-has_added_nothing-clause-stops g c =
     let new : Seen g.row.F.Denot = record { book = c.cancel.new.self; keeper = c.self-2.inside.keeper; handed = c.self-2.inside.handed; flash = c.self-2.inside.flash } in
     subst (λ (s : Seen g.row.F.Denot). OutlastsStops state s new) c.self.view_is
     (stops-mid state old mid new (ap (λ (s : Seen g.row.F.Denot). s.keeper) c.self-2.view_is) (ap (λ (s : Seen g.row.F.Denot). s.flash) c.self-2.view_is) (c.cancel.ensures ∙ ap cancelled (ap (λ (s : Seen g.row.F.Denot). s.book) c.self-2.view_is))
-    (collect-stops state old mid c.begin.new.self c.begin.ensures c.advance-advance.ensures.stops c.self.invariant.kept.safe c.advance-advance.ensures.safe))
+    (outlasts-begun refl c.begin.ensures c.self.invariant.kept.safe.at.firm_is c.advance-advance.ensures.safe c.advance-advance.ensures.stops))
 
 -- ---- an entry was added
 
@@ -145,13 +145,7 @@ returns-else-has_added_nothing-clause-step g c =
     c.requires.spare
 
 pub returns-else-has_added_nothing-clause-stops : goal.returns-else-has_added_nothing-clause-stops
-returns-else-has_added_nothing-clause-stops g c =
-    let state = g.F.Flash.state in
-    let inside = c.self.inside in
-    let mid = c.advance-advance.new.self in
-    let old : Seen g.row.F.Denot = record { book = inside.book; keeper = inside.keeper; handed = inside.handed; flash = inside.flash } in
-    subst (λ (s : Seen g.row.F.Denot). OutlastsStops state s mid) c.self.view_is
-    (collect-stops state old mid c.begin.new.self c.begin.ensures c.advance-advance.ensures.stops c.self.invariant.kept.safe c.advance-advance.ensures.safe)
+returns-else-has_added_nothing-clause-stops g c = outlasts-begun c.self.view_is c.begin.ensures c.self.invariant.kept.safe.at.firm_is c.advance-advance.ensures.safe c.advance-advance.ensures.stops
 
 pub returns-then-has_added_nothing-clause-firm : goal.returns-then-has_added_nothing-clause-firm
 returns-then-has_added_nothing-clause-firm g c =

@@ -5,12 +5,9 @@ use Rattle.fdp_core.specs.Answers.{EndsAlone}
 use Rattle.fdp_core.specs.Ending.{Ends, MayEnd}
 use Rattle.fdp_core.specs.Seen.{Seen}
 use Rattle.fdp_core.specs.Sound.{IsWhole}
-use Rattle.fdp_core.specs.Stops.{Outlasts, OutlastsStops}
 use Rattle.fdp_core.proofs.Ends.{ends-alone}
-use Rattle.fdp_core.proofs.Outlasting.{outlasts-all}
-use Rattle.fdp_core.proofs.Rooms.{begun_seen}
 use Rattle.fdp_core.proofs.Sound.{begun}
-use Rattle.fdp_core.proofs.Wholes.{unbegun, whole-begun}
+use Rattle.fdp_core.proofs.Wholes.{outlasts-begun, whole-begun}
 use Rattle.fdp_rules.specs.Answer.{bare}
 use Rattle.fdp_core.proofs.group.Group.end_alone.Goals as goal
 
@@ -25,13 +22,7 @@ returns-clause-step g c going is =
     is c.requires.spare
 
 pub returns-clause-stops : goal.returns-clause-stops
-returns-clause-stops g c =
-    let inside = c.self.inside in
-    let old : Seen g.row.F.Denot = record { book = inside.book; keeper = inside.keeper; handed = inside.handed; flash = inside.flash } in
-    subst (λ (s : Seen g.row.F.Denot). OutlastsStops g.F.Flash.state s c.end.new.self) c.self.view_is
-    (unbegun g.F.Flash.state old c.end.new.self
-    (outlasts-all g.F.Flash.state (begun_seen old) c.end.new.self c.self.invariant.kept.safe.at.firm_is c.end.ensures.safe
-    (subst (λ (b : BookSeen). Outlasts g.F.Flash.state (record { book = b; keeper = inside.keeper; handed = inside.handed; flash = inside.flash }) c.end.new.self) c.begin.ensures c.end.ensures.stops)))
+returns-clause-stops g c = outlasts-begun c.self.view_is c.begin.ensures c.self.invariant.kept.safe.at.firm_is c.end.ensures.safe c.end.ensures.stops
 
 pub invariant_of-self : goal.invariant_of-self
 invariant_of-self g c =

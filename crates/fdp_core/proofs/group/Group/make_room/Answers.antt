@@ -9,10 +9,8 @@ use Rattle.fdp_core.specs.Ending.{MayEnd}
 use Rattle.fdp_core.specs.Passes.{EndsPass, MayBeginPass}
 use Rattle.fdp_core.specs.Seen.{Seen}
 use Rattle.fdp_core.specs.Sound.{IsWhole}
-use Rattle.fdp_core.specs.Stops.{Outlasts, OutlastsStops}
-use Rattle.fdp_core.proofs.Collecting.{from-begun}
-use Rattle.fdp_core.proofs.Outlasting.{outlasts-all, outlasts-before}
-use Rattle.fdp_core.proofs.Wholes.{unbegun, whole-begun}
+use Rattle.fdp_core.proofs.Outlasting.{outlasts-before}
+use Rattle.fdp_core.proofs.Wholes.{outlasts-begun, whole-begun}
 use Rattle.fdp_core.proofs.Rooms.{begun_seen, crowded-may, ends-crowded, ends-in-pass, ends-starved, failed-may, makes-room, starved-may}
 use Rattle.fdp_core.proofs.Sound.{begun}
 use Rattle.fdp_base.specs.CommandKinds.{blocks_written}
@@ -144,29 +142,19 @@ returns-in-Fault-clause-step g c going is =
     is (c.requires.wants going is) c.requires.spare
 
 pub returns-in-Made-clause-stops : goal.returns-in-Made-clause-stops
-returns-in-Made-clause-stops g c =
-    let inside = c.self.inside in
-    let old : Seen g.row.F.Denot = record { book = inside.book; keeper = inside.keeper; handed = inside.handed; flash = inside.flash } in
-    subst (λ (s : Seen g.row.F.Denot). OutlastsStops g.F.Flash.state s c.make_pass.new.self) c.self.view_is
-    (unbegun g.F.Flash.state old c.make_pass.new.self (outlasts-all g.F.Flash.state (begun_seen old) c.make_pass.new.self c.self.invariant.kept.safe.at.firm_is c.in-Made.ensures.safe (from-begun old c.begin.new.self (λ s. Outlasts g.F.Flash.state s c.make_pass.new.self) c.begin.ensures c.in-Made.ensures.stops)))
+returns-in-Made-clause-stops g c = outlasts-begun c.self.view_is c.begin.ensures c.self.invariant.kept.safe.at.firm_is c.in-Made.ensures.safe c.in-Made.ensures.stops
 
 pub returns-in-Nothing-clause-stops : goal.returns-in-Nothing-clause-stops
 returns-in-Nothing-clause-stops g c =
-    let inside = c.self.inside in
-    let old : Seen g.row.F.Denot = record { book = inside.book; keeper = inside.keeper; handed = inside.handed; flash = inside.flash } in
-    subst (λ (s : Seen g.row.F.Denot). OutlastsStops g.F.Flash.state s c.end.new.self) c.self.view_is
-    (unbegun g.F.Flash.state old c.end.new.self (outlasts-all g.F.Flash.state (begun_seen old) c.end.new.self c.self.invariant.kept.safe.at.firm_is c.end.ensures.safe (outlasts-before g.F.Flash.state (begun_seen old) c.make_pass.new.self c.end.new.self (from-begun old c.begin.new.self (λ s. Outlasts g.F.Flash.state s c.make_pass.new.self) c.begin.ensures c.in-Nothing.ensures.stops) c.end.ensures.stops c.in-Nothing.ensures.safe c.end.ensures.uses)))
+    outlasts-begun c.self.view_is c.begin.ensures c.self.invariant.kept.safe.at.firm_is c.end.ensures.safe
+    (outlasts-before g.F.Flash.state _ c.make_pass.new.self c.end.new.self c.in-Nothing.ensures.stops c.end.ensures.stops c.in-Nothing.ensures.safe c.end.ensures.uses)
 
 pub returns-in-Starved-clause-stops : goal.returns-in-Starved-clause-stops
 returns-in-Starved-clause-stops g c =
-    let inside = c.self.inside in
-    let old : Seen g.row.F.Denot = record { book = inside.book; keeper = inside.keeper; handed = inside.handed; flash = inside.flash } in
-    subst (λ (s : Seen g.row.F.Denot). OutlastsStops g.F.Flash.state s c.end-in-Starved.new.self) c.self.view_is
-    (unbegun g.F.Flash.state old c.end-in-Starved.new.self (outlasts-all g.F.Flash.state (begun_seen old) c.end-in-Starved.new.self c.self.invariant.kept.safe.at.firm_is c.end-in-Starved.ensures.safe (outlasts-before g.F.Flash.state (begun_seen old) c.make_pass.new.self c.end-in-Starved.new.self (from-begun old c.begin.new.self (λ s. Outlasts g.F.Flash.state s c.make_pass.new.self) c.begin.ensures c.in-Starved.ensures.stops) c.end-in-Starved.ensures.stops c.in-Starved.ensures.safe c.end-in-Starved.ensures.uses)))
+    outlasts-begun c.self.view_is c.begin.ensures c.self.invariant.kept.safe.at.firm_is c.end-in-Starved.ensures.safe
+    (outlasts-before g.F.Flash.state _ c.make_pass.new.self c.end-in-Starved.new.self c.in-Starved.ensures.stops c.end-in-Starved.ensures.stops c.in-Starved.ensures.safe c.end-in-Starved.ensures.uses)
 
 pub returns-in-Fault-clause-stops : goal.returns-in-Fault-clause-stops
 returns-in-Fault-clause-stops g c =
-    let inside = c.self.inside in
-    let old : Seen g.row.F.Denot = record { book = inside.book; keeper = inside.keeper; handed = inside.handed; flash = inside.flash } in
-    subst (λ (s : Seen g.row.F.Denot). OutlastsStops g.F.Flash.state s c.end-in-Fault.new.self) c.self.view_is
-    (unbegun g.F.Flash.state old c.end-in-Fault.new.self (outlasts-all g.F.Flash.state (begun_seen old) c.end-in-Fault.new.self c.self.invariant.kept.safe.at.firm_is c.end-in-Fault.ensures.safe (outlasts-before g.F.Flash.state (begun_seen old) c.make_pass.new.self c.end-in-Fault.new.self (from-begun old c.begin.new.self (λ s. Outlasts g.F.Flash.state s c.make_pass.new.self) c.begin.ensures c.in-Fault.ensures.stops) c.end-in-Fault.ensures.stops c.in-Fault.ensures.safe c.end-in-Fault.ensures.uses)))
+    outlasts-begun c.self.view_is c.begin.ensures c.self.invariant.kept.safe.at.firm_is c.end-in-Fault.ensures.safe
+    (outlasts-before g.F.Flash.state _ c.make_pass.new.self c.end-in-Fault.new.self c.in-Fault.ensures.stops c.end-in-Fault.ensures.stops c.in-Fault.ensures.safe c.end-in-Fault.ensures.uses)
